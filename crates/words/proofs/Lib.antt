@@ -1,0 +1,4 @@
+pub mod Remainders
+pub mod Reading
+pub mod Sums
+pub mod Sizes

@@ -1,0 +1,39 @@
+use borrow.Author.Needs.{needs}
+use mathlib.Core.Path.{_∙_, ap}
+use mir.Syntax.{w32}
+use mir.ValLaws.{toZ-ofZ}
+use Rattle.words.specs.Words.{word}
+use Rattle.words.proofs.Reading.{read}
+use Rattle.words.proofs.Sums.{bits-sub}
+use Rattle.words.proofs.signed.sub_i32.Statement.{statement}
+use Rattle.words.proofs.signed.sub_i32.Tie as tie
+
+i32-as-u32-requires : tie.Need-i32-as-u32-requires
+i32-as-u32-requires c κs = search needs
+
+i32-as-u32-requires-2 : tie.Need-i32-as-u32-requires-2
+i32-as-u32-requires-2 c κs = search needs
+
+sub-u32-requires : tie.Need-sub-u32-requires
+sub-u32-requires c κs = search needs
+
+u32-as-i32-requires : tie.Need-u32-as-i32-requires
+u32-as-i32-requires c κs = search needs
+
+returns : tie.Need-returns
+returns c =
+    let k = c .before in let l = k .before in let j = l .before in let s = j .before in
+    rw (read w32 (c .u32-as-i32 .result) (c .u32-as-i32 .ok), c .u32-as-i32 .ensures, k .sub-u32 .ensures)
+    (bits-sub w32 (s .args .a) (s .args .b) (j .i32-as-u32 .result) (l .i32-as-u322 .result)
+    (j .i32-as-u32 .ensures ∙ ap (word w32) (toZ-ofZ w32 (s .args .a) (s .fits .a)))
+    (l .i32-as-u322 .ensures ∙ ap (word w32) (toZ-ofZ w32 (s .args .b) (s .fits .b))))
+
+pub sub-i32-spec : {M : Type 1} → statement M
+sub-i32-spec =
+    tie.close
+    (tie.spec
+    i32-as-u32-requires
+    i32-as-u32-requires-2
+    sub-u32-requires
+    u32-as-i32-requires
+    returns)
