@@ -1,0 +1,6 @@
+pub mod Ops
+pub mod Machine
+pub mod Moving
+pub mod State
+pub mod Calls
+pub mod Runs
