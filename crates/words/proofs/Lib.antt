@@ -2,3 +2,4 @@ pub mod Remainders
 pub mod Reading
 pub mod Sums
 pub mod Sizes
+pub mod Floors

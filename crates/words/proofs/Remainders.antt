@@ -3,7 +3,7 @@ use mathlib.Core.Path.{_≡_, refl, sym, ap, _∙_}
 use mathlib.Core.Logic.{_⊎_, inl, inr, ⊎-elim}
 use mathlib.Core.Bool.{Bool, true, false}
 use Prim.Native.Nat.{ℕ, zero, suc, _+_, _-_, _*_, _/_, _%_, _<_, _≤_}
-use native.Mathlib.Nat.{add-mod, add-mod-right, mul-mod-left, mod-eq-of-lt, mod-eq-sub-mod, mod-lt, div-add-mod', mod-mod, mod-add-mod, add-mod-mod, mul-comm, mul-assoc, add-mul, mul-add, zero-mod, suc-mul, mul-add-mod-self-right}
+use native.Mathlib.Nat.{add-mod, add-mod-right, mul-mod-left, mod-eq-of-lt, mod-eq-sub-mod, mod-lt, div-add-mod', mod-mod, mod-add-mod, add-mod-mod, mul-comm, mul-assoc, add-mul, mul-add, zero-mod, suc-mul, zero-mul, mul-add-mod-self-right}
 use native.Mathlib.Omega.{arith}
 use lib.Dec.{ltb}
 use lib.IntN.{ℤ, pos, negsuc, negℤ, subℕ, _+ℤ_, _*ℤ_}
@@ -190,3 +190,19 @@ module _ (m : ℕ) (m₊ : 0 < m) where
   rep-mul (negsuc n) (pos k) r s p q =
       minus (suc n * k) (r * s) (rw (mul-comm r s, mul-comm (suc n) k) (rep-cross k (suc n) s r q p))
   rep-mul (negsuc n) (negsuc k) r s p q = rep-both (suc n) (suc k) r s p q
+
+-- and a number scaled by k, modulo m k
+scaled-rest : (m k x : ℕ) → Like (m * k) (x * k) (x % m * k)
+scaled-rest m k x =
+    let d : (x / m * m + x % m) * k ≡ x * k = ap (λ (t : ℕ). t * k) (div-add-mod' x m) in
+    let e : x * k ≡ x / m * (m * k) + x % m * k = omega arith in
+    is e then multiple (m * k) (x / m) (x % m * k)
+
+pub like-scaled : {m x y : ℕ} (k : ℕ) → Like m x y → Like (m * k) (x * k) (y * k)
+like-scaled {m} {x} {y} k p = scaled-rest m k x then is (ap (λ (t : ℕ). t * k) (p .like)) then back (scaled-rest m k y)
+
+pub rep-scaled : (m k : ℕ) → 0 < m * k → (z : ℤ) (r : ℕ) → Rep m z r → Rep (m * k) (z *ℤ pos k) (r * k)
+rep-scaled m k h (pos n) r p = like-scaled k p
+rep-scaled m k h (negsuc n) r p =
+    let e : r * k + suc n * k ≡ (r + suc n) * k = omega arith in
+    minus (m * k) h (suc n * k) (r * k) (is e then like-scaled k p then is (zero-mul k))
