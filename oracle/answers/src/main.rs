@@ -1,10 +1,12 @@
 //! Writes the stored answers of every module under the project's root, which is the one argument.
 //! The lines and runs are told in oracle/README.md.
 
+mod dsm;
 mod unwrap;
 mod words;
 
 fn main() {
     let root = std::env::args().nth(1).expect("the project's root");
     unwrap::write(&root);
+    dsm::write(&root);
 }
