@@ -1,6 +1,7 @@
 //! Writes the stored answers of every module under the project's root, which is the one argument.
 //! The lines and runs are told in oracle/README.md.
 
+mod cic;
 mod dsm;
 mod unwrap;
 mod words;
@@ -9,4 +10,5 @@ fn main() {
     let root = std::env::args().nth(1).expect("the project's root");
     unwrap::write(&root);
     dsm::write(&root);
+    cic::write(&root);
 }
