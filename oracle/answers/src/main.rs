@@ -4,6 +4,7 @@
 mod cic;
 mod dsm;
 mod unwrap;
+mod wdf;
 mod words;
 
 fn main() {
@@ -11,4 +12,5 @@ fn main() {
     unwrap::write(&root);
     dsm::write(&root);
     cic::write(&root);
+    wdf::write(&root);
 }
