@@ -3,6 +3,7 @@
 
 mod cic;
 mod dsm;
+mod fixed;
 mod unwrap;
 mod wdf;
 mod words;
@@ -13,4 +14,5 @@ fn main() {
     dsm::write(&root);
     cic::write(&root);
     wdf::write(&root);
+    fixed::write(&root);
 }
