@@ -4,6 +4,8 @@
 mod cic;
 mod dsm;
 mod fixed;
+mod pll;
+mod rpll;
 mod unwrap;
 mod wdf;
 mod words;
@@ -15,4 +17,6 @@ fn main() {
     cic::write(&root);
     wdf::write(&root);
     fixed::write(&root);
+    pll::write(&root);
+    rpll::write(&root);
 }
