@@ -1,6 +1,7 @@
 //! Writes the stored answers of every module under the project's root, which is the one argument.
 //! The lines and runs are told in oracle/README.md.
 
+mod biquad;
 mod cic;
 mod dsm;
 mod fixed;
@@ -19,4 +20,5 @@ fn main() {
     fixed::write(&root);
     pll::write(&root);
     rpll::write(&root);
+    biquad::write(&root);
 }
