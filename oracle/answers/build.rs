@@ -10,9 +10,7 @@ fn main() {
     pairs.extend((0..16).map(|nibble| (1, nibble)));
     let mut state = 1u64;
     let mut draw = || {
-        state = state
-            .wrapping_mul(6364136223846793005)
-            .wrapping_add(1442695040888963407);
+        state = state.wrapping_mul(6364136223846793005).wrapping_add(1442695040888963407);
         (state >> 32) as u32
     };
     for sections in 2..=8 {

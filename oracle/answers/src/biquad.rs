@@ -98,12 +98,7 @@ struct Filter {
 
 impl Filter {
     fn clamped(&self) -> BiquadClamp<f64> {
-        BiquadClamp {
-            coeff: Biquad { ba: self.ba },
-            u: self.u,
-            min: self.min,
-            max: self.max,
-        }
+        BiquadClamp { coeff: Biquad { ba: self.ba }, u: self.u, min: self.min, max: self.max }
     }
 }
 
@@ -120,25 +115,14 @@ fn step(kind: u32, filter: &Filter, state: &mut [f64; 4], x: f64) -> f64 {
     let clamped = filter.clamped();
     let [a, b, c, d] = *state;
     if kind < 3 {
-        let mut form = DirectForm1 {
-            x: [a, b],
-            y: [[c, d]],
-        };
-        let y = if kind == 1 {
-            clamped.coeff.process(&mut form, x)
-        } else {
-            clamped.process(&mut form, x)
-        };
+        let mut form = DirectForm1 { x: [a, b], y: [[c, d]] };
+        let y = if kind == 1 { clamped.coeff.process(&mut form, x) } else { clamped.process(&mut form, x) };
         let ([a, b], [[c, d]]) = (form.x, form.y);
         *state = [a, b, c, d];
         y
     } else {
         let mut form = DirectForm2Transposed { x: [a, b], y: [] };
-        let y = if kind == 3 {
-            clamped.coeff.process(&mut form, x)
-        } else {
-            clamped.process(&mut form, x)
-        };
+        let y = if kind == 3 { clamped.coeff.process(&mut form, x) } else { clamped.process(&mut form, x) };
         let [a, b] = form.x;
         *state = [a, b, 0.0, 0.0];
         y
@@ -167,20 +151,11 @@ fn steps(out: &mut Answers, draw: &mut Draw, kind: u32) {
     }
     // Every special input through the identity and the hold.
     for (i, x) in SPECIAL.into_iter().enumerate() {
-        let ba = if i % 4 == 3 {
-            Biquad::<f64>::HOLD.ba
-        } else {
-            Biquad::<f64>::IDENTITY.ba
-        };
+        let ba = if i % 4 == 3 { Biquad::<f64>::HOLD.ba } else { Biquad::<f64>::IDENTITY.ba };
         let unlimited = (-INF, INF);
         case(ba, 0.0, unlimited, [0.0, -0.0, x, 1.0], x);
     }
-    for (count, number) in [
-        (40, moderate as fn(&mut Draw) -> f64),
-        (25, mixed),
-        (25, special),
-        (15, any),
-    ] {
+    for (count, number) in [(40, moderate as fn(&mut Draw) -> f64), (25, mixed), (25, special), (15, any)] {
         for i in 0..count {
             // Limits of the numbers' own kind clip often; every third time there are none.
             let limits = if i % 3 == 0 { (-INF, INF) } else { limits(draw, number) };
@@ -211,32 +186,14 @@ const LOW: Filter = Filter {
     min: -1.25,
     max: 1.0,
 };
-const RESONANCE: Filter = Filter {
-    ba: [0.001, -0.0005, 0.00025, 1.75, -0.998],
-    u: -0.001,
-    min: -0.5,
-    max: 0.75,
-};
-const INTEGRATOR: Filter = Filter {
-    ba: [0.01, 0.02, -0.005, 1.0, 0.0],
-    u: 0.0,
-    min: -1.5,
-    max: 2.25,
-};
-const DECAY: Filter = Filter {
-    ba: [1e-300, 0.0, 0.0, 0.7, -0.1],
-    u: 0.0,
-    min: -INF,
-    max: INF,
-};
+const RESONANCE: Filter =
+    Filter { ba: [0.001, -0.0005, 0.00025, 1.75, -0.998], u: -0.001, min: -0.5, max: 0.75 };
+const INTEGRATOR: Filter = Filter { ba: [0.01, 0.02, -0.005, 1.0, 0.0], u: 0.0, min: -1.5, max: 2.25 };
+const DECAY: Filter = Filter { ba: [1e-300, 0.0, 0.0, 0.7, -0.1], u: 0.0, min: -INF, max: INF };
 
 /// 5 to 8: a run of kind 1 to 4 over moderate inputs. 9 to 12: over one 1.0, then zeros.
 fn runs(out: &mut Answers, kind: u32) {
-    for (filter, steps) in [
-        (LOW, 1_000_000u32),
-        (RESONANCE, 300_000),
-        (INTEGRATOR, 300_000),
-    ] {
+    for (filter, steps) in [(LOW, 1_000_000u32), (RESONANCE, 300_000), (INTEGRATOR, 300_000)] {
         let seed = 800 + kind;
         let mut draw = Draw::new(seed);
         let (mut digest, mut state) = (Digest::default(), [0.0; 4]);

@@ -82,15 +82,7 @@ fn long_runs(out: &mut Answers) {
             (8, 5, 1, 100_000, 0),
             (4, 1, 65535, 400_000, NONE),
         ] {
-            let case = Case {
-                order,
-                delay,
-                rate,
-                countdown: order,
-                seed: 40 + order,
-                steps,
-                later,
-            };
+            let case = Case { order, delay, rate, countdown: order, seed: 40 + order, steps, later };
             run(out, code, &case);
         }
     }

@@ -86,11 +86,7 @@ fn cells<const K: usize>(dsm: &Dsm<K>) -> ([u32; 8], [i32; 8]) {
 /// 1: a step from any accepted state.
 fn cases<const K: usize>(out: &mut Answers, draw: &mut Draw) {
     let mut case = |accumulators: [u32; 8], retained: [i32; 8], x: u32| {
-        let mut rule = Rule {
-            order: K,
-            accumulators,
-            retained,
-        };
+        let mut rule = Rule { order: K, accumulators, retained };
         for j in K..8 {
             rule.accumulators[j] = 0;
         }
@@ -105,16 +101,7 @@ fn cases<const K: usize>(out: &mut Answers, draw: &mut Draw) {
         assert!((rule.accumulators, rule.retained) == after);
         out.line(
             1,
-            &[
-                &(K as u32),
-                &before.accumulators,
-                &before.retained,
-                &x,
-                &y,
-                &after.0,
-                &after.1,
-                &told,
-            ],
+            &[&(K as u32), &before.accumulators, &before.retained, &x, &y, &after.0, &after.1, &told],
         );
     };
     // Every accumulator and input at a corner, every retained cell at its lower or upper end.
@@ -147,20 +134,12 @@ struct Swing {
 
 impl Swing {
     fn new(order: usize) -> Self {
-        Self {
-            order,
-            step: 0,
-            last: [0; 8],
-        }
+        Self { order, step: 0, last: [0; 8] }
     }
 
     /// The next input, where the last accumulator comes within `margin` of the end whose turn it is.
     fn next(&mut self, margin: u32) -> u32 {
-        let mut x = if self.step % 2 == 0 {
-            0u32.wrapping_sub(margin)
-        } else {
-            margin
-        };
+        let mut x = if self.step % 2 == 0 { 0u32.wrapping_sub(margin) } else { margin };
         for last in &mut self.last[..self.order] {
             (x, *last) = (x.wrapping_sub(*last), x);
         }
@@ -176,10 +155,7 @@ fn ends<const K: usize>(out: &mut Answers) {
     }
     let mut swing = Swing::new(K);
     let mut dsm = Dsm::<K>::default();
-    let mut rule = Rule {
-        order: K,
-        ..Rule::default()
-    };
+    let mut rule = Rule { order: K, ..Rule::default() };
     let xs: [u32; 10] = std::array::from_fn(|_| swing.next(1 << 20));
     let ys = xs.map(|x| dsm.process(x) as i32);
     let told = xs.map(|x| rule.step(x));
@@ -192,18 +168,11 @@ fn run<const K: usize>(out: &mut Answers, code: u32, seed: u32, steps: u32) {
     let mut draw = Draw::new(seed);
     let mut swing = Swing::new(K);
     let mut dsm = Dsm::<K>::default();
-    let mut rule = Rule {
-        order: K,
-        ..Rule::default()
-    };
+    let mut rule = Rule { order: K, ..Rule::default() };
     let mut digests = [Digest::default(); 2];
     let mut differ = 0u32;
     for _ in 0..steps {
-        let x = if code == 3 {
-            draw.spread()
-        } else {
-            swing.next(draw.below(1 << 20))
-        };
+        let x = if code == 3 { draw.spread() } else { swing.next(draw.below(1 << 20)) };
         let (y, told) = (dsm.process(x) as i32, rule.step(x));
         digests[0].feed(&y);
         digests[1].feed(&told);

@@ -16,18 +16,11 @@ struct Filter {
 
 impl Filter {
     fn plain<const F: i8>(&self) -> Biquad<Q<i32, i64, F>> {
-        Biquad {
-            ba: self.ba.map(Q::from_bits),
-        }
+        Biquad { ba: self.ba.map(Q::from_bits) }
     }
 
     fn clamped<const F: i8>(&self) -> BiquadClamp<Q<i32, i64, F>, i32> {
-        BiquadClamp {
-            coeff: self.plain(),
-            u: self.u,
-            min: self.min,
-            max: self.max,
-        }
+        BiquadClamp { coeff: self.plain(), u: self.u, min: self.min, max: self.max }
     }
 }
 
@@ -56,10 +49,7 @@ impl Words for State {
 fn step<const F: i8>(kind: u32, filter: &Filter, state: &mut State, x: i32) -> i32 {
     let [a, b, c, d] = state.y;
     if kind < 3 {
-        let mut wide = DirectForm1Wide {
-            x: state.x,
-            y: [long(a, b), long(c, d)],
-        };
+        let mut wide = DirectForm1Wide { x: state.x, y: [long(a, b), long(c, d)] };
         let y = if kind == 1 {
             filter.plain::<F>().process(&mut wide, x)
         } else {
@@ -70,13 +60,8 @@ fn step<const F: i8>(kind: u32, filter: &Filter, state: &mut State, x: i32) -> i
         state.y = [(y1 >> 32) as u32, y1 as u32, (y2 >> 32) as u32, y2 as u32];
         y
     } else {
-        let mut dither = DirectForm1Dither {
-            xy: DirectForm1 {
-                x: state.x,
-                y: [[a as i32, b as i32]],
-            },
-            e: c,
-        };
+        let mut dither =
+            DirectForm1Dither { xy: DirectForm1 { x: state.x, y: [[a as i32, b as i32]] }, e: c };
         let y = if kind == 3 {
             filter.plain::<F>().process(&mut dither, x)
         } else {
@@ -121,10 +106,7 @@ fn drawn(draw: &mut Draw, kind: u32) -> (Filter, State) {
     let (ba, u) = (draw.ints(), draw.int());
     let [a, b]: [i32; 2] = draw.ints();
     let (min, max) = (a.min(b), a.max(b));
-    let mut state = State {
-        x: draw.ints(),
-        y: std::array::from_fn(|_| draw.spread()),
-    };
+    let mut state = State { x: draw.ints(), y: std::array::from_fn(|_| draw.spread()) };
     if kind > 2 {
         state.y[3] = 0;
     }
@@ -153,16 +135,8 @@ fn cases<const F: i8>(out: &mut Answers, draw: &mut Draw, kind: u32) {
     // The sums at their widest, either sign.
     let word = |least: bool| if least { i32::MIN } else { i32::MAX };
     let least = F % 2 == 0;
-    let filter = Filter {
-        ba: [word(true); 5],
-        u: word(least),
-        min: i32::MIN / 2,
-        max: i32::MAX / 2,
-    };
-    let mut state = State {
-        x: [word(least); 2],
-        y: [word(least) as u32; 4],
-    };
+    let filter = Filter { ba: [word(true); 5], u: word(least), min: i32::MIN / 2, max: i32::MAX / 2 };
+    let mut state = State { x: [word(least); 2], y: [word(least) as u32; 4] };
     if kind > 2 {
         state.y[2..].copy_from_slice(&[u32::MAX, 0]);
     }
@@ -196,13 +170,7 @@ fn tame_run<const F: i8>(out: &mut Answers, kind: u32) {
     out.line(8 + kind, &[&(F as u32), &filter, &seed, &steps, &digest]);
 }
 
-fn ran<const F: i8>(
-    kind: u32,
-    filter: &Filter,
-    state: &mut State,
-    draw: &mut Draw,
-    steps: u32,
-) -> Digest {
+fn ran<const F: i8>(kind: u32, filter: &Filter, state: &mut State, draw: &mut Draw, steps: u32) -> Digest {
     let mut digest = Digest::default();
     for _ in 0..steps {
         digest.feed(&step::<F>(kind, filter, state, draw.int()));

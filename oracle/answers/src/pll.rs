@@ -21,9 +21,7 @@ impl Words for Fields<'_> {
 }
 
 fn pll(ba: [i32; 3]) -> PLL {
-    PLL {
-        ba: ba.map(Q32::from_bits),
-    }
+    PLL { ba: ba.map(Q32::from_bits) }
 }
 
 pub fn write(root: &str) {
@@ -62,10 +60,7 @@ fn cases(out: &mut Answers, draw: &mut Draw) {
             let [a, b] = [a as i32, b as i32];
             let long = (a as i64) << 32 | b as u32 as i64;
             let state = PLLState {
-                clamp: ClampWrap {
-                    x0: W(a),
-                    clamp: (b as i64 - a as i64).cmp(&0).into(),
-                },
+                clamp: ClampWrap { x0: W(a), clamp: (b as i64 - a as i64).cmp(&0).into() },
                 z0: b,
                 y0: a,
                 f0: long,

@@ -9,11 +9,7 @@ use std::num::Wrapping as W;
 type Config = [u32; 3];
 
 fn config([dt2, shift_frequency, shift_phase]: Config) -> RPLLConfig {
-    RPLLConfig {
-        dt2: dt2 as u8,
-        shift_frequency: shift_frequency as u8,
-        shift_phase: shift_phase as u8,
-    }
+    RPLLConfig { dt2: dt2 as u8, shift_frequency: shift_frequency as u8, shift_phase: shift_phase as u8 }
 }
 
 /// x, ff, f, y.

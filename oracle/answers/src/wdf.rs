@@ -11,12 +11,8 @@ type Step = fn(&[i32; 8], &mut [i32; 8], i32) -> i32;
 include!(concat!(env!("OUT_DIR"), "/pairs.rs"));
 
 fn step<const N: usize, const M: u32>(a: &[i32; 8], z: &mut [i32; 8], x: i32) -> i32 {
-    let wdf = Wdf::<N, M> {
-        a: std::array::from_fn(|j| Q32::from_bits(a[j])),
-    };
-    let mut state = WdfState::<N> {
-        z: std::array::from_fn(|j| z[j]),
-    };
+    let wdf = Wdf::<N, M> { a: std::array::from_fn(|j| Q32::from_bits(a[j])) };
+    let mut state = WdfState::<N> { z: std::array::from_fn(|j| z[j]) };
     let y = wdf.process(&mut state, x);
     z[..N].copy_from_slice(&state.z);
     y

@@ -3,14 +3,11 @@
 use std::fmt::Write;
 
 /// Words that runs meet often.
-pub const EDGES: [u32; 8] = [
-    0, 1, 0x7fffffff, 0x80000000, 0xffffffff, 0x80000001, 0x40000000, 0xc0000000,
-];
+pub const EDGES: [u32; 8] = [0, 1, 0x7fffffff, 0x80000000, 0xffffffff, 0x80000001, 0x40000000, 0xc0000000];
 
 /// Words whose pairs the stored cases go through.
-pub const CORNERS: [u32; 10] = [
-    0, 1, 2, 0x7fffffff, 0x80000000, 0x80000001, 0xffffffff, 0xfffffffe, 0x40000000, 0xc0000000,
-];
+pub const CORNERS: [u32; 10] =
+    [0, 1, 2, 0x7fffffff, 0x80000000, 0x80000001, 0xffffffff, 0xfffffffe, 0x40000000, 0xc0000000];
 
 /// A value as words, high word first, every NaN alike.
 pub trait Words {
@@ -44,11 +41,7 @@ impl Words for i64 {
 
 impl Words for f64 {
     fn put(&self, to: &mut dyn FnMut(u32)) {
-        let bits = if self.is_nan() {
-            0x7ff8_0000_0000_0000
-        } else {
-            self.to_bits()
-        };
+        let bits = if self.is_nan() { 0x7ff8_0000_0000_0000 } else { self.to_bits() };
         bits.put(to)
     }
 }
@@ -74,10 +67,7 @@ impl Draw {
     }
 
     pub fn word(&mut self) -> u32 {
-        self.0 = self
-            .0
-            .wrapping_mul(6364136223846793005)
-            .wrapping_add(1442695040888963407);
+        self.0 = self.0.wrapping_mul(6364136223846793005).wrapping_add(1442695040888963407);
         (self.0 >> 32) as u32
     }
 
@@ -120,11 +110,7 @@ pub struct Digest(u64);
 impl Digest {
     pub fn feed<T: Words + ?Sized>(&mut self, value: &T) {
         value.put(&mut |w| {
-            self.0 = self
-                .0
-                .wrapping_mul(6364136223846793005)
-                .wrapping_add(w as u64)
-                .wrapping_add(1)
+            self.0 = self.0.wrapping_mul(6364136223846793005).wrapping_add(w as u64).wrapping_add(1)
         })
     }
 }
@@ -144,11 +130,7 @@ pub struct Answers {
 
 impl Answers {
     pub fn new(width: usize) -> Self {
-        Self {
-            width,
-            lines: 0,
-            text: String::new(),
-        }
+        Self { width, lines: 0, text: String::new() }
     }
 
     /// One line: the function's code, then its values, filled up with zeros.

@@ -17,10 +17,7 @@ pub type Q32<const F: i8> = Q<i32, i64, F>;
 
 impl<T, A, const F: i8> Q<T, A, F> {
     pub const fn from_bits(bits: T) -> Self {
-        Self {
-            bits,
-            wide: PhantomData,
-        }
+        Self { bits, wide: PhantomData }
     }
 }
 
