@@ -1,0 +1,230 @@
+//! src/cic.rs: the decimator and interpolator on i32.
+
+use crate::words::{Answers, Digest, Draw};
+use dsp_process::Process;
+use idsp::Cic;
+
+const NONE: u32 = u32::MAX;
+const RATES: [u32; 7] = [0, 1, 2, 4, 63, 1023, 65535];
+
+/// A case: the filter's numbers, the seed of its cells and inputs, and a run's length and later rate.
+#[derive(Clone, Copy)]
+struct Case {
+    order: u32,
+    delay: u32,
+    rate: u32,
+    countdown: u32,
+    seed: u32,
+    steps: u32,
+    later: u32,
+}
+
+pub fn write(root: &str) {
+    let mut out = Answers::new(12);
+    let mut draw = Draw::new(3);
+    short_runs(&mut out, &mut draw);
+    long_runs(&mut out);
+    questions(&mut out, &mut draw);
+    out.write(root, "cic");
+}
+
+/// Every order with every delay; delays 4 to 7 at one rate only.
+fn each_filter(mut f: impl FnMut(u32, u32, u32)) {
+    for order in 0..=8 {
+        for delay in 1..=8 {
+            for rate in RATES {
+                if rate == 2 || !(4..8).contains(&delay) {
+                    f(order, delay, rate);
+                }
+            }
+        }
+    }
+}
+
+/// 1, 2: decimator and interpolator, the whole state digested after every step.
+fn short_runs(out: &mut Answers, draw: &mut Draw) {
+    each_filter(|order, delay, rate| {
+        for code in [1, 2] {
+            let mut case = Case {
+                order,
+                delay,
+                rate,
+                countdown: draw.below(rate.min(20) + 1),
+                seed: draw.word(),
+                steps: 48,
+                later: NONE,
+            };
+            run(out, code, &case);
+            // Another rate half way, and a countdown that may lie above the rate.
+            case.countdown = match draw.below(8) {
+                0 => 65535,
+                1 => (rate + 1).min(65535),
+                _ => draw.below(24),
+            };
+            case.seed = draw.word();
+            case.later = RATES[draw.below(7) as usize];
+            run(out, code, &case);
+        }
+    });
+}
+
+/// 3, 4: as 1 and 2, the state digested at the end only.
+fn long_runs(out: &mut Answers) {
+    for code in [3, 4] {
+        for (order, delay, rate, steps, later) in [
+            (3, 1, 4, 1_000_000, NONE),
+            (3, 1, 63, 1_000_000, NONE),
+            (0, 1, 7, 100_000, NONE),
+            (1, 1, 1023, 300_000, NONE),
+            (2, 3, 2, 300_000, 4),
+            (5, 2, 15, 300_000, NONE),
+            (8, 8, 0, 200_000, NONE),
+            (8, 5, 1, 100_000, 0),
+            (4, 1, 65535, 400_000, NONE),
+        ] {
+            let case = Case { order, delay, rate, countdown: order, seed: 40 + order, steps, later };
+            run(out, code, &case);
+        }
+    }
+}
+
+fn run(out: &mut Answers, code: u32, c: &Case) {
+    let digest = of_filter(c, code);
+    let line = [c.order, c.delay, c.rate, c.countdown, c.seed, c.steps, c.later];
+    out.line(code, &[&line, &digest]);
+}
+
+/// 5: the questions. 6: the state after `settle_interpolate`. 7: after `clear`.
+fn questions(out: &mut Answers, draw: &mut Draw) {
+    each_filter(|order, delay, rate| {
+        let mut case = Case {
+            order,
+            delay,
+            rate,
+            countdown: draw.below(2) * draw.below(65536),
+            seed: draw.word(),
+            steps: 0,
+            later: 0,
+        };
+        let line = |c: &Case| [c.order, c.delay, c.rate, c.countdown, c.seed];
+        out.line(5, &[&line(&case), &asked_filter(&case)]);
+        if (order + delay + rate) % 2 == 0 {
+            case.later = draw.spread();
+            out.line(6, &[&line(&case), &case.later, &of_filter(&case, 6)]);
+        }
+        if rate == 2 {
+            out.line(7, &[&line(&case), &0u32, &of_filter(&case, 7)]);
+        }
+    });
+}
+
+/// The filter of a case. The cells are drawn as eight integrators, eight rows of eight comb cells, and the
+/// hold; those beyond the order and delay are drawn too.
+fn filter<const N: usize, const M: usize>(c: &Case, draw: &mut Draw) -> Cic<i32, N, M> {
+    let integrators: [i32; 8] = draw.ints();
+    let combs: [[i32; 8]; 8] = std::array::from_fn(|_| draw.ints());
+    let mut cic = Cic::new(c.rate);
+    cic.index = c.countdown;
+    cic.zoh = draw.int();
+    for j in 0..N {
+        cic.integrators[j] = integrators[j];
+        cic.combs[j].copy_from_slice(&combs[j][..M]);
+    }
+    cic
+}
+
+fn feed_state<const N: usize, const M: usize>(digest: &mut Digest, cic: &Cic<i32, N, M>) {
+    digest.feed(&cic.index);
+    digest.feed(&cic.zoh);
+    digest.feed(&cic.integrators);
+    cic.combs.iter().for_each(|line| digest.feed(line));
+}
+
+fn digest<const N: usize, const M: usize>(c: &Case, code: u32) -> Digest {
+    let mut draw = Draw::new(c.seed);
+    let mut cic = filter::<N, M>(c, &mut draw);
+    let mut digest = Digest::default();
+    match code {
+        6 => cic.settle_interpolate(c.later as i32),
+        7 => cic.clear(),
+        _ => {
+            for i in 0..c.steps {
+                if i == c.steps / 2 && c.later != NONE {
+                    cic.set_rate(c.later);
+                }
+                let x = draw.int();
+                let y: Option<i32> = if code % 2 == 1 {
+                    cic.process(x)
+                } else {
+                    let sample = cic.tick().then_some(x);
+                    Some(cic.process(sample))
+                };
+                match y {
+                    Some(y) => digest.feed(&[1, y]),
+                    None => digest.feed(&0u32),
+                }
+                if code < 3 {
+                    feed_state(&mut digest, &cic);
+                }
+            }
+        }
+    }
+    if code > 2 {
+        feed_state(&mut digest, &cic);
+    }
+    digest
+}
+
+fn asked<const N: usize, const M: usize>(c: &Case) -> [u32; 6] {
+    let cic = filter::<N, M>(c, &mut Draw::new(c.seed));
+    [
+        cic.tick() as u32,
+        cic.get_decimate() as u32,
+        cic.get_interpolate() as u32,
+        cic.gain() as u32,
+        cic.gain_log2(),
+        cic.response_length() as u32,
+    ]
+}
+
+/// Order and delay are const generics in the crate: all 72 pairs are compiled in.
+macro_rules! of_delay {
+    ($f:ident, $n:literal, $c:expr $(, $more:expr)*) => {
+        match $c.delay {
+            1 => $f::<$n, 1>($c $(, $more)*),
+            2 => $f::<$n, 2>($c $(, $more)*),
+            3 => $f::<$n, 3>($c $(, $more)*),
+            4 => $f::<$n, 4>($c $(, $more)*),
+            5 => $f::<$n, 5>($c $(, $more)*),
+            6 => $f::<$n, 6>($c $(, $more)*),
+            7 => $f::<$n, 7>($c $(, $more)*),
+            8 => $f::<$n, 8>($c $(, $more)*),
+            _ => unreachable!(),
+        }
+    };
+}
+
+macro_rules! of_order {
+    ($f:ident, $c:expr $(, $more:expr)*) => {
+        match $c.order {
+            0 => of_delay!($f, 0, $c $(, $more)*),
+            1 => of_delay!($f, 1, $c $(, $more)*),
+            2 => of_delay!($f, 2, $c $(, $more)*),
+            3 => of_delay!($f, 3, $c $(, $more)*),
+            4 => of_delay!($f, 4, $c $(, $more)*),
+            5 => of_delay!($f, 5, $c $(, $more)*),
+            6 => of_delay!($f, 6, $c $(, $more)*),
+            7 => of_delay!($f, 7, $c $(, $more)*),
+            8 => of_delay!($f, 8, $c $(, $more)*),
+            _ => unreachable!(),
+        }
+    };
+}
+
+fn of_filter(c: &Case, code: u32) -> Digest {
+    of_order!(digest, c, code)
+}
+
+fn asked_filter(c: &Case) -> [u32; 6] {
+    of_order!(asked, c)
+}
