@@ -3,3 +3,5 @@ pub mod Arrays
 pub mod Loops
 pub mod Refusals
 pub mod Steps
+pub mod Counts
+pub mod Blocks
