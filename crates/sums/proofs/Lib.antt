@@ -5,3 +5,4 @@ pub mod Refusals
 pub mod Steps
 pub mod Counts
 pub mod Blocks
+pub mod Fills
