@@ -6,3 +6,4 @@ pub mod Steps
 pub mod Counts
 pub mod Blocks
 pub mod Fills
+pub mod Stretches
