@@ -7,3 +7,6 @@ pub mod Counts
 pub mod Blocks
 pub mod Fills
 pub mod Stretches
+pub mod Groups
+pub mod Sequences
+pub mod Cascade
