@@ -10,3 +10,4 @@ pub mod Stretches
 pub mod Groups
 pub mod Sequences
 pub mod Cascade
+pub mod Zeros
