@@ -11,3 +11,4 @@ pub mod Groups
 pub mod Sequences
 pub mod Cascade
 pub mod Zeros
+pub mod Traces
