@@ -12,3 +12,4 @@ pub mod Sequences
 pub mod Cascade
 pub mod Zeros
 pub mod Traces
+pub mod Carried
