@@ -13,3 +13,4 @@ pub mod Cascade
 pub mod Zeros
 pub mod Traces
 pub mod Carried
+pub mod Alone
