@@ -14,3 +14,4 @@ pub mod Zeros
 pub mod Traces
 pub mod Carried
 pub mod Alone
+pub mod Settling
