@@ -15,3 +15,4 @@ pub mod Traces
 pub mod Carried
 pub mod Alone
 pub mod Settling
+pub mod Makers
