@@ -8,12 +8,14 @@ use Prim.Native.Nat.{ℕ, zero, suc, _+_}
 use lib.Dec.{eqb}
 use lib.IntN.{ℤ}
 use lib.ListN.{length}
+use mir.Syntax.{Width}
 use Rattle.sums.specs.Ops.{Ops}
 use Rattle.sums.specs.Machine.{Output}
 use Rattle.sums.specs.State.{State, refusal}
 use Rattle.sums.specs.Calls.{unless, stepState, stepGiven}
 use Rattle.sums.specs.Runs.{join, outputs, after, blockNumber, blockState}
-use Rattle.sums.specs.Demands.{Call, step, block, along, reads, leaves, gives}
+use Rattle.sums.specs.Signed.{signedOps}
+use Rattle.sums.specs.Demands.{InWord, Call, step, block, along, reads, leaves, gives, Decimates, Decimator}
 use Rattle.sums.proofs.Steps.{Fit, accepted, step-fit}
 
 join-append : {A : Type 0} (g : Option A) (l k : List A) → join g l ++ k ≡ join g (l ++ k)
@@ -59,3 +61,8 @@ module _ (o : Ops ℤ) where
       let on : Fit (leaves o s c) = subst (λ q. Fit q) (sym e) (after-fit o s f (reads s c)) in
       ap₂ _++_ (t .gave) (alone (leaves o s c) on cs ∙ ap (λ q. outputs o q (along (leaves o) reads (leaves o s c) cs)) e)
       ∙ sym (outputs-append o s (reads s c) (along (leaves o) reads (leaves o s c) cs))
+
+-- what holds of the steps in turn holds of every run
+pub decimator : (w : Width) (N M r c u : ℕ) (s : State ℤ) → Fit s
+    → ((xs : List ℤ) → InWord w xs → Decimates w N M r c u xs (outputs (signedOps w) s xs)) → Decimator w N M r c u s
+decimator w N M r c u s f d calls b = rw (alone (signedOps w) s f calls) (d (along (leaves (signedOps w)) reads s calls) b)

@@ -16,3 +16,4 @@ pub mod Carried
 pub mod Alone
 pub mod Settling
 pub mod Makers
+pub mod Demands

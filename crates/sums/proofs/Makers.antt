@@ -41,9 +41,34 @@ rows-replicate M zero k a m b = refl
 rows-replicate M (suc n) k a m b =
     ap₂ _∷_ (take-replicate M k a (omega arith)) (ap (rows M n) (drop-replicate 8 k a) ∙ rows-replicate M n (k - 8) a m (omega arith))
 
--- the numbers of a new state
-new-sound : (N M r : ℕ) → newNumber N M r ≡ 0 → Sound N M r 0 0
-new-sound N M r e = sound N M r 0 0 e
+-- each maker, where it is accepted
+module _ {A : Type 0} (o : Ops A) where
+  pub new-is : (N M r : ℕ) → newNumber N M r ≡ 0 → newState o N M r ≡ zeroed o N M r
+  unfolding newState
+  new-is N M r e = rw e
+
+  pub clear-is : (s : State A) → refusal s ≡ 0 → clearState o s ≡ zeroed o (s .order) (s .delay) (s .rate)
+  unfolding clearState
+  clear-is s e = rw e
+
+  pub resume-is : (N M r c : ℕ) (is ks : List A) (h : A) → resumeNumber N M r c ≡ 0 → resumeState o N M r is ks h c ≡ packed N M r c (N * M) h is ks
+  unfolding resumeState
+  resume-is N M r c is ks h e = rw e
+
+  pub rate-is : (s : State A) (r : ℕ) → rateNumber s r ≡ 0
+      → rateState o s r ≡ packed (s .order) (s .delay) r (s .countdown) (s .order * s .delay) (s .hold) (s .integrators) (s .combs)
+  unfolding rateState
+  rate-is s r e = rw e
+
+pub resume-sound : (N M r c : ℕ) → resumeNumber N M r c ≡ 0 → Sound N M r c (N * M)
+resume-sound N M r c e =
+    let q = sound N M r c 0 e in
+    record { few = q .few; some = q .some; short = q .short; slow = q .slow; near = q .near; owed = omega arith }
+
+pub rate-sound : {A : Type 0} (s : State A) (r : ℕ) → rateNumber s r ≡ 0 → Sound (s .order) (s .delay) r (s .countdown) (s .order * s .delay)
+rate-sound s r e =
+    let q = sound (s .order) (s .delay) (max (s .rate) r) (s .countdown) (s .unsettled) e in
+    record { few = q .few; some = q .some; short = q .short; slow = omega (arith, q .slow); near = q .near; owed = omega arith }
 
 module _ {A : Type 0} (o : Ops A) (N M r : ℕ) (q : Sound N M r 0 0) where
   pub zeroed-fit : Fit (zeroed o N M r)
