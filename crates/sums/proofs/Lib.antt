@@ -17,3 +17,4 @@ pub mod Alone
 pub mod Settling
 pub mod Makers
 pub mod Demands
+pub mod Climbs
