@@ -18,3 +18,4 @@ pub mod Settling
 pub mod Makers
 pub mod Demands
 pub mod Climbs
+pub mod Rising
