@@ -2,7 +2,7 @@
 -- keeps them. So what holds over the whole numbers, which are a group, holds modulo 2 ^ w for every width w.
 use mathlib.Core.Path.{_≡_, refl, sym, ap, ap₂, fun-ext, _∙_}
 use mathlib.Core.List.{List, [], _∷_, map}
-use Prim.Native.Nat.{ℕ, zero, suc, _+_, _*_}
+use Prim.Native.Nat.{ℕ, zero, suc, _+_, _*_, _/_}
 use lib.IntN.{ℤ, pos, _+ℤ_, _-ℤ_, +ℤ-assoc, +ℤ-comm, +ℤ-idr, +ℤ-negℤ-cancel, -ℤ-+ℤ-cancel}
 use lib.ListN.{getD, take, drop}
 use lib.Pow.{pow-pos}
@@ -14,6 +14,7 @@ use Rattle.words.proofs.Sums.{wrap-add, wrap-sub}
 use Rattle.sums.specs.Ops.{Ops, Laws, times}
 use Rattle.sums.specs.Signed.{signedOps, exactOps}
 use Rattle.sums.specs.Machine.{Machine}
+use Rattle.sums.specs.Moving.{held}
 use Rattle.sums.specs.State.{rows}
 use Rattle.sums.specs.Demands.{InWord}
 use Rattle.sums.proofs.Sequences.{down, pre, acc}
@@ -104,3 +105,15 @@ module _ (w : Width) where
       ap (λ (f : ℕ → ℤ). combVal (signedOps w) (s .lines) (λ i. f (s .countdown + i * suc (s .rate))) k) feed
       ∙ ap (λ ls. combVal (signedOps w) ls (λ i. wrap w (v i)) k) (sym el)
       ∙ ap (λ (f : ℕ → ℤ). f k) (combVal-to exactOps (signedOps w) (wrap w) wrap-hom (s .lines) v)
+
+  -- and so are the interpolator's
+  pub rise-wraps : (R : ℕ) (is : List ℤ) (ls : List (List ℤ)) (x : ℕ → ℤ) → map (wrap w) is ≡ is → map (map (wrap w)) ls ≡ ls
+      → ((t : ℕ) → SFits w (x t)) → (t : ℕ)
+      → intVal (signedOps w) is (held R (combVal (signedOps w) ls x)) t ≡ wrap w (intVal exactOps is (held R (combVal exactOps ls x)) t)
+  unfolding held
+  rise-wraps R is ls x ei el h t =
+      let feed : combVal (signedOps w) ls x ≡ (λ k. wrap w (combVal exactOps ls x k)) =
+      ap₂ (λ l y. combVal (signedOps w) l y) (sym el) (sym (seq-in x h)) ∙ combVal-to exactOps (signedOps w) (wrap w) wrap-hom ls x in
+      ap (λ (f : ℕ → ℤ). intVal (signedOps w) is (λ i. f (i / R)) t) feed
+      ∙ ap (λ l. intVal (signedOps w) l (λ i. wrap w (combVal exactOps ls x (i / R))) t) (sym ei)
+      ∙ ap (λ (f : ℕ → ℤ). f t) (intVal-to exactOps (signedOps w) (wrap w) wrap-hom is (λ i. combVal exactOps ls x (i / R)))

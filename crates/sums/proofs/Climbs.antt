@@ -9,17 +9,18 @@ use native.Mathlib.Omega.{arith}
 use native.Mathlib.Nat.{add-zero, zero-add, suc-add, add-suc}
 use lib.Arith.{digits-div}
 use lib.Dec.{eqb·suc-zero}
-use lib.ListN.{length, getD, drop}
+use lib.ListN.{length, getD, drop, length-drop}
 use lib.Seq.{getD-drop}
 use Rattle.sums.specs.Ops.{Ops}
 use Rattle.sums.specs.Machine.{Machine, integrated, summed, combed, differed, interpolatedAt, interpolated, risenAt, risen}
 use Rattle.sums.specs.Moving.{held}
 use Rattle.sums.specs.State.{State, view, put}
 use Rattle.sums.specs.Calls.{unless, riseNumber, riseState, risenOf, sample}
-use Rattle.sums.specs.Runs.{dueSample, unread, risings, risenAfter}
+use Rattle.sums.specs.Runs.{needed, dueSample, unread, risings}
 use Rattle.sums.proofs.Shapes.{Lines}
 use Rattle.sums.proofs.Arrays.{view-put, view-shaped, rose-shaped}
 use Rattle.sums.proofs.Steps.{Fit, accepted, room, down, rise-waits-fit, rise-takes-fit}
+use Rattle.sums.proofs.Counts.{needed-wait, needed-give}
 use Rattle.sums.proofs.Cascade.{seg, combVal, linesAt, lines-start, combed-next, differed-is, intVal, intsAt, ints-begin, integrated-next, summed-is}
 
 module _ {A : Type 0} (o : Ops A) where
@@ -137,30 +138,34 @@ module _ {A : Type 0} (o : Ops A) where
       gives-held = ap (summed o (intsAt o (s .integrators) feed t)) (sym e) ∙ summed-is o (s .integrators) feed t
 
     -- the outputs of k steps over samples l that stand in the sequence from number n on
-    climb-from : (k : ℕ) (l : List A) (t n d : ℕ) → ((i : ℕ) → getD l i (o .nil) ≡ x (n + i)) → t + d ≡ n * R → d ≤ s .rate
-        → climb (stateAt t n d) k l ≡ seg (intVal o (s .integrators) feed) t k
+    climb-from : (k : ℕ) (l : List A) (t n d : ℕ) → ((i : ℕ) → i < length l → getD l i (o .nil) ≡ x (n + i)) → needed k d (s .rate) ≤ length l
+        → t + d ≡ n * R → d ≤ s .rate → climb (stateAt t n d) k l ≡ seg (intVal o (s .integrators) feed) t k
     unfolding climb seg stateAt
-    climb-from zero l t n d a e b = refl
-    climb-from (suc k) l t n zero a e b =
+    climb-from zero l t n d a q e b = refl
+    climb-from (suc k) l t n zero a q e b =
         let e' : t ≡ n * R = omega arith in
-        let y-is : getD l 0 (o .nil) ≡ x n = a 0 ∙ ap x (add-zero n) in
+        let q' : suc (needed k (s .rate) (s .rate)) ≤ length l = subst (λ m. m ≤ length l) (needed-give k 0 (s .rate) refl) q in
+        let y-is : getD l 0 (o .nil) ≡ x n = a 0 (omega arith) ∙ ap x (add-zero n) in
+        let r : length (drop 1 l) ≡ length l - 1 = length-drop 1 l in
         ap₂ _∷_ (ap (risen o (stateAt t n 0)) y-is ∙ gives-due t n e')
         (ap (λ m. climb m k (drop 1 l)) (ap (interpolated o (stateAt t n 0)) y-is ∙ takes t n e')
-        ∙ climb-from k (drop 1 l) (suc t) (suc n) (s .rate) (λ i. getD-drop 1 l i (o .nil) ∙ a (1 + i) ∙ ap x (omega arith)) (omega arith) (omega arith))
-    climb-from (suc k) l t zero (suc d) a e b = absurd (omega arith)
-    climb-from (suc k) l t (suc n) (suc d) a e b =
+        ∙ climb-from k (drop 1 l) (suc t) (suc n) (s .rate) (λ i h. getD-drop 1 l i (o .nil) ∙ a (1 + i) (omega arith) ∙ ap x (omega arith)) (omega arith) (omega arith) (omega arith))
+    climb-from (suc k) l t zero (suc d) a q e b = absurd (omega arith)
+    climb-from (suc k) l t (suc n) (suc d) a q e b =
         let f : feed t ≡ combVal o (s .lines) x n = feed-at t n (s .rate - d) (omega arith) (omega arith) in
+        let one : suc d - 1 ≡ d = omega arith in
+        let q' : needed k d (s .rate) ≤ length l = subst (λ m. m ≤ length l) (needed-wait k (suc d) (s .rate) (omega arith) ∙ ap (λ m. needed k m (s .rate)) one) q in
         ap₂ _∷_ (gives-held t n d f (getD l 0 (o .nil)))
-        (ap (λ m. climb m k l) (holds t n d f (getD l 0 (o .nil))) ∙ climb-from k l (suc t) (suc n) d a (omega arith) (omega arith))
+        (ap (λ m. climb m k l) (holds t n d f (getD l 0 (o .nil))) ∙ climb-from k l (suc t) (suc n) d a q' (omega arith) (omega arith))
 
-  -- the outputs of an accepted state that is due, each by its number
-  pub risings-are : (s : State A) → Fit s → s .countdown ≡ 0 → (n : ℕ) (xs : List A)
-      → risings o s n xs ≡ seg (intVal o (view s .integrators) (held (suc (s .rate)) (combVal o (view s .lines) (λ t. getD xs t (o .nil))))) 0 n
+  -- the outputs of an accepted state that is due, each by its number; x is any sequence in which the samples stand
+  pub risings-are : (s : State A) → Fit s → s .countdown ≡ 0 → (n : ℕ) (xs : List A) → needed n 0 (s .rate) ≤ length xs
+      → (x : ℕ → A) → ((i : ℕ) → i < length xs → getD xs i (o .nil) ≡ x i)
+      → risings o s n xs ≡ seg (intVal o (view s .integrators) (held (suc (s .rate)) (combVal o (view s .lines) x))) 0 n
   unfolding view
-  risings-are s f e n xs =
+  risings-are s f e n xs q x a =
       let m : Machine A = view s in
-      let x : ℕ → A = λ t. getD xs t (o .nil) in
       let h : Lines (s .delay) (m .lines) = view-shaped s (room s f) .delay in
       risings-climb s f n xs
       ∙ ap (λ q. climb q n xs) (state-start (s .delay) (f .good .some) m h e x)
-      ∙ climb-from (s .delay) (f .good .some) m h e x n xs 0 0 0 (λ i. ap x (sym (zero-add i))) (omega arith) (omega arith)
+      ∙ climb-from (s .delay) (f .good .some) m h e x n xs 0 0 0 (λ i b. a i b ∙ ap x (sym (zero-add i))) q (omega arith) (omega arith)

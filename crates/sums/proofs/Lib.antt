@@ -19,3 +19,4 @@ pub mod Makers
 pub mod Demands
 pub mod Climbs
 pub mod Rising
+pub mod Interpolating
