@@ -20,3 +20,4 @@ pub mod Demands
 pub mod Climbs
 pub mod Rising
 pub mod Interpolating
+pub mod Constant

@@ -13,7 +13,7 @@ use Rattle.sums.specs.Signed.{signedOps, exactOps}
 use Rattle.sums.specs.Machine.{Machine}
 use Rattle.sums.specs.Moving.{moving}
 use Rattle.sums.specs.State.{State, rows, view, refusal, zeroed}
-use Rattle.sums.specs.Calls.{unless, newNumber, resumeNumber, rateNumber, newState, resumeState, rateState, clearState}
+use Rattle.sums.specs.Calls.{unless, newNumber, resumeNumber, rateNumber, newState, resumeState, rateState, clearState, settledAt, settleState}
 use Rattle.sums.specs.Runs.{outputs}
 use Rattle.sums.specs.Demands.{input, InWord, Contents, Decimates}
 use Rattle.sums.proofs.Refusals.{Sound, sound}
@@ -25,12 +25,12 @@ use Rattle.sums.proofs.Traces.{slow, output}
 use Rattle.sums.proofs.Carried.{exactLaws, nil-in}
 use Rattle.sums.proofs.Settling.{decimates}
 
-take-replicate : {A : Type 0} (n k : ℕ) (a : A) → n ≤ k → take n (replicate k a) ≡ replicate n a
+pub take-replicate : {A : Type 0} (n k : ℕ) (a : A) → n ≤ k → take n (replicate k a) ≡ replicate n a
 take-replicate zero k a l = refl
 take-replicate (suc n) zero a l = absurd (omega arith)
 take-replicate (suc n) (suc k) a l = ap (λ t. a ∷ t) (take-replicate n k a (omega arith))
 
-drop-replicate : {A : Type 0} (n k : ℕ) (a : A) → drop n (replicate k a) ≡ replicate (k - n) a
+pub drop-replicate : {A : Type 0} (n k : ℕ) (a : A) → drop n (replicate k a) ≡ replicate (k - n) a
 drop-replicate zero k a = ap (λ m. replicate m a) (sym (sub-zero k))
 drop-replicate (suc n) zero a = ap (λ m. replicate m a) (sym (zero-sub (suc n)))
 drop-replicate (suc n) (suc k) a = drop-replicate n k a ∙ ap (λ m. replicate m a) (sym (suc-sub-suc k n))
@@ -59,6 +59,15 @@ module _ {A : Type 0} (o : Ops A) where
       → rateState o s r ≡ packed (s .order) (s .delay) r (s .countdown) (s .order * s .delay) (s .hold) (s .integrators) (s .combs)
   unfolding rateState
   rate-is s r e = rw e
+
+  pub settle-is : (s : State A) (x : A) → refusal s ≡ 0 → settleState o s x ≡ settledAt o s x (s .order)
+  unfolding settleState
+  settle-is s x e = rw e
+
+pub zero-sound : {A : Type 0} (s : State A) → refusal s ≡ 0 → Sound (s .order) (s .delay) (s .rate) 0 0
+zero-sound s e =
+    let q = sound (s .order) (s .delay) (s .rate) (s .countdown) (s .unsettled) e in
+    record { few = q .few; some = q .some; short = q .short; slow = q .slow; near = omega arith; owed = omega arith }
 
 pub resume-sound : (N M r c : ℕ) → resumeNumber N M r c ≡ 0 → Sound N M r c (N * M)
 resume-sound N M r c e =

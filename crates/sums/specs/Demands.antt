@@ -170,10 +170,11 @@ FitNotExact =
     (fits (newState (signedOps w32) 3 1 2) 32 27 ≡ false)
     × ((x : ℕ → ℤ) → ((t : ℕ) → mag (x t) < 2 ^ 26) → (t : ℕ) → wrap w32 (moving exactOps 3 3 x t) ≡ moving exactOps 3 3 x t)
 
--- After settle_interpolate on x, interpolator calls whose samples are all x give x times gain at every step.
+-- After settle_interpolate on x, interpolator calls whose samples are all x give x times gain, modulo 2 ^ w, at every step.
+abbrev pub Stream : Width → State ℤ → ℤ → ℤ → Type 0
+Stream w s x v =
+    (calls : List Rise) (n : ℕ) → along (lifts (signedOps w)) samples s calls ≡ replicate n x
+    → (t : ℕ) (y : ℤ) → getElem? (along (lifts (signedOps w)) (yields (signedOps w)) s calls) t ≡ some y → y ≡ v
+
 abbrev pub Settled : Type 0
-Settled =
-    (w : Width) (s : State ℤ) (x : ℤ) → refusal s ≡ 0 → SFits w x
-    → (calls : List Rise) (n : ℕ) → along (lifts (signedOps w)) samples (settleState (signedOps w) s x) calls ≡ replicate n x
-    → (t : ℕ) (y : ℤ) → getElem? (along (lifts (signedOps w)) (yields (signedOps w)) (settleState (signedOps w) s x) calls) t ≡ some y
-    → y ≡ wrap w (pos (gain s) *ℤ x)
+Settled = (w : Width) (s : State ℤ) (x : ℤ) → refusal s ≡ 0 → SFits w x → Stream w (settleState (signedOps w) s x) x (wrap w (pos (gain s) *ℤ x))
