@@ -2,13 +2,11 @@
 -- one gives what it was set to, x times gain.
 use mathlib.Core.Path.{_≡_, refl, sym, ap, ap₂, subst, fun-ext, _∙_}
 use mathlib.Core.List.{List, [], _∷_, _++_}
-use mathlib.Core.Option.{some}
 use Prim.Native.Nat.{ℕ, zero, suc, _+_, _*_, _-_, _/_, _^_, _≤_, _<_}
 use native.Mathlib.Omega.{arith}
 use native.Mathlib.Nat.{pow-zero}
 use lib.IntN.{ℤ, pos, _*ℤ_, zero-*ℤ, sucℤ-*ℤ, +ℤ-idl}
-use lib.ListN.{length, getD, getElem?, take, drop, replicate, length-replicate, length-append, getD-replicate}
-use lib.Seq.{take-at, drop-append-add}
+use lib.ListN.{length, getD, take, replicate, length-replicate, length-append, getD-replicate}
 use mir.Syntax.{Width}
 use mir.Val.{SFits}
 use Rattle.words.specs.Words.{wrap}
@@ -25,7 +23,7 @@ use Rattle.sums.proofs.Groups.{sub-self}
 use Rattle.sums.proofs.Sequences.{pre, acc}
 use Rattle.sums.proofs.Cascade.{prep, lag, combVal, intVal}
 use Rattle.sums.proofs.Carried.{exactLaws, nil-in, wrap-hom, times-to}
-use Rattle.sums.proofs.Makers.{drop-replicate, rows-replicate, replicate-in, zero-contents}
+use Rattle.sums.proofs.Makers.{rows-first, replicate-in, append-in, zero-contents}
 use Rattle.sums.proofs.Interpolating.{given-is}
 
 prep-const : {A : Type 0} (M : ℕ) (a : A) (k : ℕ) → prep (replicate M a) (λ i. a) k ≡ a
@@ -48,7 +46,7 @@ module _ {A : Type 0} (o : Ops A) (g : Laws o) where
   unfolding combVal
   combs-const M n a = ap (combVal o (replicate n (replicate M (o .nil)))) (lag-const M a) ∙ combs-still M n
 
-  pre-still : (a : A) (t : ℕ) → pre o a (λ i. o .nil) t ≡ a
+  pub pre-still : (a : A) (t : ℕ) → pre o a (λ i. o .nil) t ≡ a
   unfolding pre
   pre-still a zero = refl
   pre-still a (suc t) = g .add-nil (pre o a (λ i. o .nil) t) ∙ pre-still a t
@@ -76,11 +74,6 @@ times-wraps w n x h =
 take-front : {A : Type 0} (n : ℕ) (a b : A) (l : List A) → take (suc n) (replicate n b ++ (a ∷ l)) ≡ replicate n b ++ (a ∷ [])
 take-front zero a b l = refl
 take-front (suc n) a b l = ap (λ r. b ∷ r) (take-front n a b l)
-
-append-in : (w : Width) (l k : List ℤ) → InWord w l → InWord w k → InWord w (l ++ k)
-append-in w [] k h q i = q i
-append-in w (a ∷ l) k h q zero = h 0
-append-in w (a ∷ l) k h q (suc i) = append-in w l k (λ j. h (suc j)) q i
 
 -- a state that gives v at every step over a stream of x
 record Still (w : Width) (x v : ℤ) (s : State ℤ) : Type 0 where
@@ -130,18 +123,7 @@ module _ (w : Width) (s : State ℤ) (x : ℤ) (hx : SFits w x) where
     first-ints = take-front n top (pos 0) (replicate (7 - n) (pos 0))
 
     first-rows : rows (s .delay) (suc n) cells ≡ replicate (s .delay) x ∷ replicate n (replicate (s .delay) (pos 0))
-    unfolding rows
-    first-rows =
-        let M : ℕ = s .delay in
-        let past : 8 ≡ length (replicate M x) + (8 - M) = rw length-replicate (omega (arith, q .short)) in
-        let left : 64 - M - (8 - M) ≡ 56 = omega (arith, q .short) in
-        ap₂ _∷_ (take-at (replicate M x) (replicate (64 - M) (pos 0)) M (length-replicate M x))
-        (ap (rows M n)
-        (ap (λ k. drop k cells) past
-        ∙ drop-append-add (replicate M x) (replicate (64 - M) (pos 0)) (8 - M)
-        ∙ drop-replicate (8 - M) (64 - M) (pos 0)
-        ∙ ap (λ k. replicate k (pos 0)) left)
-        ∙ rows-replicate M n 56 (pos 0) (q .short) (omega (arith, q .few)))
+    first-rows = rows-first (s .delay) n (replicate (s .delay) x) (pos 0) (length-replicate (s .delay) x) (q .short) (omega (arith, q .few))
 
     still-suc : Still w x top (settledAt (signedOps w) s x (suc n))
     unfolding settledAt view

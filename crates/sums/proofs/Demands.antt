@@ -1,6 +1,6 @@
 -- The statements of specs/Demands, each proved from the room that holds it.
 use mathlib.Core.Path.{_≡_, refl, sym, subst}
-use Prim.Native.Nat.{ℕ, _*_, _≤_}
+use Prim.Native.Nat.{ℕ, zero, suc, _*_, _≤_}
 use native.Mathlib.Omega.{arith}
 use lib.IntN.{ℤ, pos, _*ℤ_}
 use mir.Syntax.{Width}
@@ -8,7 +8,7 @@ use Rattle.words.specs.Words.{wrap}
 use Rattle.sums.specs.Signed.{signedOps}
 use Rattle.sums.specs.State.{State, zeroed}
 use Rattle.sums.specs.Calls.{gain}
-use Rattle.sums.specs.Demands.{Contents, Decimator, Interpolator, Stream, Demand2, Demand2Cleared, Demand2Interpolated, Demand3, Demand3Rate, Settled}
+use Rattle.sums.specs.Demands.{Contents, Decimator, Interpolator, Stream, Demand2, Demand2Cleared, Demand2Interpolated, Demand3, Demand3Rate, Demand3Tight, Settled}
 use Rattle.sums.proofs.Refusals.{Sound, sound}
 use Rattle.sums.proofs.Steps.{packed, Fit}
 use Rattle.sums.proofs.Makers.{new-is, clear-is, resume-is, rate-is, settle-is, resume-sound, rate-sound, zero-sound, zeroed-fit, decimates-zero}
@@ -16,6 +16,7 @@ use Rattle.sums.proofs.Settling.{decimates-settled}
 use Rattle.sums.proofs.Alone.{decimator}
 use Rattle.sums.proofs.Interpolating.{interpolates-zero}
 use Rattle.sums.proofs.Constant.{settled-stream}
+use Rattle.sums.proofs.Tight.{misleads}
 
 from-zero : (w : Width) (N M r : ℕ) → Sound N M r 0 0 → Decimator w N M r 0 0 (zeroed (signedOps w) N M r)
 from-zero w N M r q = decimator w N M r 0 0 (zeroed (signedOps w) N M r) (zeroed-fit (signedOps w) N M r q) (decimates-zero w N M r q)
@@ -53,3 +54,8 @@ pub settled : Settled
 settled w s x e h =
     subst (λ q. Stream w q x (wrap w (pos (gain s) *ℤ x))) (sym (settle-is (signedOps w) s x e))
     (settled-stream w s x h (s .order) refl (zero-sound s e))
+
+pub demand3-tight : Demand3Tight
+demand3-tight w zero M r c e h = absurd (omega arith)
+demand3-tight w (suc n) zero r c e h = absurd (omega (arith, sound (suc n) 0 r c 0 e .some))
+demand3-tight w (suc n) (suc m) r c e h = misleads w n m r c e

@@ -21,3 +21,4 @@ pub mod Climbs
 pub mod Rising
 pub mod Interpolating
 pub mod Constant
+pub mod Tight

@@ -1,11 +1,12 @@
 -- What the makers give: accepted states over 8 and 64 cells, and what the zero state looks like to the rules.
 use mathlib.Core.Path.{_≡_, refl, sym, ap, ap₂, subst, _∙_}
-use mathlib.Core.List.{List, [], _∷_}
+use mathlib.Core.List.{List, [], _∷_, _++_}
 use Prim.Native.Nat.{ℕ, zero, suc, _+_, _*_, _-_, _≤_, max}
 use native.Mathlib.Omega.{arith}
 use native.Mathlib.Nat.{zero-sub, sub-zero, suc-sub-suc, zero-add}
 use lib.IntN.{ℤ, pos}
 use lib.ListN.{length, getD, take, drop, replicate, length-replicate}
+use lib.Seq.{take-at, drop-append-add}
 use mir.Syntax.{Width}
 use mir.Val.{SFits}
 use Rattle.sums.specs.Ops.{Ops}
@@ -40,6 +41,21 @@ unfolding rows
 rows-replicate M zero k a m b = refl
 rows-replicate M (suc n) k a m b =
     ap₂ _∷_ (take-replicate M k a (omega arith)) (ap (rows M n) (drop-replicate 8 k a) ∙ rows-replicate M n (k - 8) a m (omega arith))
+
+-- a first line, and zeros behind it
+pub rows-first : {A : Type 0} (M n : ℕ) (l : List A) (a : A) → length l ≡ M → M ≤ 8 → n ≤ 7
+    → rows M (suc n) (l ++ replicate (64 - M) a) ≡ l ∷ replicate n (replicate M a)
+unfolding rows
+rows-first M n l a e m b =
+    let past : 8 ≡ length l + (8 - M) = omega arith in
+    let left : 64 - M - (8 - M) ≡ 56 = omega arith in
+    ap₂ _∷_ (take-at l (replicate (64 - M) a) M e)
+    (ap (rows M n)
+    (ap (λ k. drop k (l ++ replicate (64 - M) a)) past
+    ∙ drop-append-add l (replicate (64 - M) a) (8 - M)
+    ∙ drop-replicate (8 - M) (64 - M) a
+    ∙ ap (λ k. replicate k a) left)
+    ∙ rows-replicate M n 56 a m (omega arith))
 
 -- each maker, where it is accepted
 module _ {A : Type 0} (o : Ops A) where
@@ -96,6 +112,11 @@ pub replicate-in : (w : Width) (n : ℕ) (x : ℤ) → SFits w x → InWord w (r
 replicate-in w zero x h i = nil-in w
 replicate-in w (suc n) x h zero = h
 replicate-in w (suc n) x h (suc i) = replicate-in w n x h i
+
+pub append-in : (w : Width) (l k : List ℤ) → InWord w l → InWord w k → InWord w (l ++ k)
+append-in w [] k h q i = q i
+append-in w (a ∷ l) k h q zero = h 0
+append-in w (a ∷ l) k h q (suc i) = append-in w l k (λ j. h (suc j)) q i
 
 pub zero-contents : (w : Width) → Contents w (replicate 8 (pos 0)) (replicate 64 (pos 0))
 zero-contents w = record {
