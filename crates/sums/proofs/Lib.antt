@@ -22,3 +22,5 @@ pub mod Rising
 pub mod Interpolating
 pub mod Constant
 pub mod Tight
+pub mod Sizes
+pub mod Figures
