@@ -6,7 +6,7 @@ use mathlib.Core.List.{List, [], _∷_, _++_}
 use mathlib.Core.Option.{Option, none, some}
 use Prim.Native.Nat.{ℕ, suc, _+_, _-_, _*_, _^_, _≤_, _<_}
 use lib.Dec.{ltb, leb}
-use lib.IntN.{ℤ, pos, _*ℤ_}
+use lib.IntN.{ℤ, pos, negsuc, _*ℤ_}
 use lib.Signed.{mag}
 use lib.ListN.{length, getD, getElem?, take, replicate}
 use mir.Syntax.{Width, w32}
@@ -145,12 +145,18 @@ pub record Misleads (w : Width) (N M rate countdown : ℕ) : Type 0 where
 abbrev pub Demand3Tight : Type 0
 Demand3Tight = (w : Width) (N M rate countdown : ℕ) → resumeNumber N M rate countdown ≡ 0 → 1 ≤ N → Misleads w N M rate countdown
 
--- The demands are of decimator calls alone: an interpolator's step leaves the unsettled count, and a decimator's output after it can
--- be marked settled without being the moving sum. N 1, M 2, rate 0, new: an interpolator's step on 1, then a decimator's step on 0.
+-- The demands are of decimator calls alone: an interpolator's step leaves the unsettled count, and a decimator's output after it can be
+-- marked settled without being the moving sum. From new, N 1, M 2, rate 0: an interpolator's step on 1 and a decimator's step on 0 give 1,
+-- where the moving sum is 0; and so after decimator's steps on 1 and 0, an interpolator's step on 0 and a decimator's step on 0 there comes -1.
 abbrev pub Between : Type 0
 Between =
-    stepGiven (signedOps w32) (riseState (signedOps w32) (newState (signedOps w32) 1 2 0) (some (pos 1))) (pos 0)
-    ≡ some (record { value = pos 1; settled = true })
+    let o : Ops ℤ = signedOps w32 in
+    let new : State ℤ = newState o 1 2 0 in
+    (stepGiven o (riseState o new (some (pos 1))) (pos 0) ≡ some (record { value = pos 1; settled = true }))
+    × (moving exactOps 2 1 (input (pos 0 ∷ [])) 0 ≡ pos 0)
+    × (stepGiven o (riseState o (stepState o (stepState o new (pos 1)) (pos 0)) (some (pos 0))) (pos 0) ≡ some (record { value = negsuc 0; settled = true }))
+    × (moving exactOps 2 1 (input (pos 1 ∷ pos 0 ∷ pos 0 ∷ [])) 2 ≡ pos 0)
+    × (moving exactOps 2 1 (input (pos 1 ∷ pos 0 ∷ pos 0 ∷ pos 0 ∷ [])) 3 ≡ pos 0)
 
 -- gain_log2 bounds the gain.
 abbrev pub GainBound : Type 0
