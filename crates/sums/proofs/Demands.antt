@@ -8,7 +8,7 @@ use Rattle.words.specs.Words.{wrap}
 use Rattle.sums.specs.Signed.{signedOps}
 use Rattle.sums.specs.State.{State, refusalOf, zeroed}
 use Rattle.sums.specs.Calls.{newState, gain, bitLength, gainLog2, fits}
-use Rattle.sums.specs.Demands.{Contents, Decimator, Interpolator, Stream, Demand2, Demand2Cleared, Demand2Interpolated, Demand3, Demand3Rate, Demand3Tight, GainBound, FitSound, FitNotExact, Settled}
+use Rattle.sums.specs.Demands.{Contents, Decimator, Interpolator, Stream, Demand2, Demand2Cleared, Demand3, Demand3Rate, Demand3Tight, GainBound, FitSound, FitNotExact, Settled}
 use Rattle.sums.proofs.Refusals.{Sound, sound, good}
 use Rattle.sums.proofs.Steps.{packed, Fit}
 use Rattle.sums.proofs.Makers.{new-is, clear-is, resume-is, rate-is, settle-is, resume-sound, rate-sound, zero-sound, zeroed-fit, decimates-zero}
@@ -19,16 +19,17 @@ use Rattle.sums.proofs.Constant.{settled-stream}
 use Rattle.sums.proofs.Tight.{misleads}
 use Rattle.sums.proofs.Sizes.{gain-bound, exact, fit-sound}
 
-from-zero : (w : Width) (N M r : ℕ) → Sound N M r 0 0 → Decimator w N M r 0 0 (zeroed (signedOps w) N M r)
-from-zero w N M r q = decimator w N M r 0 0 (zeroed (signedOps w) N M r) (zeroed-fit (signedOps w) N M r q) (decimates-zero w N M r q)
+-- from zero
+from-zero : (w : Width) (N M r : ℕ) → Sound N M r 0 0
+    → Decimator w N M r 0 0 (zeroed (signedOps w) N M r) × Interpolator w N M r (zeroed (signedOps w) N M r)
+from-zero w N M r q =
+    (decimator w N M r 0 0 (zeroed (signedOps w) N M r) (zeroed-fit (signedOps w) N M r q) (decimates-zero w N M r q), interpolates-zero w N M r q)
 
 pub demand2 : Demand2
-demand2 w N M r e = subst (Decimator w N M r 0 0) (sym (new-is (signedOps w) N M r e)) (from-zero w N M r (sound N M r 0 0 e))
+demand2 w N M r e = rw (new-is (signedOps w) N M r e) (from-zero w N M r (sound N M r 0 0 e))
 
 pub demand2-cleared : Demand2Cleared
-demand2-cleared w s e =
-    subst (Decimator w (s .order) (s .delay) (s .rate) 0 0) (sym (clear-is (signedOps w) s e))
-    (from-zero w (s .order) (s .delay) (s .rate) (zero-sound s e))
+demand2-cleared w s e = rw (clear-is (signedOps w) s e) (from-zero w (s .order) (s .delay) (s .rate) (zero-sound s e))
 
 -- any contents, N M outputs unsettled
 from-any : (w : Width) (s : State ℤ) → Fit s → Contents w (s .integrators) (s .combs) → s .order * s .delay ≤ s .unsettled
@@ -46,10 +47,6 @@ demand3-rate w s r e h =
     subst (Decimator w (s .order) (s .delay) r (s .countdown) (s .order * s .delay)) (sym (rate-is (signedOps w) s r e))
     (from-any w (packed (s .order) (s .delay) r (s .countdown) (s .order * s .delay) (s .hold) (s .integrators) (s .combs))
     (record { good = rate-sound s r e; long8 = h .long8; long64 = h .long64 }) h (omega arith))
-
-pub demand2-interpolated : Demand2Interpolated
-demand2-interpolated w N M r e =
-    subst (Interpolator w N M r) (sym (new-is (signedOps w) N M r e)) (interpolates-zero w N M r (sound N M r 0 0 e))
 
 pub settled : Settled
 settled w s x e h =

@@ -14,20 +14,20 @@ use Rattle.words.specs.Words.{wrap}
 use Rattle.sums.specs.Ops.{Ops}
 use Rattle.sums.specs.Signed.{signedOps, exactOps}
 use Rattle.sums.specs.Moving.{moving, held}
-use Rattle.sums.specs.State.{State, rows, view, zeroed}
+use Rattle.sums.specs.State.{State, rows, view, refusal, zeroed}
 use Rattle.sums.specs.Runs.{needed, risings}
-use Rattle.sums.specs.Demands.{input, InWord, Contents, along, Rise, samples, lifts, yields, Interpolates, Interpolator}
+use Rattle.sums.specs.Demands.{input, InWord, Contents, along, ends, Raise, samples, lifts, yields, Interpolates, Interpolator}
 use Rattle.sums.proofs.Refusals.{Sound}
-use Rattle.sums.proofs.Steps.{Fit}
+use Rattle.sums.proofs.Steps.{Fit, accepted}
 use Rattle.sums.proofs.Cascade.{seg, combVal, intVal}
 use Rattle.sums.proofs.Zeros.{rises-from-zero}
 use Rattle.sums.proofs.Carried.{exactLaws, nil-in, list-in, take-in, rows-in, rise-wraps}
 use Rattle.sums.proofs.Settling.{elem-seg}
 use Rattle.sums.proofs.Climbs.{risings-are}
-use Rattle.sums.proofs.Rising.{risings-length, Climbed, ended, climbed}
+use Rattle.sums.proofs.Rising.{risings-length, Climbed, climbed, climbed-fit}
 use Rattle.sums.proofs.Makers.{zeroed-fit, zeroed-integrators, zeroed-lines, zero-contents}
 
-module _ (w : Width) (s : State ℤ) (f : Fit s) (e : s .countdown ≡ 0) (h : Contents w (s .integrators) (s .combs)) (calls : List Rise) where
+module _ (w : Width) (s : State ℤ) (f : Fit s) (e : s .countdown ≡ 0) (h : Contents w (s .integrators) (s .combs)) (calls : List Raise) where
   abbrev pub read : List ℤ
   read = along (lifts (signedOps w)) samples s calls
 
@@ -54,17 +54,24 @@ module _ (w : Width) (s : State ℤ) (f : Fit s) (e : s .countdown ≡ 0) (h : C
       (list-in w (take (s .order) (s .integrators)) (take-in w (s .order) (s .integrators) (h .integrators-in)))
       (rows-in w (s .delay) (s .order) (s .combs) (h .combs-in)) b t
 
+  pub raised-sound : refusal (ends (lifts (signedOps w)) s calls) ≡ 0
+  raised-sound =
+      let t : State ℤ = ends (lifts (signedOps w)) s calls in
+      accepted t (climbed-fit (signedOps w) s t f read given (climbed (signedOps w) s f calls))
+
 -- from zero
 pub interpolates-zero : (w : Width) (N M r : ℕ) → Sound N M r 0 0 → Interpolator w N M r (zeroed (signedOps w) N M r)
 unfolding zeroed
-interpolates-zero w N M r q calls b =
+interpolates-zero w N M r q calls =
     let s : State ℤ = zeroed (signedOps w) N M r in
     let f = zeroed-fit (signedOps w) N M r q in
-    let x : ℕ → ℤ = input (read w s f refl (zero-contents w) calls) in
-    record {
-      counts = read-count w s f refl (zero-contents w) calls;
-      sums = λ t y e. given-is w s f refl (zero-contents w) calls x (λ i l. refl) b t y e
-          ∙ ap (λ (F : ℕ → ℤ). wrap w (F t))
-          (ap₂ (λ is ls. intVal exactOps is (held (suc r) (combVal exactOps ls x))) (zeroed-integrators (signedOps w) N M r q) (zeroed-lines (signedOps w) N M r q)
-          ∙ rises-from-zero exactOps exactLaws N M r x);
-    }
+    let x : ℕ → ℤ = input (read w s f refl (zero-contents w) calls) in (
+      raised-sound w s f refl (zero-contents w) calls,
+      λ b. record {
+        counts = read-count w s f refl (zero-contents w) calls;
+        sums = λ t y e. given-is w s f refl (zero-contents w) calls x (λ i l. refl) b t y e
+            ∙ ap (λ (F : ℕ → ℤ). wrap w (F t))
+            (ap₂ (λ is ls. intVal exactOps is (held (suc r) (combVal exactOps ls x))) (zeroed-integrators (signedOps w) N M r q) (zeroed-lines (signedOps w) N M r q)
+            ∙ rises-from-zero exactOps exactLaws N M r x);
+      },
+    )

@@ -17,7 +17,7 @@ use Rattle.sums.specs.Ops.{Ops}
 use Rattle.sums.specs.State.{State, refusal}
 use Rattle.sums.specs.Calls.{unless, riseNumber, riseState, risenOf}
 use Rattle.sums.specs.Runs.{needed, join, dueSample, unread, fillNumber, fillState, risings, risenAfter}
-use Rattle.sums.specs.Demands.{along, Rise, rise, fill, samples, lifts, yields}
+use Rattle.sums.specs.Demands.{along, ends, Raise, rise, fill, samples, lifts, yields}
 use Rattle.sums.proofs.Steps.{Fit, accepted, down, rise-waits, rise-takes, rise-waits-fit, rise-takes-fit}
 use Rattle.sums.proofs.Counts.{needed-none, needed-wait, needed-give}
 use Rattle.sums.proofs.Fills.{risings-due, risings-wait}
@@ -137,7 +137,7 @@ module _ (o : Ops ℤ) where
         left = b .left ∙ ap (λ q. risenAfter o q (b .steps) xs') (a .left) ∙ sym (p .state);
       }
 
-  climbed-fit : (s t : State ℤ) → Fit s → (xs ys : List ℤ) → Climbed o s xs ys t → Fit t
+  pub climbed-fit : (s t : State ℤ) → Fit s → (xs ys : List ℤ) → Climbed o s xs ys t → Fit t
   climbed-fit s t f xs ys a = subst (λ q. Fit q) (sym (a .left)) (parts o (a .steps) s f 0 xs [] (a .counts) .fit)
 
   -- a block reads no more samples than are needed
@@ -190,21 +190,16 @@ module _ (o : Ops ℤ) where
         left = sym (d .state);
       })
 
-  one : (s : State ℤ) → Fit s → (c : Rise) → Climbed o s (samples s c) (yields o s c) (lifts o s c)
+  one : (s : State ℤ) → Fit s → (c : Raise) → Climbed o s (samples s c) (yields o s c) (lifts o s c)
   one s f (rise x) = rise-climbed s f x (down (s .countdown))
   one s f (fill xs out) = fill-climbed s f xs out (ltb (length xs) (needed (length out) (s .countdown) (s .rate))) refl
 
-  -- the state at the end of a run
-  unfoldable pub ended : State ℤ → List Rise → State ℤ
-  ended s [] = s
-  ended s (c ∷ cs) = ended (lifts o s c) cs
-
-  pub climbed : (s : State ℤ) → Fit s → (calls : List Rise)
-      → Climbed o s (along (lifts o) samples s calls) (along (lifts o) (yields o) s calls) (ended s calls)
-  unfolding along ended
+  pub climbed : (s : State ℤ) → Fit s → (calls : List Raise)
+      → Climbed o s (along (lifts o) samples s calls) (along (lifts o) (yields o) s calls) (ends (lifts o) s calls)
+  unfolding along ends
   climbed s f [] = none-climbed s
   climbed s f (c ∷ cs) =
       let a = one s f c in
       let t : State ℤ = lifts o s c in
-      climbed-on s t (ended t cs) f (samples s c) (yields o s c) (along (lifts o) samples t cs) (along (lifts o) (yields o) t cs) a
+      climbed-on s t (ends (lifts o) t cs) f (samples s c) (yields o s c) (along (lifts o) samples t cs) (along (lifts o) (yields o) t cs) a
       (climbed t (climbed-fit s t f (samples s c) (yields o s c) a) cs)

@@ -1,7 +1,7 @@
 -- What is guaranteed of the decimator and the interpolator, in document 01's words: a few definitions, then the statements, nothing else.
 -- Each holds for every width w of word, order N, delay M and rate that is accepted, and is proved in proofs/Demands.antt. R is rate + 1.
 use mathlib.Core.Path.{_≡_}
-use mathlib.Core.Bool.{true, false}
+use mathlib.Core.Bool.{true, false, cond}
 use mathlib.Core.List.{List, [], _∷_, _++_}
 use mathlib.Core.Option.{Option, none, some}
 use Prim.Native.Nat.{ℕ, suc, _+_, _-_, _*_, _^_, _≤_, _<_}
@@ -18,7 +18,7 @@ use Rattle.sums.specs.Machine.{Output}
 use Rattle.sums.specs.Moving.{moving, held}
 use Rattle.sums.specs.State.{State, refusal}
 use Rattle.sums.specs.Calls.{unless, newNumber, resumeNumber, rateNumber, riseNumber, newState, resumeState, rateState, clearState, settleState, stepState, stepGiven, riseState, risenOf, gain, gainLog2, fitNumber, fits}
-use Rattle.sums.specs.Runs.{needed, join, blockNumber, fillNumber, outputs, blockState, risings, fillState}
+use Rattle.sums.specs.Runs.{needed, join, blockNumber, fillNumber, outputs, blockState, blockOut, risings, fillState, settledPart}
 
 -- A list as a sequence, number 0 first and zeros behind it; and whole numbers that all fit the word.
 abbrev pub input : List ℤ → ℕ → ℤ
@@ -27,10 +27,14 @@ input xs t = getD xs t (pos 0)
 abbrev pub InWord : Width → List ℤ → Type 0
 InWord w xs = (t : ℕ) → SFits w (input xs t)
 
--- Calls in turn, each from the state that the one before leaves: what f tells of each, in order.
+-- Calls in turn, each from the state that the one before leaves: what f tells of each, in order, and the state at the end.
 unfoldable pub along : {S C X : Type 0} → (S → C → S) → (S → C → List X) → S → List C → List X
-along leaves f s [] = []
-along leaves f s (c ∷ cs) = f s c ++ along leaves f (leaves s c) cs
+along next f s [] = []
+along next f s (c ∷ cs) = f s c ++ along next f (next s c) cs
+
+unfoldable pub ends : {S C : Type 0} → (S → C → S) → S → List C → S
+ends next s [] = s
+ends next s (c ∷ cs) = ends next (next s c) cs
 
 -- A decimator's call: a step on one input, or a block of inputs with the slice that is lent for its outputs.
 pub data Call : Type 0 where
@@ -38,16 +42,16 @@ pub data Call : Type 0 where
   block : List ℤ → List ℤ → Call
 
 -- An interpolator's call: a step with a sample or with none, or a block: samples, and the slice that is to be filled.
-pub data Rise : Type 0 where
-  rise : Option ℤ → Rise
-  fill : List ℤ → List ℤ → Rise
+pub data Raise : Type 0 where
+  rise : Option ℤ → Raise
+  fill : List ℤ → List ℤ → Raise
 
 -- What a call reads. A refused call is no step: it reads and gives nothing and leaves the state.
 unfoldable pub reads : State ℤ → Call → List ℤ
 reads s (step x) = unless (refusal s) [] (x ∷ [])
 reads s (block xs out) = unless (blockNumber s xs out) [] xs
 
-unfoldable pub samples : State ℤ → Rise → List ℤ
+unfoldable pub samples : State ℤ → Raise → List ℤ
 samples s (rise x) = unless (riseNumber s x) [] (join x [])
 samples s (fill xs out) = unless (fillNumber s xs out) [] (take (needed (length out) (s .countdown) (s .rate)) xs)
 
@@ -61,11 +65,11 @@ module _ (o : Ops ℤ) where
   gives s (step x) = join (stepGiven o s x) []
   gives s (block xs out) = unless (blockNumber s xs out) [] (outputs o s xs)
 
-  unfoldable pub lifts : State ℤ → Rise → State ℤ
+  unfoldable pub lifts : State ℤ → Raise → State ℤ
   lifts s (rise x) = riseState o s x
   lifts s (fill xs out) = fillState o s xs out
 
-  unfoldable pub yields : State ℤ → Rise → List ℤ
+  unfoldable pub yields : State ℤ → Raise → List ℤ
   yields s (rise x) = unless (riseNumber s x) [] (risenOf o s x ∷ [])
   yields s (fill xs out) = unless (fillNumber s xs out) [] (risings o s (length out) xs)
 
@@ -80,24 +84,26 @@ pub record Decimates (w : Width) (N M rate c u : ℕ) (xs : List ℤ) (ys : List
   pub sums : (k : ℕ) (y : Output ℤ) → getElem? ys k ≡ some y → y .settled ≡ true
       → y .value ≡ wrap w (moving exactOps (suc rate * M) N (input xs) (c + k * suc rate))
 
--- Decimator steps and blocks alone, in any mixture, from the state s on.
+-- Decimator steps and blocks alone, in any mixture, from the state s on: none is refused but a block whose slice is too short.
 abbrev pub Decimator : (w : Width) (N M rate c u : ℕ) → State ℤ → Type 0
 Decimator w N M rate c u s =
     (calls : List Call)
-    → InWord w (along (leaves (signedOps w)) reads s calls)
-    → Decimates w N M rate c u (along (leaves (signedOps w)) reads s calls) (along (leaves (signedOps w)) (gives (signedOps w)) s calls)
+    → (refusal (ends (leaves (signedOps w)) s calls) ≡ 0)
+    × (InWord w (along (leaves (signedOps w)) reads s calls)
+    → Decimates w N M rate c u (along (leaves (signedOps w)) reads s calls) (along (leaves (signedOps w)) (gives (signedOps w)) s calls))
 
--- Interpolator steps and blocks alone, in any mixture, from the state s on: one sample is read for each R outputs, and each output is
--- the moving sum of the held input.
+-- What the outputs ys are to the samples xs: one sample is read for each R outputs, and each output is the moving sum of the held input.
 pub record Interpolates (w : Width) (N M rate : ℕ) (xs ys : List ℤ) : Type 0 where
   pub counts : length xs ≡ needed (length ys) 0 rate
   pub sums : (t : ℕ) (y : ℤ) → getElem? ys t ≡ some y → y ≡ wrap w (moving exactOps (suc rate * M) N (held (suc rate) (input xs)) t)
 
+-- Interpolator steps and blocks alone, in any mixture, from the state s on: none is refused but where a sample is missing or isn't due.
 abbrev pub Interpolator : (w : Width) (N M rate : ℕ) → State ℤ → Type 0
 Interpolator w N M rate s =
-    (calls : List Rise)
-    → InWord w (along (lifts (signedOps w)) samples s calls)
-    → Interpolates w N M rate (along (lifts (signedOps w)) samples s calls) (along (lifts (signedOps w)) (yields (signedOps w)) s calls)
+    (calls : List Raise)
+    → (refusal (ends (lifts (signedOps w)) s calls) ≡ 0)
+    × (InWord w (along (lifts (signedOps w)) samples s calls)
+    → Interpolates w N M rate (along (lifts (signedOps w)) samples s calls) (along (lifts (signedOps w)) (yields (signedOps w)) s calls))
 
 -- Contents: 8 integrators and 64 comb cells that fit the word, whatever they are.
 pub record Contents (w : Width) (integrators combs : List ℤ) : Type 0 where
@@ -106,15 +112,17 @@ pub record Contents (w : Width) (integrators combs : List ℤ) : Type 0 where
   pub integrators-in : InWord w integrators
   pub combs-in : InWord w combs
 
--- Demand 2, the moving sum. From a new state, and from a cleared one, every output is settled, and output k falls on input k · R + 1.
+-- Demand 2, the moving sum. From a new state, and from a cleared one, every output is settled and the moving sum, and output k falls on
+-- input k · R + 1; the interpolator's outputs are the moving sum of the held input.
 abbrev pub Demand2 : Type 0
-Demand2 = (w : Width) (N M rate : ℕ) → newNumber N M rate ≡ 0 → Decimator w N M rate 0 0 (newState (signedOps w) N M rate)
+Demand2 =
+    (w : Width) (N M rate : ℕ) → newNumber N M rate ≡ 0
+    → Decimator w N M rate 0 0 (newState (signedOps w) N M rate) × Interpolator w N M rate (newState (signedOps w) N M rate)
 
 abbrev pub Demand2Cleared : Type 0
-Demand2Cleared = (w : Width) (s : State ℤ) → refusal s ≡ 0 → Decimator w (s .order) (s .delay) (s .rate) 0 0 (clearState (signedOps w) s)
-
-abbrev pub Demand2Interpolated : Type 0
-Demand2Interpolated = (w : Width) (N M rate : ℕ) → newNumber N M rate ≡ 0 → Interpolator w N M rate (newState (signedOps w) N M rate)
+Demand2Cleared =
+    (w : Width) (s : State ℤ) → refusal s ≡ 0
+    → Decimator w (s .order) (s .delay) (s .rate) 0 0 (clearState (signedOps w) s) × Interpolator w (s .order) (s .delay) (s .rate) (clearState (signedOps w) s)
 
 -- Demand 3, settling. After a resume from any contents the first output falls on input countdown + 1, the first N · M outputs are
 -- marked unsettled, and every later one is settled and the moving sum of the inputs since the resume alone.
@@ -129,6 +137,16 @@ abbrev pub Demand3Rate : Type 0
 Demand3Rate =
     (w : Width) (s : State ℤ) (rate : ℕ) → rateNumber s rate ≡ 0 → Contents w (s .integrators) (s .combs)
     → Decimator w (s .order) (s .delay) rate (s .countdown) (s .order * s .delay) (rateState (signedOps w) s rate)
+
+-- The settled part of a block's slice is what its settled outputs are, from whatever state.
+abbrev pub believed : List (Output ℤ) → List ℤ
+believed [] = []
+believed (y ∷ ys) = cond (y .settled) (y .value ∷ believed ys) (believed ys)
+
+abbrev pub SettledPart : Type 0
+SettledPart =
+    (w : Width) (s : State ℤ) (xs out : List ℤ) → Contents w (s .integrators) (s .combs) → blockNumber s xs out ≡ 0
+    → settledPart (blockOut (signedOps w) s xs out) (length (outputs (signedOps w) s xs)) (s .unsettled) ≡ believed (outputs (signedOps w) s xs)
 
 -- N · M can't be lowered: for every order above 0 there are contents and inputs for which output number N · M, counted from 1, is not the
 -- moving sum.
@@ -179,7 +197,7 @@ FitNotExact =
 -- After settle_interpolate on x, interpolator calls whose samples are all x give x times gain, modulo 2 ^ w, at every step.
 abbrev pub Stream : Width → State ℤ → ℤ → ℤ → Type 0
 Stream w s x v =
-    (calls : List Rise) (n : ℕ) → along (lifts (signedOps w)) samples s calls ≡ replicate n x
+    (calls : List Raise) (n : ℕ) → along (lifts (signedOps w)) samples s calls ≡ replicate n x
     → (t : ℕ) (y : ℤ) → getElem? (along (lifts (signedOps w)) (yields (signedOps w)) s calls) t ≡ some y → y ≡ v
 
 abbrev pub Settled : Type 0
