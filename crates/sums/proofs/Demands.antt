@@ -8,8 +8,8 @@ use Rattle.words.specs.Words.{wrap}
 use Rattle.sums.specs.Signed.{signedOps}
 use Rattle.sums.specs.State.{State, refusalOf, zeroed}
 use Rattle.sums.specs.Calls.{newState, gain, bitLength, gainLog2, fits}
-use Rattle.sums.specs.Demands.{Contents, Decimator, Interpolator, Stream, Demand2, Demand2Cleared, Demand3, Demand3Rate, Demand3Tight, GainBound, FitSound, FitNotExact, Settled}
-use Rattle.sums.proofs.Refusals.{Sound, sound, good}
+use Rattle.sums.specs.Demands.{Contents, Decimator, Interpolator, Stream, Demand2, Demand2Cleared, Demand3, Demand3Rate, Demand3Tight, SettledPart, GainBound, FitSound, FitNotExact, Settled}
+use Rattle.sums.proofs.Refusals.{Sound, sound, Good, good}
 use Rattle.sums.proofs.Steps.{packed, Fit}
 use Rattle.sums.proofs.Makers.{new-is, clear-is, resume-is, rate-is, settle-is, resume-sound, rate-sound, zero-sound, zeroed-fit, decimates-zero}
 use Rattle.sums.proofs.Settling.{decimates-settled}
@@ -17,6 +17,7 @@ use Rattle.sums.proofs.Alone.{decimator}
 use Rattle.sums.proofs.Interpolating.{interpolates-zero}
 use Rattle.sums.proofs.Constant.{settled-stream}
 use Rattle.sums.proofs.Tight.{misleads}
+use Rattle.sums.proofs.Believed.{block-asked, settled-part}
 use Rattle.sums.proofs.Sizes.{gain-bound, exact, fit-sound}
 
 -- from zero
@@ -31,27 +32,29 @@ demand2 w N M r e = rw (new-is (signedOps w) N M r e) (from-zero w N M r (sound 
 pub demand2-cleared : Demand2Cleared
 demand2-cleared w s e = rw (clear-is (signedOps w) s e) (from-zero w (s .order) (s .delay) (s .rate) (zero-sound s e))
 
--- any contents, N M outputs unsettled
-from-any : (w : Width) (s : State ℤ) → Fit s → Contents w (s .integrators) (s .combs) → s .order * s .delay ≤ s .unsettled
+-- from any contents, N M outputs unsettled
+from-any : (w : Width) (s : State ℤ) → Good s → Contents w (s .integrators) (s .combs) → s .order * s .delay ≤ s .unsettled
     → Decimator w (s .order) (s .delay) (s .rate) (s .countdown) (s .unsettled) s
-from-any w s f h l =
+from-any w s g h l =
+    let f : Fit s = record { good = g; long8 = h .long8; long64 = h .long64 } in
     decimator w (s .order) (s .delay) (s .rate) (s .countdown) (s .unsettled) s f (λ xs b. decimates-settled w s f h xs b l)
 
 pub demand3 : Demand3
 demand3 w N M r c is ks hold e h =
-    subst (Decimator w N M r c (N * M)) (sym (resume-is (signedOps w) N M r c is ks hold e))
-    (from-any w (packed N M r c (N * M) hold is ks) (record { good = resume-sound N M r c e; long8 = h .long8; long64 = h .long64 }) h (omega arith))
+    rw (resume-is (signedOps w) N M r c is ks hold e) (from-any w (packed N M r c (N * M) hold is ks) (resume-sound N M r c e) h (omega arith))
 
 pub demand3-rate : Demand3Rate
 demand3-rate w s r e h =
-    subst (Decimator w (s .order) (s .delay) r (s .countdown) (s .order * s .delay)) (sym (rate-is (signedOps w) s r e))
-    (from-any w (packed (s .order) (s .delay) r (s .countdown) (s .order * s .delay) (s .hold) (s .integrators) (s .combs))
-    (record { good = rate-sound s r e; long8 = h .long8; long64 = h .long64 }) h (omega arith))
+    rw (rate-is (signedOps w) s r e)
+    (from-any w (packed (s .order) (s .delay) r (s .countdown) (s .order * s .delay) (s .hold) (s .integrators) (s .combs)) (rate-sound s r e) h (omega arith))
+
+pub settled-parts : SettledPart
+settled-parts w s xs out h e =
+    settled-part (signedOps w) s (record { good = good s (block-asked s xs out e); long8 = h .long8; long64 = h .long64 }) xs out e
 
 pub settled : Settled
 settled w s x e h =
-    subst (λ q. Stream w q x (wrap w (pos (gain s) *ℤ x))) (sym (settle-is (signedOps w) s x e))
-    (settled-stream w s x h (s .order) refl (zero-sound s e))
+    rw (settle-is (signedOps w) s x e) (settled-stream w s x h (s .order) refl (zero-sound s e))
 
 pub demand3-tight : Demand3Tight
 demand3-tight w zero M r c e h = absurd (omega arith)

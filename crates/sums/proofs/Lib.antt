@@ -24,3 +24,4 @@ pub mod Constant
 pub mod Tight
 pub mod Sizes
 pub mod Figures
+pub mod Believed

@@ -1,11 +1,12 @@
 -- What a state that is not refused has: the numbers of 01's refusals 10 to 13 and 15, read backwards.
-use mathlib.Core.Path.{_≡_, refl, sym, _∙_}
+use mathlib.Core.Path.{_≡_, refl, sym, ap, _∙_}
 use mathlib.Core.Bool.{Bool, true, false, cond, _||_}
-use Prim.Native.Nat.{ℕ, suc, _*_, _≤_}
+use Prim.Native.Nat.{ℕ, zero, suc, _*_, _≤_}
 use native.Mathlib.Omega.{arith}
-use lib.Dec.{ltb, eqb}
+use lib.Dec.{ltb, eqb, eqb·suc-zero}
 use borrow.Author.Tests.{ltb-false, eqb-false, le-ltb, ne-eqb}
 use Rattle.sums.specs.State.{State, refusalOf, refusal}
+use Rattle.sums.specs.Calls.{unless}
 
 pub record Sound (order delay rate countdown unsettled : ℕ) : Type 0 where
   pub few : order ≤ 8
@@ -66,3 +67,8 @@ module _ {A : Type 0} (s : State A) where
 
   pub good-accepts : Good s → refusal s ≡ 0
   good-accepts g = accepts (s .order) (s .delay) (s .rate) (s .countdown) (s .unsettled) g
+
+-- a call that asks the state and then more: its number is 0 where both are
+pub both-zero : (k n : ℕ) → unless k k n ≡ 0 → (k ≡ 0) × (n ≡ 0)
+both-zero zero n e = (refl, e)
+both-zero (suc k) n e = absurd (let f : suc k ≡ 0 = sym (ap (λ b. cond b n (suc k)) (eqb·suc-zero k)) ∙ e in omega arith)

@@ -5,7 +5,7 @@ use mathlib.Core.Bool.{Bool, true, false, cond, _||_}
 use Prim.Native.Nat.{ℕ, zero, suc, _+_, _*_, _-_, _/_, _%_, _^_, _≤_, _<_}
 use native.Mathlib.Omega.{arith}
 use native.Mathlib.Nat.{pow-zero, pow-suc, pow-le-pow-left, mul-pos, mul-le-mul, mul-le-mul-right, zero-mul, suc-mul, div-add-mod', mod-lt}
-use lib.Dec.{ltb, leb, eqb, eqb·suc-zero}
+use lib.Dec.{ltb, leb, eqb}
 use lib.IntN.{ℤ, pos, negsuc, _+ℤ_, +ℤ-idl}
 use lib.Pow.{pow-pos, pow-mono, pow-add}
 use lib.Signed.{mag}
@@ -17,8 +17,8 @@ use Rattle.words.proofs.Reading.{wrap-is}
 use Rattle.sums.specs.Signed.{exactOps}
 use Rattle.sums.specs.Moving.{last, moving}
 use Rattle.sums.specs.State.{State, refusal}
-use Rattle.sums.specs.Calls.{unless, gain, bitLength, gainLog2, fitNumber, fits}
-use Rattle.sums.proofs.Refusals.{Sound, Good, good, passed, first}
+use Rattle.sums.specs.Calls.{gain, bitLength, gainLog2, fitNumber, fits}
+use Rattle.sums.proofs.Refusals.{Good, good, passed, first, both-zero}
 
 -- mag z < B says that z lies in - B .. B - 1
 mag-cond : (t : Bool) (a b A : ℕ) → a < A → b < A → mag (cond t (negsuc a) (pos b)) < A
@@ -95,10 +95,6 @@ half-bits w16 = refl
 half-bits w32 = refl
 half-bits w64 = refl
 half-bits w128 = refl
-
-both-zero : (k n : ℕ) → unless k k n ≡ 0 → (k ≡ 0) × (n ≡ 0)
-both-zero zero n e = (refl, e)
-both-zero (suc k) n e = absurd (let f : suc k ≡ 0 = sym (ap (λ b. cond b n (suc k)) (eqb·suc-zero k)) ∙ e in omega arith)
 
 -- what an accepted question of fit is about
 fit-asked : {A : Type 0} (s : State A) (width b : ℕ) → fitNumber s width b ≡ 0 → (refusal s ≡ 0) × (1 ≤ b)
