@@ -20,7 +20,7 @@ pub record Shaped {A : Type 0} (N M : ℕ) (s : Machine A) : Type 0 where
 pub pushed-length : {A : Type 0} (l : List A) (x : A) → 0 < length l → length (pushed l x) ≡ length l
 unfolding pushed
 pushed-length [] x h = absurd (omega arith)
-pushed-length (a ∷ l) x h = rw length-append (omega arith)
+pushed-length (a ∷ l) x h = omega (arith, length-append l (x ∷ []))
 
 module _ {A : Type 0} (o : Ops A) where
   pub integrated-length : (l : List A) (x : A) → length (integrated o l x) ≡ length l
