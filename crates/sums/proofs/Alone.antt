@@ -1,17 +1,16 @@
 -- A run of decimator calls alone from an accepted state: its outputs are those of the steps in turn over the inputs that it reads.
 use mathlib.Core.Path.{_≡_, refl, sym, ap, ap₂, subst, _∙_}
 use mathlib.Core.Bool.{Bool, true, false, cond}
-use mathlib.Core.List.{List, [], _∷_, _++_, append-assoc}
+use mathlib.Core.List.{List, [], _∷_, _++_}
 use mathlib.Core.Option.{Option, none, some}
-use Prim.Native.Nat.{ℕ, zero, suc, _+_}
+use Prim.Native.Nat.{ℕ}
 use lib.Dec.{eqb}
 use lib.IntN.{ℤ}
-use lib.ListN.{length}
 use mir.Syntax.{Width}
 use Rattle.sums.specs.Ops.{Ops}
 use Rattle.sums.specs.Machine.{Output}
-use Rattle.sums.specs.State.{State, refusal}
-use Rattle.sums.specs.Calls.{unless, stepState, stepGiven}
+use Rattle.sums.specs.State.{State}
+use Rattle.sums.specs.Calls.{stepState, stepGiven}
 use Rattle.sums.specs.Runs.{join, outputs, after, blockNumber, blockState}
 use Rattle.sums.specs.Signed.{signedOps}
 use Rattle.sums.specs.Demands.{InWord, Call, step, block, along, ends, reads, leaves, gives, Decimates, Decimator}

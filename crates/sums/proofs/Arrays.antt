@@ -2,14 +2,13 @@
 -- and no length changes.
 use mathlib.Core.Path.{_≡_, refl, sym, ap, ap₂, _∙_}
 use mathlib.Core.List.{List, [], _∷_, _++_, append-assoc}
-use Prim.Native.Nat.{ℕ, zero, suc, _+_, _*_, _-_, _≤_, _<_}
+use Prim.Native.Nat.{ℕ, zero, suc, _*_, _≤_}
 use native.Mathlib.Omega.{arith}
-use native.Mathlib.Nat.{zero-sub, sub-zero, suc-sub-suc}
-use lib.ListN.{length, take, drop, length-drop, length-append, take-append-drop, replicate, length-replicate}
+use lib.ListN.{length, take, drop, length-drop, length-append, take-append-drop}
 use lib.Seq.{take-at, drop-at, drop-append-le, length-take-le}
 use Rattle.sums.specs.Ops.{Ops}
 use Rattle.sums.specs.Machine.{Machine, decimated, interpolated}
-use Rattle.sums.specs.State.{State, rows, putRows, view, put, zeroed}
+use Rattle.sums.specs.State.{State, rows, putRows, view, put}
 use Rattle.sums.proofs.Shapes.{Lines, Shaped, decimated-shaped, interpolated-shaped}
 
 -- the arrays hold what the order and the delay ask for

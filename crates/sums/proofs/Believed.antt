@@ -1,19 +1,17 @@
 -- The settled part of a block's slice: the outputs past the unsettled count are those that are marked settled.
 use mathlib.Core.Path.{_≡_, refl, sym, ap, _∙_}
-use mathlib.Core.Bool.{Bool, true, false, cond}
-use mathlib.Core.List.{List, [], _∷_, _++_}
-use mathlib.Core.Option.{some}
+use mathlib.Core.Bool.{false, cond}
+use mathlib.Core.List.{List, [], _∷_}
 use Prim.Native.Nat.{ℕ, zero, suc, _<_}
 use native.Mathlib.Omega.{arith}
 use lib.Dec.{ltb, leb, leb·zero, leb·suc-zero, leb·suc-suc}
 use lib.IntN.{ℤ}
-use lib.ListN.{length, getD, getElem?, take, drop, length-append}
+use lib.ListN.{length, getD, take, drop, length-append}
 use lib.Seq.{take-append-seam}
 use borrow.Author.Tests.{le-ltb}
 use Rattle.sums.specs.Ops.{Ops}
 use Rattle.sums.specs.Machine.{Output}
 use Rattle.sums.specs.State.{State, refusal}
-use Rattle.sums.specs.Calls.{unless}
 use Rattle.sums.specs.Runs.{needed, values, over, outputs, blockNumber, blockOut, settledNumber, settledPart}
 use Rattle.sums.specs.Demands.{believed}
 use Rattle.sums.proofs.Refusals.{both-zero}

@@ -4,16 +4,14 @@
 use mathlib.Core.Path.{_≡_, refl, sym, ap, ap₂, _∙_}
 use mathlib.Core.List.{List, [], _∷_, _++_, append-nil}
 use mathlib.Core.Option.{Option, none, some}
-use Prim.Native.Nat.{ℕ, zero, suc, _+_, _*_, _<_, _≤_}
+use Prim.Native.Nat.{ℕ, suc, _+_, _<_, _≤_}
 use native.Mathlib.Numerals.{add-one}
 use native.Mathlib.Omega.{arith}
-use lib.Dec.{leb}
 use lib.ListN.{length, getD, take, drop, set, length-set, take-append-drop, drop-of-length-le}
 use lib.Seq.{drop-cons, drop-set-lt, take-suc-set, append-snoc, length-take-le, drop-drop}
 use Rattle.sums.specs.Ops.{Ops}
 use Rattle.sums.specs.Machine.{Output}
 use Rattle.sums.specs.State.{State}
-use Rattle.sums.specs.Calls.{stepState, stepGiven}
 use Rattle.sums.specs.Runs.{needed, join, values, over, outputs, after}
 use Rattle.sums.proofs.Steps.{Fit, Turn}
 use Rattle.sums.proofs.Counts.{outputs-length}

@@ -5,7 +5,7 @@ use mathlib.Core.List.{List, [], _∷_, _++_}
 use Prim.Native.Nat.{ℕ, zero, suc, _+_, _*_, _<_}
 use native.Mathlib.Omega.{arith}
 use native.Mathlib.Nat.{add-zero, add-suc, mul-comm}
-use lib.ListN.{length, getD}
+use lib.ListN.{length}
 use Rattle.sums.specs.Ops.{Ops, Laws}
 use Rattle.sums.specs.Machine.{pushed, integrated, summed, less, combed, differed}
 use Rattle.sums.specs.Moving.{moving}

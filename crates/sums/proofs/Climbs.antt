@@ -2,24 +2,23 @@
 -- the integrators over the held values, so its outputs are known, each by its number. No law is asked of the words.
 use mathlib.Core.Path.{_≡_, refl, sym, ap, ap₂, subst, _∙_}
 use mathlib.Core.List.{List, [], _∷_}
-use mathlib.Core.Logic.{_⊎_, inl, inr, ⊎-elim}
-use mathlib.Core.Option.{Option, none, some}
+use mathlib.Core.Option.{Option, some}
 use Prim.Native.Nat.{ℕ, zero, suc, _+_, _*_, _-_, _/_, _≤_, _<_}
 use native.Mathlib.Omega.{arith}
-use native.Mathlib.Nat.{add-zero, zero-add, suc-add, add-suc}
+use native.Mathlib.Nat.{add-zero, zero-add}
 use lib.Arith.{digits-div}
 use lib.Dec.{eqb·suc-zero}
 use lib.ListN.{length, getD, drop, length-drop}
 use lib.Seq.{getD-drop}
 use Rattle.sums.specs.Ops.{Ops}
-use Rattle.sums.specs.Machine.{Machine, integrated, summed, combed, differed, interpolatedAt, interpolated, risenAt, risen}
+use Rattle.sums.specs.Machine.{Machine, integrated, summed, differed, interpolatedAt, interpolated, risenAt, risen}
 use Rattle.sums.specs.Moving.{held}
-use Rattle.sums.specs.State.{State, view, put}
-use Rattle.sums.specs.Calls.{unless, riseNumber, riseState, risenOf, sample}
+use Rattle.sums.specs.State.{State, view}
+use Rattle.sums.specs.Calls.{riseNumber, riseState, risenOf, sample}
 use Rattle.sums.specs.Runs.{needed, dueSample, unread, risings}
 use Rattle.sums.proofs.Shapes.{Lines}
 use Rattle.sums.proofs.Arrays.{view-put, view-shaped, rose-shaped}
-use Rattle.sums.proofs.Steps.{Fit, accepted, room, down, rise-waits-fit, rise-takes-fit}
+use Rattle.sums.proofs.Steps.{Fit, accepted, room, rise-waits-fit, rise-takes-fit}
 use Rattle.sums.proofs.Counts.{needed-wait, needed-give}
 use Rattle.sums.proofs.Cascade.{seg, combVal, linesAt, lines-start, combed-next, differed-is, intVal, intsAt, ints-begin, integrated-next, summed-is}
 

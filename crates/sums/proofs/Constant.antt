@@ -2,7 +2,7 @@
 -- one gives what it was set to, x times gain.
 use mathlib.Core.Path.{_≡_, refl, sym, ap, ap₂, subst, fun-ext, _∙_}
 use mathlib.Core.List.{List, [], _∷_, _++_}
-use Prim.Native.Nat.{ℕ, zero, suc, _+_, _*_, _-_, _/_, _^_, _≤_, _<_}
+use Prim.Native.Nat.{ℕ, zero, suc, _*_, _-_, _/_, _^_, _<_}
 use native.Mathlib.Omega.{arith}
 use native.Mathlib.Nat.{pow-zero}
 use lib.IntN.{ℤ, pos, _*ℤ_, zero-*ℤ, sucℤ-*ℤ, +ℤ-idl}
@@ -14,10 +14,10 @@ use Rattle.words.proofs.Reading.{wrap-is, wrap-fits, wrap-wrap}
 use Rattle.sums.specs.Ops.{Ops, Laws, times}
 use Rattle.sums.specs.Signed.{signedOps, exactOps}
 use Rattle.sums.specs.Moving.{held}
-use Rattle.sums.specs.State.{State, rows, view, refusal}
-use Rattle.sums.specs.Calls.{unless, gain, settledAt, settleState}
+use Rattle.sums.specs.State.{State, rows, view}
+use Rattle.sums.specs.Calls.{gain, settledAt}
 use Rattle.sums.specs.Demands.{InWord, Contents, along, lifts, samples, Stream}
-use Rattle.sums.proofs.Refusals.{Sound, sound}
+use Rattle.sums.proofs.Refusals.{Sound}
 use Rattle.sums.proofs.Steps.{Fit}
 use Rattle.sums.proofs.Groups.{sub-self}
 use Rattle.sums.proofs.Sequences.{pre, acc}

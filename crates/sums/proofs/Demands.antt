@@ -1,14 +1,13 @@
 -- The statements of specs/Demands, each proved from the room that holds it.
-use mathlib.Core.Path.{_≡_, refl, sym, subst}
+use mathlib.Core.Path.{refl}
 use Prim.Native.Nat.{ℕ, zero, suc, _*_, _^_, _≤_}
 use native.Mathlib.Omega.{arith}
-use lib.IntN.{ℤ, pos, _*ℤ_}
+use lib.IntN.{ℤ}
 use mir.Syntax.{Width, w32}
-use Rattle.words.specs.Words.{wrap}
 use Rattle.sums.specs.Signed.{signedOps}
 use Rattle.sums.specs.State.{State, refusalOf, zeroed}
-use Rattle.sums.specs.Calls.{newState, gain, bitLength, gainLog2, fits}
-use Rattle.sums.specs.Demands.{Contents, Decimator, Interpolator, Stream, Demand2, Demand2Cleared, Demand3, Demand3Rate, Demand3Tight, SettledPart, GainBound, FitSound, FitNotExact, Settled}
+use Rattle.sums.specs.Calls.{newState, bitLength, gainLog2, fits}
+use Rattle.sums.specs.Demands.{Contents, Decimator, Interpolator, Demand2, Demand2Cleared, Demand3, Demand3Rate, Demand3Tight, SettledPart, GainBound, FitSound, FitNotExact, Settled}
 use Rattle.sums.proofs.Refusals.{Sound, sound, Good, good}
 use Rattle.sums.proofs.Steps.{packed, Fit}
 use Rattle.sums.proofs.Makers.{new-is, clear-is, resume-is, rate-is, settle-is, resume-sound, rate-sound, zero-sound, zeroed-fit, decimates-zero}

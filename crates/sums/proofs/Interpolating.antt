@@ -1,30 +1,29 @@
 -- The interpolator over words. From a state that is due: each output is what the integrators make of the held comb values, wrapped.
 -- From zero that is the moving sum of the held input; after settle_interpolate on x it is x times gain.
-use mathlib.Core.Path.{_≡_, refl, sym, ap, ap₂, subst, fun-ext, _∙_}
-use mathlib.Core.List.{List, [], _∷_, _++_, map}
-use mathlib.Core.Option.{Option, some}
-use Prim.Native.Nat.{ℕ, zero, suc, _+_, _*_, _-_, _/_, _≤_, _<_}
+use mathlib.Core.Path.{_≡_, refl, sym, ap, ap₂, subst, _∙_}
+use mathlib.Core.List.{List}
+use mathlib.Core.Option.{some}
+use Prim.Native.Nat.{ℕ, suc, _≤_, _<_}
 use native.Mathlib.Omega.{arith}
 use native.Mathlib.Nat.{zero-add}
-use lib.IntN.{ℤ, pos}
-use lib.ListN.{length, getD, getElem?, take, replicate}
+use lib.IntN.{ℤ}
+use lib.ListN.{length, getElem?, take}
 use mir.Syntax.{Width}
 use mir.Val.{SFits}
 use Rattle.words.specs.Words.{wrap}
-use Rattle.sums.specs.Ops.{Ops}
 use Rattle.sums.specs.Signed.{signedOps, exactOps}
-use Rattle.sums.specs.Moving.{moving, held}
-use Rattle.sums.specs.State.{State, rows, view, refusal, zeroed}
-use Rattle.sums.specs.Runs.{needed, risings}
-use Rattle.sums.specs.Demands.{input, InWord, Contents, along, ends, Raise, samples, lifts, yields, Interpolates, Interpolator}
+use Rattle.sums.specs.Moving.{held}
+use Rattle.sums.specs.State.{State, view, refusal, zeroed}
+use Rattle.sums.specs.Runs.{needed}
+use Rattle.sums.specs.Demands.{input, Contents, along, ends, Raise, samples, lifts, yields, Interpolator}
 use Rattle.sums.proofs.Refusals.{Sound}
 use Rattle.sums.proofs.Steps.{Fit, accepted}
-use Rattle.sums.proofs.Cascade.{seg, combVal, intVal}
+use Rattle.sums.proofs.Cascade.{combVal, intVal}
 use Rattle.sums.proofs.Zeros.{rises-from-zero}
-use Rattle.sums.proofs.Carried.{exactLaws, nil-in, list-in, take-in, rows-in, rise-wraps}
+use Rattle.sums.proofs.Carried.{exactLaws, list-in, take-in, rows-in, rise-wraps}
 use Rattle.sums.proofs.Settling.{elem-seg}
 use Rattle.sums.proofs.Climbs.{risings-are}
-use Rattle.sums.proofs.Rising.{risings-length, Climbed, climbed, climbed-fit}
+use Rattle.sums.proofs.Rising.{risings-length, climbed, climbed-fit}
 use Rattle.sums.proofs.Makers.{zeroed-fit, zeroed-integrators, zeroed-lines, zero-contents}
 
 module _ (w : Width) (s : State ℤ) (f : Fit s) (e : s .countdown ≡ 0) (h : Contents w (s .integrators) (s .combs)) (calls : List Raise) where

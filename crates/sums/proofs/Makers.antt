@@ -1,11 +1,11 @@
 -- What the makers give: accepted states over 8 and 64 cells, and what the zero state looks like to the rules.
-use mathlib.Core.Path.{_≡_, refl, sym, ap, ap₂, subst, _∙_}
+use mathlib.Core.Path.{_≡_, refl, sym, ap, ap₂, _∙_}
 use mathlib.Core.List.{List, [], _∷_, _++_}
 use Prim.Native.Nat.{ℕ, zero, suc, _+_, _*_, _-_, _≤_, max}
 use native.Mathlib.Omega.{arith}
 use native.Mathlib.Nat.{zero-sub, sub-zero, suc-sub-suc, zero-add}
 use lib.IntN.{ℤ, pos}
-use lib.ListN.{length, getD, take, drop, replicate, length-replicate}
+use lib.ListN.{length, take, drop, replicate, length-replicate}
 use lib.Seq.{take-at, drop-append-add}
 use mir.Syntax.{Width}
 use mir.Val.{SFits}
@@ -14,13 +14,11 @@ use Rattle.sums.specs.Signed.{signedOps, exactOps}
 use Rattle.sums.specs.Machine.{Machine}
 use Rattle.sums.specs.Moving.{moving}
 use Rattle.sums.specs.State.{State, rows, view, refusal, zeroed}
-use Rattle.sums.specs.Calls.{unless, newNumber, resumeNumber, rateNumber, newState, resumeState, rateState, clearState, settledAt, settleState}
+use Rattle.sums.specs.Calls.{newNumber, resumeNumber, rateNumber, newState, resumeState, rateState, clearState, settledAt, settleState}
 use Rattle.sums.specs.Runs.{outputs}
 use Rattle.sums.specs.Demands.{input, InWord, Contents, Decimates}
 use Rattle.sums.proofs.Refusals.{Sound, sound}
 use Rattle.sums.proofs.Steps.{packed, Fit}
-use Rattle.sums.proofs.Sequences.{down}
-use Rattle.sums.proofs.Cascade.{combVal, intVal}
 use Rattle.sums.proofs.Zeros.{falls-from-zero}
 use Rattle.sums.proofs.Traces.{slow, output}
 use Rattle.sums.proofs.Carried.{exactLaws, nil-in}

@@ -1,22 +1,22 @@
 -- A run of interpolator calls alone from an accepted state: its outputs are those of the steps in turn over the samples that it reads, and
 -- it reads as many as are needed.
 use mathlib.Core.Path.{_≡_, refl, sym, ap, ap₂, subst, _∙_}
-use mathlib.Core.Bool.{Bool, true, false, cond}
+use mathlib.Core.Bool.{Bool, true, false}
 use mathlib.Core.List.{List, [], _∷_, _++_, append-nil}
 use mathlib.Core.Logic.{_⊎_, inl, inr, ⊎-elim}
 use mathlib.Core.Option.{Option, none, some}
 use Prim.Native.Nat.{ℕ, zero, suc, _+_, _-_, _≤_, _<_}
 use native.Mathlib.Nat.{add-zero, zero-add, suc-add}
 use native.Mathlib.Omega.{arith}
-use lib.Dec.{eqb, ltb, eqb·suc-zero}
+use lib.Dec.{ltb, eqb·suc-zero}
 use lib.IntN.{ℤ}
-use lib.ListN.{length, getD, take, drop, length-append, take-append-drop}
+use lib.ListN.{length, take, drop, length-append, take-append-drop}
 use lib.Seq.{length-take-le}
 use borrow.Author.Tests.{ltb-false, eq-eqb, ne-eqb}
 use Rattle.sums.specs.Ops.{Ops}
-use Rattle.sums.specs.State.{State, refusal}
-use Rattle.sums.specs.Calls.{unless, riseNumber, riseState, risenOf}
-use Rattle.sums.specs.Runs.{needed, join, dueSample, unread, fillNumber, fillState, risings, risenAfter}
+use Rattle.sums.specs.State.{State}
+use Rattle.sums.specs.Calls.{riseNumber, riseState, risenOf}
+use Rattle.sums.specs.Runs.{needed, dueSample, unread, fillNumber, fillState, risings, risenAfter}
 use Rattle.sums.specs.Demands.{along, ends, Raise, rise, fill, samples, lifts, yields}
 use Rattle.sums.proofs.Steps.{Fit, accepted, down, rise-waits, rise-takes, rise-waits-fit, rise-takes-fit}
 use Rattle.sums.proofs.Counts.{needed-none, needed-wait, needed-give}

@@ -1,23 +1,21 @@
 -- Demands 2 and 3 of an accepted state over words: when its outputs fall, which are marked settled, and that those are the moving sum;
 -- first from any contents with N M outputs unsettled, then from zero.
-use mathlib.Core.Path.{_≡_, refl, sym, ap, ap₂, subst, _∙_}
-use mathlib.Core.Bool.{true}
-use mathlib.Core.List.{List, [], _∷_, map}
-use mathlib.Core.Option.{Option, none, some, Option·some-injective}
+use mathlib.Core.Path.{_≡_, refl, sym, ap, _∙_}
+use mathlib.Core.List.{List, [], _∷_}
+use mathlib.Core.Option.{some, Option·some-injective}
 use Prim.Native.Nat.{ℕ, zero, suc, _+_, _*_, _≤_, _<_}
 use native.Mathlib.Omega.{arith}
 use native.Mathlib.Nat.{zero-add}
 use lib.Dec.{ltb, leb, leb·zero, leb·suc-zero, leb·suc-suc}
-use lib.IntN.{ℤ, pos}
-use lib.ListN.{length, getD, getElem?, take, replicate}
+use lib.IntN.{ℤ}
+use lib.ListN.{length, getD, getElem?, take}
 use borrow.Author.Tests.{leb-true}
 use mir.Syntax.{Width}
 use Rattle.words.specs.Words.{wrap}
-use Rattle.sums.specs.Ops.{Ops}
 use Rattle.sums.specs.Signed.{signedOps, exactOps}
-use Rattle.sums.specs.Machine.{Machine, Output}
+use Rattle.sums.specs.Machine.{Output}
 use Rattle.sums.specs.Moving.{moving}
-use Rattle.sums.specs.State.{State, rows, view}
+use Rattle.sums.specs.State.{State, view}
 use Rattle.sums.specs.Runs.{needed, outputs}
 use Rattle.sums.specs.Demands.{input, InWord, Contents, Decimates}
 use Rattle.sums.proofs.Arrays.{view-shaped}

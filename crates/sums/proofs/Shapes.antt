@@ -1,9 +1,9 @@
 -- The shape of a machine: N integrators and N delay lines of M cells each. A step keeps it, either way.
-use mathlib.Core.Path.{_≡_, refl, sym, ap, _∙_}
-use mathlib.Core.List.{List, [], _∷_, _++_}
-use Prim.Native.Nat.{ℕ, zero, suc, _+_, _≤_, _<_}
+use mathlib.Core.Path.{_≡_, refl, ap, _∙_}
+use mathlib.Core.List.{List, [], _∷_}
+use Prim.Native.Nat.{ℕ, zero, suc, _<_}
 use native.Mathlib.Omega.{arith}
-use lib.ListN.{length, drop, length-append, length-drop}
+use lib.ListN.{length, length-append}
 use Rattle.sums.specs.Ops.{Ops}
 use Rattle.sums.specs.Machine.{Machine, pushed, integrated, summed, less, combed, differed, decimatedAt, decimated, interpolatedAt, interpolated}
 

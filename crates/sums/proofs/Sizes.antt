@@ -1,17 +1,17 @@
 -- How large a moving sum can be: each fold of length L multiplies the bound by L, the gain is at most 2 ^ gain_log2, and so the fit
 -- answer yes leaves no output that wraps.
-use mathlib.Core.Path.{_≡_, refl, sym, ap, ap₂, subst, _∙_}
+use mathlib.Core.Path.{_≡_, refl, sym, ap, subst, _∙_}
 use mathlib.Core.Bool.{Bool, true, false, cond, _||_}
 use Prim.Native.Nat.{ℕ, zero, suc, _+_, _*_, _-_, _/_, _%_, _^_, _≤_, _<_}
 use native.Mathlib.Omega.{arith}
 use native.Mathlib.Nat.{pow-zero, pow-suc, pow-le-pow-left, mul-pos, mul-le-mul, mul-le-mul-right, zero-mul, suc-mul, div-add-mod', mod-lt}
-use lib.Dec.{ltb, leb, eqb}
+use lib.Dec.{ltb, eqb}
 use lib.IntN.{ℤ, pos, negsuc, _+ℤ_, +ℤ-idl}
 use lib.Pow.{pow-pos, pow-mono, pow-add}
 use lib.Signed.{mag}
 use borrow.Author.Tests.{leb-true, eqb-false}
 use mir.Syntax.{Width, w8, w16, w32, w64, w128}
-use mir.Val.{SFits, bits, hbits}
+use mir.Val.{bits, hbits}
 use Rattle.words.specs.Words.{wrap}
 use Rattle.words.proofs.Reading.{wrap-is}
 use Rattle.sums.specs.Signed.{exactOps}

@@ -1,17 +1,17 @@
 -- The steps of an accepted state, either way, as the loops over its arrays leave them; and that they end in an accepted state.
-use mathlib.Core.Path.{_≡_, refl, sym, ap, subst, _∙_}
-use mathlib.Core.List.{List, _++_}
+use mathlib.Core.Path.{_≡_, refl, sym, subst, _∙_}
+use mathlib.Core.List.{List}
 use mathlib.Core.Option.{Option, none, some}
 use mathlib.Core.Logic.{_⊎_, inl, inr, ⊎-elim}
 use Prim.Native.Nat.{ℕ, zero, suc, _-_, _*_, _≤_, _<_}
 use native.Mathlib.Omega.{arith}
 use lib.Dec.{eqb, eqb·suc-zero}
-use lib.ListN.{length, take, drop}
+use lib.ListN.{length}
 use Rattle.sums.specs.Ops.{Ops}
-use Rattle.sums.specs.Machine.{Machine, Output, decimated, decimatedAt, given, givenAt, interpolated, interpolatedAt, risen, risenAt}
+use Rattle.sums.specs.Machine.{Output, decimated, decimatedAt, given, givenAt, interpolated, interpolatedAt, risen, risenAt}
 use Rattle.sums.specs.State.{State, view, put, refusal}
-use Rattle.sums.specs.Calls.{unless, riseNumber, stepState, stepGiven, riseState, risenOf, sample}
-use Rattle.sums.proofs.Refusals.{Sound, Good, good, good-accepts}
+use Rattle.sums.specs.Calls.{riseNumber, stepState, stepGiven, riseState, risenOf}
+use Rattle.sums.proofs.Refusals.{Good, good, good-accepts}
 use Rattle.sums.proofs.Arrays.{Room, rows-back}
 use Rattle.sums.proofs.Loops.{partInts, partSum, partCells, partComb, ints-length, cells-length}
 

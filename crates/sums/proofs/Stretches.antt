@@ -1,20 +1,20 @@
 -- A stretch of a decimator's block: all inputs up to the next output, or to the end. The integrators run over it, then the combs once.
 use mathlib.Core.Path.{_≡_, refl, sym, ap, ap₂, subst, _∙_}
 use mathlib.Core.List.{List, [], _∷_, _++_}
-use mathlib.Core.Option.{Option, none, some}
-use Prim.Native.Nat.{ℕ, zero, suc, _+_, _-_, _*_, _<_, _≤_}
+use mathlib.Core.Option.{none, some}
+use Prim.Native.Nat.{ℕ, zero, suc, _+_, _-_, _<_, _≤_}
 use native.Mathlib.Numerals.{add-one}
 use native.Mathlib.Omega.{arith}
 use lib.Dec.{eqb}
 use lib.ListN.{length, getD, take, drop, take-append-drop}
 use lib.Seq.{slice, slice-cons, slice-empty, length-slice, length-take-le, drop-append-le, drop-cons, take-suc}
 use Rattle.sums.specs.Ops.{Ops}
-use Rattle.sums.specs.Machine.{Output, integrated, summed}
+use Rattle.sums.specs.Machine.{integrated, summed}
 use Rattle.sums.specs.State.{State}
-use Rattle.sums.specs.Calls.{stepState, stepGiven}
+use Rattle.sums.specs.Calls.{stepState}
 use Rattle.sums.specs.Runs.{join, outputs, after}
 use Rattle.sums.proofs.Loops.{partInts, partSum, partCells, partComb, ints-length}
-use Rattle.sums.proofs.Steps.{packed, Fit, ints-room, Turn, turn-gives, step-waits, given-waits, step-fit}
+use Rattle.sums.proofs.Steps.{packed, Fit, ints-room, turn-gives, step-waits, given-waits, step-fit}
 use Rattle.sums.proofs.Blocks.{Jump}
 
 -- the first n integrators after the inputs of a list

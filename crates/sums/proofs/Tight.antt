@@ -2,22 +2,21 @@
 -- outputs later and turned about, so that it comes out last at output N M, as 1 or as -1, where the moving sum is 0.
 use mathlib.Core.Path.{_≡_, refl, sym, ap, ap₂, subst, fun-ext, _∙_}
 use mathlib.Core.List.{List, [], _∷_, _++_}
-use mathlib.Core.Logic.{_⊎_, inl, inr, ⊎-elim}
-use mathlib.Core.Option.{Option, some}
-use Prim.Native.Nat.{ℕ, zero, suc, _+_, _*_, _-_, _^_, _≤_, _<_}
+use mathlib.Core.Logic.{_⊎_, inl, inr}
+use mathlib.Core.Option.{some}
+use Prim.Native.Nat.{ℕ, zero, suc, _+_, _*_, _-_, _≤_, _<_}
 use native.Mathlib.Omega.{arith}
 use native.Mathlib.Nat.{add-zero, zero-add, mul-pos}
 use borrow.Author.Tests.{ltb-true, lt-ltb}
 use lib.IntN.{ℤ, pos, negsuc, _+ℤ_, _-ℤ_}
-use lib.ListN.{length, getD, getElem?, take, drop, replicate, length-replicate, length-append}
+use lib.ListN.{length, getD, getElem?, take, replicate, length-replicate, length-append}
 use lib.Pow.{pow-pos, pow-lt}
 use mir.Syntax.{Width, w8, w16, w32, w64, w128}
 use mir.Val.{SFits, hbits}
 use Rattle.words.specs.Words.{wrap}
 use Rattle.words.proofs.Reading.{wrap-is}
-use Rattle.sums.specs.Ops.{Ops}
 use Rattle.sums.specs.Signed.{signedOps, exactOps}
-use Rattle.sums.specs.Machine.{Machine, Output}
+use Rattle.sums.specs.Machine.{Output}
 use Rattle.sums.specs.Moving.{last, moving}
 use Rattle.sums.specs.State.{State, rows, view}
 use Rattle.sums.specs.Calls.{resumeNumber, resumeState}

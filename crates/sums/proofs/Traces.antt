@@ -1,18 +1,18 @@
 -- The decimator over a list of inputs: at every time its cells are those of Cascade's sequences, so its outputs are known, each by
 -- its number: value and mark. No law is asked of the words.
-use mathlib.Core.Path.{_≡_, refl, sym, ap, ap₂, subst, _∙_}
+use mathlib.Core.Path.{_≡_, refl, sym, ap, ap₂, _∙_}
 use mathlib.Core.List.{List, [], _∷_}
-use mathlib.Core.Option.{Option, none, some}
+use mathlib.Core.Option.{none, some}
 use Prim.Native.Nat.{ℕ, zero, suc, _+_, _*_, _-_, _≤_, _<_}
 use native.Mathlib.Omega.{arith}
 use native.Mathlib.Nat.{add-zero, zero-add}
 use lib.Dec.{eqb}
 use lib.ListN.{length, getD}
 use Rattle.sums.specs.Ops.{Ops, Laws}
-use Rattle.sums.specs.Machine.{Machine, Output, integrated, summed, combed, differed, decimatedAt, decimated, givenAt, given}
+use Rattle.sums.specs.Machine.{Machine, Output, summed, combed, differed, decimatedAt, decimated, givenAt, given}
 use Rattle.sums.specs.Moving.{moving}
-use Rattle.sums.specs.State.{State, view, put}
-use Rattle.sums.specs.Calls.{unless, stepState, stepGiven}
+use Rattle.sums.specs.State.{State, view}
+use Rattle.sums.specs.Calls.{stepState, stepGiven}
 use Rattle.sums.specs.Runs.{needed, join, outputs}
 use Rattle.sums.proofs.Shapes.{Lines, Shaped}
 use Rattle.sums.proofs.Arrays.{view-put, view-shaped, stepped-shaped}

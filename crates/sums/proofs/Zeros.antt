@@ -1,7 +1,6 @@
 -- The cascade from zero, either way. A comb whose line is all zeros subtracts the sequence behind L zeros; it undoes an integrator down to
 -- the sum of the last L values, commutes with the window and with integrators, and passes through every R-th value and through holding.
 use mathlib.Core.Path.{_≡_, refl, sym, ap, ap₂, fun-ext, _∙_}
-use mathlib.Core.List.{List, [], _∷_}
 use Prim.Native.Nat.{ℕ, zero, suc, _+_, _*_, _-_, _/_, _≤_, _<_}
 use native.Mathlib.Omega.{arith}
 use native.Mathlib.Decide.{decLe}

@@ -1,8 +1,7 @@
 -- 01, 'Bench figures': T1 to T6, on words of 32 bits, in one table. A further case is a further entry.
 use mathlib.Core.Path.{_≡_}
 use mathlib.Core.Bool.{true, false}
-use mathlib.Core.List.{List, [], _∷_, _++_, map}
-use Prim.Native.Nat.{ℕ}
+use mathlib.Core.List.{List, [], _∷_, map}
 use lib.IntN.{ℤ, pos, negsuc}
 use lib.ListN.{length, replicate}
 use mir.Syntax.{w32}
