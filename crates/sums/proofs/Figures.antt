@@ -9,10 +9,10 @@ use Rattle.sums.specs.Figures.{computed, table, Figures}
 use Rattle.sums.specs.Moving.{last, moving}
 use Rattle.sums.specs.Demands.{Between}
 
-pub figures : Figures
+pub all-right : Figures
 unfolding computed table outputs risings newState resumeState zeroed refusalOf stepState stepGiven decimated decimatedAt given givenAt riseNumber riseState risenOf interpolated interpolatedAt risen risenAt view put rows putRows integrated summed less pushed combed differed wrap word
-figures = refl
+all-right = refl
 
-pub between : Between
+pub mixed : Between
 unfolding newState zeroed refusalOf stepState stepGiven decimated decimatedAt given givenAt riseNumber riseState interpolated interpolatedAt view put rows putRows integrated summed less pushed combed differed wrap word last moving
-between = (refl, refl, refl, refl, refl)
+mixed = (refl, refl, refl, refl, refl)

@@ -25,9 +25,6 @@ module _ {A : Type 0} (o : Ops A) (g : Laws o) where
   pub sub-self : (a : A) → o .sub a a ≡ o .nil
   sub-self a = sub-of a a (o .nil) (nil-add a)
 
-  pub sub-nil : (a : A) → o .sub a (o .nil) ≡ a
-  sub-nil a = sub-of a (o .nil) a (g .add-nil a)
-
   -- a difference of sums is the sum of the differences
   pub sub-medial : (a b c d : A) → o .sub (o .add a b) (o .add c d) ≡ o .add (o .sub a c) (o .sub b d)
   sub-medial a b c d =
