@@ -1,0 +1,3 @@
+pub mod Modulator
+pub mod Calls
+pub mod Cells
