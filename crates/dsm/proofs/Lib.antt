@@ -5,3 +5,7 @@ pub mod Shapes
 pub mod Refusals
 pub mod Running
 pub mod Ways
+pub mod Balance
+pub mod Totals
+pub mod Bench
+pub mod Settled

@@ -1,6 +1,7 @@
-// The delta-sigma modulator: K accumulators in a chain, whose carries and differences average to the input / 2^32.
-// Port of the crate's dsm.rs, with the order K a number in the state, 0 to 8, and outputs in i16.
-// Callers cite specs/Modulator (a step by document 01) and specs/Calls (every call by its number, state and answer).
+// The delta-sigma modulator (01, 'The modulator'): of order K, 0 to 8, with outputs that average to the input / 2^32.
+// Port of the crate's dsm.rs, with outputs and retained values in i16, which holds the output 128 of K = 8.
+// Callers cite specs/Modulator (a step), specs/Calls (every call by its number, state and answer), specs/Totals (what a run
+// takes in and gives out, proved in proofs/Totals) and specs/Bench (bench figures; both ends of the range are reached).
 use blocks::Verdict;
 ghost use mathlib.Core.Path.{_≡_};
 ghost use mathlib.Core.Bool.{true};
@@ -12,7 +13,8 @@ ghost use Rattle.dsm.specs.Modulator.{inside, insideFrom};
 ghost use Rattle.dsm.specs.Calls.{refusal, zeroed, madeOf, rangeOf, Steps, Runs};
 ghost use Rattle.dsm.specs.Cells.{Accumulates, Combines, Turns, Modulates};
 
-// Order K, accumulators of which K are used, and retained values of which K - 1 are used. Other cells never matter.
+// Order K, accumulators, of which K are used, and retained values, of which K - 1 are used. Other cells never matter.
+// Retained cell j, from 0, must lie in 1 - 2^j .. 2^j.
 pub struct Dsm {
     pub order: usize,
     pub accumulators: [u32; 8],
@@ -31,6 +33,7 @@ pub enum Output {
     Refused(u32),
 }
 
+// The state after a step, and what the step gave.
 pub struct Stepped {
     pub state: Dsm,
     pub out: Output,
@@ -109,7 +112,7 @@ fn combine(c: &mut [i16; 8], order: usize, d: u32) -> i16
     y
 }
 
-// One step on the cells.
+// One step on the cells: gives the output; cells beyond the order stay.
 fn turn(a: &mut [u32; 8], c: &mut [i16; 8], order: usize, x: u32) -> i16
     requires { ⌜ (order ≤ 8) × (length (now a) ≡ 8) × (length (now c) ≡ 8) × (insideFrom 0 (take (order - 1) (now c)) ≡ true) ⌝ }
     ensures { λ r. ⌜ Turns order (now (a .entry)) (now (c .entry)) x (now (a .exit)) (now (c .exit)) r ⌝ }
@@ -118,7 +121,7 @@ fn turn(a: &mut [u32; 8], c: &mut [i16; 8], order: usize, x: u32) -> i16
     combine(c, order, d)
 }
 
-// The steps of a block in turn.
+// The steps over xs in turn: writes their outputs and gives the state after.
 fn modulate(s: Dsm, xs: &[u32], ys: &mut [i16]) -> Dsm
     requires { ⌜ (length (now xs) ≡ length (now ys)) × (refusal s ≡ 0) ⌝ }
     ensures { λ r. ⌜ Modulates s (now (xs .entry)) r (now (ys .exit)) ⌝ }
@@ -139,7 +142,7 @@ fn modulate(s: Dsm, xs: &[u32], ys: &mut [i16]) -> Dsm
     }
 }
 
-// 2^j.
+// 2^j, the greatest value of retained cell j.
 fn top(j: usize) -> i16
     requires { ⌜ j ≤ 7 ⌝ }
     ensures { λ r. ⌜ r ≡ pos (2 ^ j) ⌝ }
@@ -164,12 +167,12 @@ fn cells_in_range(c: [i16; 8], order: usize) -> bool
     requires { ⌜ order ≤ 8 ⌝ }
     ensures { λ r. ⌜ r ≡ insideFrom 0 (take (order - 1) c) ⌝ }
 {
-    let mut j: usize = 0;
-    while j + 1 < order {
-        if !in_range(j, c[j]) {
+    let mut i: usize = 0;
+    while i + 1 < order {
+        if !in_range(i, c[i]) {
             return false;
         }
-        j += 1;
+        i += 1;
     }
     true
 }
@@ -206,8 +209,8 @@ impl Dsm {
         }
     }
 
-    // Takes the input x and gives the next output. 30 where the order is above 8, 32 where a used retained cell is out of
-    // range: the state stays.
+    // Takes the input x and gives the next output; an accepted state stays accepted. 30 where the order is above 8, 32 where
+    // a used retained cell is out of range: the state stays.
     pub fn process(self, x: u32) -> Stepped
         ensures { λ r. ⌜ Steps self x r ⌝ }
     {

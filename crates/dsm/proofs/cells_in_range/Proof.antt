@@ -16,19 +16,19 @@ use Rattle.dsm.proofs.cells_in_range.Statement.{statement}
 use Rattle.dsm.proofs.cells_in_range.Tie as tie
 
 abbrev Inv-loop : tie.InvT-loop
-Inv-loop order c j₀ j =
-    (order ≤ 8) × (length c ≡ 8) × (j ≤ order - 1) × (insideFrom 0 (take (order - 1) c) ≡ insideFrom j (slice j (order - 1) c))
+Inv-loop order c i₀ i =
+    (order ≤ 8) × (length c ≡ 8) × (i ≤ order - 1) × (insideFrom 0 (take (order - 1) c) ≡ insideFrom i (slice i (order - 1) c))
 
 abbrev μ-loop : tie.MeasureT-loop
-μ-loop order c j₀ j = order - j
+μ-loop order c i₀ i = order - i
 
-cell-read : (c : tie.After-in-range-arg Inv-loop μ-loop) → toZ w16 (ofZ w16 (getD (c .before .before .before .args .t1) (c .before .before .loop .j) (pos 0))) ≡ getD (c .before .before .before .args .t1) (c .before .before .loop .j) (pos 0)
-cell-read c = read w16 (getD (c .before .before .before .args .t1) (c .before .before .loop .j) (pos 0)) (c .in-range-arg .given)
+cell-read : (c : tie.After-in-range-arg Inv-loop μ-loop) → toZ w16 (ofZ w16 (getD (c .before .before .before .args .t1) (c .before .before .loop .i) (pos 0))) ≡ getD (c .before .before .before .args .t1) (c .before .before .loop .i) (pos 0)
+cell-read c = read w16 (getD (c .before .before .before .args .t1) (c .before .before .loop .i) (pos 0)) (c .in-range-arg .given)
 
-rest : (c : tie.In-loop Inv-loop μ-loop) → insideFrom (c .before .loop .j) (slice (c .before .loop .j) (c .before .before .args .order - 1) (c .before .before .args .t1))
-    ≡ (inside (c .before .loop .j) (getD (c .before .before .args .t1) (c .before .loop .j) (pos 0))
-    && insideFrom (suc (c .before .loop .j)) (slice (suc (c .before .loop .j)) (c .before .before .args .order - 1) (c .before .before .args .t1)))
-rest c = inside-first (c .before .before .args .order - 1) (c .before .loop .j) (c .before .before .args .t1) (omega arith) (omega (arith, c .before .loop .inv))
+rest : (c : tie.In-loop Inv-loop μ-loop) → insideFrom (c .before .loop .i) (slice (c .before .loop .i) (c .before .before .args .order - 1) (c .before .before .args .t1))
+    ≡ (inside (c .before .loop .i) (getD (c .before .before .args .t1) (c .before .loop .i) (pos 0))
+    && insideFrom (suc (c .before .loop .i)) (slice (suc (c .before .loop .i)) (c .before .before .args .order - 1) (c .before .before .args .t1)))
+rest c = inside-first (c .before .before .args .order - 1) (c .before .loop .i) (c .before .before .args .t1) (omega arith) (omega (arith, c .before .loop .inv))
 
 loop-holds : tie.Need-loop-holds Inv-loop μ-loop
 loop-holds c = let e : length (c .args .t1) ≡ 8 = c .good .0 .1 .0 .1 in (c .pre, e, omega arith, refl)
@@ -51,8 +51,8 @@ returns c =
     let f : k .result ≡ false = not-true (k .result) (c .if1 .taken) in
     sym (m .loop .inv .3 ∙ rest (c .before .before .before) ∙ rw (sym (rw (cell-read (c .before .before)) at (k .ensures)) ∙ f))
 
-add-j : tie.Need-add-j Inv-loop μ-loop
-add-j c = omega arith
+add-i : tie.Need-add-i Inv-loop μ-loop
+add-i c = omega arith
 
 loop-less : tie.Need-loop-less Inv-loop μ-loop
 loop-less c = omega arith
@@ -68,7 +68,7 @@ loop-again c =
     )
 
 returns-2 : tie.Need-returns-2 Inv-loop μ-loop
-returns-2 c = let l = c .before .loop in sym (l .inv .3 ∙ inside-none (c .before .before .args .order - 1) (l .j) (c .before .before .args .t1) (omega (arith, c .loop-test .left)))
+returns-2 c = let l = c .before .loop in sym (l .inv .3 ∙ inside-none (c .before .before .args .order - 1) (l .i) (c .before .before .args .t1) (omega (arith, c .loop-test .left)))
 
 pub cells-in-range-spec : {M : Type 1} → statement M
 cells-in-range-spec =
@@ -82,7 +82,7 @@ cells-in-range-spec =
     array-copy-out-in-range
     in-range-requires
     returns
-    add-j
+    add-i
     loop-less
     loop-again
     returns-2)
