@@ -1,11 +1,11 @@
 -- The first accumulator's carry is what its sum lost, and the output is that carry and the growth of the last retained cell:
 -- so what a step takes in is in its output or still in these two cells.
-use mathlib.Core.Path.{_≡_, refl, sym, ap, _∙_}
+use mathlib.Core.Path.{_≡_, refl, ap}
 use mathlib.Core.List.{List, [], _∷_, _++_}
 use Prim.Native.Nat.{ℕ, zero, suc, _+_, _-_, _*_, _/_, _%_, _^_, _<_, _≤_}
 use native.Mathlib.Nat.{div-add-mod'}
 use native.Mathlib.Omega.{arith}
-use lib.IntN.{ℤ, pos, negsuc, _+ℤ_, _-ℤ_, _*ℤ_}
+use lib.IntN.{ℤ, pos, _+ℤ_, _-ℤ_, _*ℤ_}
 use lib.ListN.{length, take, drop, getD, getD-replicate}
 use Rattle.blocks.specs.Scan.{scan, ends}
 use Rattle.dsm.specs.declared.Dsm.{Dsm}
