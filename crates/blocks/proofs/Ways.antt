@@ -1,15 +1,13 @@
 -- The three ways in which a one-to-one block call ends.
-use mathlib.Core.Path.{_≡_, refl, sym, ap, _∙_}
+use mathlib.Core.Path.{_≡_, refl}
 use mathlib.Core.List.{List}
-use Prim.Native.Nat.{ℕ, zero, suc, _<_}
-use native.Mathlib.Omega.{arith}
+use Prim.Native.Nat.{ℕ, zero, suc}
 use borrow.Author.Tests.{eq-eqb, ne-eqb}
 use lib.ListN.{length}
-use Rattle.blocks.specs.declared.Verdict.{Verdict}
 use Rattle.blocks.specs.declared.Verdict.the-variants.{Done, Refused}
 use Rattle.blocks.specs.Verdicts.{verdictOf}
 use Rattle.blocks.specs.Scan.{scan, ends}
-use Rattle.blocks.specs.Blocks.{blockNumber, unless, Blocked}
+use Rattle.blocks.specs.Blocks.{unless, Blocked}
 
 -- a number that is none is a refusal
 pub refused : (k : ℕ) → (k ≡ 0 → ⊥) → Refused k ≡ verdictOf k

@@ -2,12 +2,12 @@
 use mathlib.Core.Path.{_≡_, refl, ap, _∙_}
 use mathlib.Core.Bool.{Bool, true, false}
 use mathlib.Core.List.{List, [], _∷_}
-use Prim.Native.Nat.{ℕ, zero, suc, _-_, _/_, _≤_}
+use Prim.Native.Nat.{ℕ, zero, suc, _-_, _≤_}
 use native.Mathlib.Omega.{arith}
 use borrow.Author.Tests.{ltb-false}
 use lib.Dec.{ltb}
 use lib.IntN.{ℤ}
-use lib.ListN.{length, drop, length-append, length-drop}
+use lib.ListN.{length, length-append, length-drop}
 use Rattle.blocks.proofs.Ways.{kept}
 use Rattle.wdf.specs.declared.Wdf.{Wdf}
 use Rattle.wdf.specs.declared.Stepped.{Stepped}
@@ -27,7 +27,7 @@ few n m e = pick (ltb 8 n) refl
 pub sections-length : (n m : ℕ) (cs zs : List ℤ) → length (sectionsOf n m cs zs) ≡ n
 unfolding sectionsOf
 sections-length zero m cs zs = refl
-sections-length (suc n) m cs zs = ap suc (sections-length n (m / 16) (drop 1 cs) (drop 1 zs))
+sections-length (suc n) m cs zs = ap suc (sections-length n _ _ _)
 
 pub cells-length : (ss : List Section) (x : ℤ) → length (passed ss x .cells) ≡ length ss
 unfolding passed

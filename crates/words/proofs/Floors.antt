@@ -1,15 +1,15 @@
 -- Whole turns and what is left: a number is its quotient's turns and its word, and a word of the upper half reads one turn less.
-use mathlib.Core.Path.{_≡_, refl, sym, ap, _∙_}
+use mathlib.Core.Path.{_≡_, sym, ap, _∙_}
 use Prim.Native.Nat.{ℕ, zero, suc, _+_, _-_, _*_, _/_, _%_, _^_, _<_, _≤_}
 use native.Mathlib.Nat.{div-add-mod', mod-lt, mul-div-left, mul-lt-mul-of-pos-right}
 use lib.Arith.{digits-div}
 use native.Mathlib.Omega.{arith}
 use lib.Pow.{pow-pos, pow-add}
-use lib.IntN.{ℤ, pos, negsuc, negℤ, subℕ, _+ℤ_, _-ℤ_, _*ℤ_}
+use lib.IntN.{ℤ, pos, negsuc, _+ℤ_, _-ℤ_, _*ℤ_}
 use borrow.Author.Tests.{lt-ltb, le-ltb}
 use mir.Syntax.{Width}
-use mir.Val.{toZ, bits, hbits}
-use mir.ValLaws.{toZ-pos, half-full}
+use mir.Val.{bits, hbits}
+use mir.ValLaws.{toZ-pos}
 use Rattle.words.specs.Words.{modℤ, word, wrap, floorDiv}
 use Rattle.words.proofs.Remainders.{rep-mod, rep-is, rep-scaled}
 use Rattle.words.proofs.Reading.{mod-below, word-fits}

@@ -6,7 +6,7 @@ use lib.Pow.{pow-pos}
 use lib.IntN.{ℤ, pos, negℤ, _+ℤ_, _-ℤ_, _*ℤ_, *ℤ-zero}
 use mir.Syntax.{Width}
 use mir.Val.{SFits, toZ, ofZ, bits}
-use Rattle.words.specs.Words.{modℤ, word, wrap}
+use Rattle.words.specs.Words.{word, wrap}
 use Rattle.words.proofs.Remainders.{Like, is, back, _then_, multiple, rep-mod, rep-is, rep-to, rep-add, rep-neg, rep-mul, rep-minus}
 use Rattle.words.proofs.Reading.{word-fits, bits-word, word-word, word-wrap, wrap-is}
 

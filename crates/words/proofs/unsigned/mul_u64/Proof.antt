@@ -4,7 +4,7 @@ use mathlib.Core.Path.{_≡_, refl, ap₂}
 use native.Mathlib.Omega.{arith}
 use native.Mathlib.Nat.{mod-mod, div-add-mod'}
 use Rattle.words.specs.Words.{word}
-use Rattle.words.proofs.Remainders.{Like, is, _then_, plus, times}
+use Rattle.words.proofs.Remainders.{is, _then_, plus, times}
 use Rattle.words.proofs.Sums.{halves}
 use Rattle.words.proofs.Sizes.{words-product}
 use Rattle.words.proofs.unsigned.mul_u64.Statement.{statement}

@@ -1,0 +1,52 @@
+use native.Mathlib.Omega.{arith}
+use Prim.Native.Nat.{_+_, _*_}
+use borrow.Author.Tests.{lt-ltb, le-ltb}
+use borrow.Author.Needs.{needs}
+use Rattle.cases.specs.Texts.{wordAt}
+use Rattle.cases.proofs.Digits.{half-small}
+use Rattle.cases.proofs.text.word.Statement.{statement}
+use Rattle.cases.proofs.text.word.Tie as tie
+
+returns : tie.Need-returns
+unfolding wordAt
+returns c = rw (le-ltb _ _ (c .if1 .taken))
+
+mul-at : tie.Need-mul-at
+mul-at c = search needs
+
+half-at-requires : tie.Need-half-at-requires
+half-at-requires c κs = search needs
+
+mul-result : tie.Need-mul-result
+mul-result c = rw (c .half-at .ensures) (record { fits = omega (arith, half-small (c .before .before .before .args .text .now) (c .before .before .before .args .i * 9)) })
+
+add-half-at : tie.Need-add-half-at
+add-half-at c = search needs
+
+half-at-requires-2 : tie.Need-half-at-requires-2
+half-at-requires-2 c κs = search needs
+
+add-result : tie.Need-add-result
+add-result c =
+    let n = c .before in let a = n .before .before .before .args in
+    rw (c .half-at2 .ensures, n .half-at .ensures)
+    (record { fits = omega (arith, half-small (a .text .now) (a .i * 9), half-small (a .text .now) (a .i * 9 + 4)) })
+
+returns-2 : tie.Need-returns-2
+unfolding wordAt
+returns-2 c =
+    let n = c .before in
+    rw (c .half-at2 .ensures, n .half-at .ensures, lt-ltb _ _ (n .before .if1 .left))
+
+pub word-spec : {M : Type 1} → statement M
+word-spec =
+    tie.close
+    (tie.spec
+    returns
+    mul-at
+    half-at-requires
+    mul-result
+    add-half-at
+    half-at-requires-2
+    add-result
+    returns-2)

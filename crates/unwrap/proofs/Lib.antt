@@ -1,0 +1,5 @@
+pub mod Turning
+pub mod Counting
+pub mod Clamping
+pub mod Scaling
+pub mod Figures

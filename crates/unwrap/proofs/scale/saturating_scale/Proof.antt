@@ -1,0 +1,54 @@
+use borrow.Author.Tests.{eq-eqb, ne-eqb, lt-ltb, le-ltb}
+use mir.Syntax.{w32}
+use mir.ValLaws.{toZ-ofZ}
+use borrow.Author.Needs.{needs}
+use Rattle.words.proofs.Reading.{read}
+use Rattle.unwrap.specs.Scales.{scaledOf}
+use Rattle.unwrap.proofs.scale.saturating_scale.Statement.{statement}
+use Rattle.unwrap.proofs.scale.saturating_scale.Tie as tie
+
+returns : tie.Need-returns
+unfolding scaledOf
+returns c = rw (eq-eqb _ _ (c .if1 .taken))
+
+returns-2 : tie.Need-returns-2
+unfolding scaledOf
+returns-2 c = rw (ne-eqb _ _ (c .before .if1 .left), lt-ltb _ _ (c .if2 .taken))
+
+extend-requires : tie.Need-extend-requires
+extend-requires c κs = search needs
+
+returns-3 : tie.Need-returns-3
+unfolding scaledOf
+returns-3 c =
+    let k = c .before in let s = k .before .before .before in let a = s .args in
+    rw (
+      read w32 (c .extend .result) (c .extend .ok),
+      c .extend .ensures,
+      toZ-ofZ w32 (a .lo) (s .fits .lo),
+      toZ-ofZ w32 (a .hi) (s .fits .hi),
+      ne-eqb (a .shift) 0 (k .before .before .if1 .left),
+      le-ltb 32 (a .shift) (k .before .if2 .left),
+      eq-eqb (a .shift) 32 (k .if3 .taken),
+    )
+
+clip-requires : tie.Need-clip-requires
+clip-requires c κs = search needs
+
+returns-4 : tie.Need-returns-4
+unfolding scaledOf
+returns-4 c =
+    let k = c .before in let s = k .before .before .before in let a = s .args in
+    rw (
+      read w32 (c .clip .result) (c .clip .ok),
+      c .clip .ensures,
+      toZ-ofZ w32 (a .lo) (s .fits .lo),
+      toZ-ofZ w32 (a .hi) (s .fits .hi),
+      ne-eqb (a .shift) 0 (k .before .before .if1 .left),
+      le-ltb 32 (a .shift) (k .before .if2 .left),
+      ne-eqb (a .shift) 32 (k .if3 .left),
+    )
+
+pub saturating-scale-spec : {M : Type 1} → statement M
+saturating-scale-spec =
+    tie.close (tie.spec returns returns-2 extend-requires returns-3 clip-requires returns-4)

@@ -1,0 +1,39 @@
+use borrow.Author.Needs.{needs}
+use mir.Syntax.{w32, w64}
+use mir.ValLaws.{toZ-ofZ}
+use Rattle.words.proofs.Reading.{read}
+use Rattle.unwrap.proofs.unwrapper.Unwrapper.process.Statement.{statement}
+use Rattle.unwrap.proofs.unwrapper.Unwrapper.process.Tie as tie
+
+i64-as-i32-requires : tie.Need-i64-as-i32-requires
+i64-as-i32-requires c κs = search needs
+
+sub-i32-requires : tie.Need-sub-i32-requires
+sub-i32-requires c κs = search needs
+
+i32-as-i64-requires : tie.Need-i32-as-i64-requires
+i32-as-i64-requires c κs = search needs
+
+add-i64-requires : tie.Need-add-i64-requires
+add-i64-requires c κs = search needs
+
+returns : tie.Need-returns
+returns c =
+    let k = c .before in let d = k .before in let n = d .before in let t = n .before in let a = t .before .args in
+    rw (
+      read w64 (c .add-i64 .result) (c .add-i64 .ok),
+      c .add-i64 .ensures,
+      read w64 (k .i32-as-i64 .result) (k .i32-as-i64 .ok),
+      k .i32-as-i64 .ensures,
+      read w32 (d .sub-i32 .result) (d .sub-i32 .ok),
+      d .sub-i32 .ensures,
+      read w32 (n .i64-as-i32 .result) (n .i64-as-i32 .ok),
+      n .i64-as-i32 .ensures,
+      read w64 (a .self .y) (t .struct-told .given .0 .1),
+      toZ-ofZ w32 (a .x) (t .before .fits .x),
+    )
+
+pub process-spec : {M : Type 1} → statement M
+process-spec =
+    tie.close
+    (tie.spec i64-as-i32-requires sub-i32-requires i32-as-i64-requires add-i64-requires returns)
