@@ -6,7 +6,7 @@ use mir.Val.{SFits}
 use Rattle.words.specs.Words.{wrap}
 use Rattle.words.proofs.Reading.{wrap-is}
 use Rattle.words.proofs.Sums.{wrap-add}
-use Rattle.wdf.specs.declared.Tpa.the-variants.{Z, B, B1, X, C, C1}
+use Rattle.wdf.specs.declared.tpa.Tpa.the-variants.{Z, B, B1, X, C, C1}
 use Rattle.wdf.specs.Adapters.{minus, scaled, ports, adapted}
 
 -- the difference d takes u to v

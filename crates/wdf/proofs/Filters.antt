@@ -10,10 +10,10 @@ use lib.Seq.{take-nil, getD-take, take-at, drop-at}
 use Rattle.blocks.specs.declared.Verdict.{Verdict}
 use Rattle.blocks.specs.Scan.{scan, ends}
 use Rattle.blocks.specs.Blocks.{blockNumber, Blocked}
-use Rattle.wdf.specs.declared.Wdf.{Wdf}
-use Rattle.wdf.specs.declared.Out.{Out}
-use Rattle.wdf.specs.declared.Out.the-variants.{Given}
-use Rattle.wdf.specs.declared.Stepped.{Stepped}
+use Rattle.wdf.specs.declared.filter.Wdf.{Wdf}
+use Rattle.wdf.specs.declared.filter.Out.{Out}
+use Rattle.wdf.specs.declared.filter.Out.the-variants.{Given}
+use Rattle.wdf.specs.declared.filter.Stepped.{Stepped}
 use Rattle.wdf.specs.Sections.{Section, sectionsOf, Passed, passed}
 use Rattle.wdf.specs.Calls.{number, filter, run, answer, next, stepped}
 use Rattle.wdf.proofs.Steps.{sections-length, cells-length, gives}

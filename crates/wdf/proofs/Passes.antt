@@ -8,7 +8,7 @@ use native.Mathlib.Omega.{arith}
 use lib.ListN.{length, take, drop, getD, set, length-set}
 use lib.Seq.{take-suc-set, drop-set-lt, drop-drop, getD-drop, set-split}
 use lib.IntN.{ℤ, pos}
-use Rattle.wdf.specs.declared.Ports.{Ports}
+use Rattle.wdf.specs.declared.tpa.Ports.{Ports}
 use Rattle.wdf.specs.Adapters.{adapted, codeOf}
 use Rattle.wdf.specs.Sections.{sectionsOf, Passed, passed}
 

@@ -9,9 +9,9 @@ use lib.Dec.{ltb}
 use lib.IntN.{ℤ}
 use lib.ListN.{length, length-append, length-drop}
 use Rattle.blocks.proofs.Ways.{kept}
-use Rattle.wdf.specs.declared.Wdf.{Wdf}
-use Rattle.wdf.specs.declared.Stepped.{Stepped}
-use Rattle.wdf.specs.declared.Out.the-variants.{Given, Refused}
+use Rattle.wdf.specs.declared.filter.Wdf.{Wdf}
+use Rattle.wdf.specs.declared.filter.Stepped.{Stepped}
+use Rattle.wdf.specs.declared.filter.Out.the-variants.{Given, Refused}
 use Rattle.wdf.specs.Sections.{Section, sectionsOf, passed}
 use Rattle.wdf.specs.Calls.{numberOf, number, answer, next, outOf, stepped}
 

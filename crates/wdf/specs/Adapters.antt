@@ -5,9 +5,9 @@ use lib.Dec.{eqb}
 use lib.IntN.{ℤ, _+ℤ_, _-ℤ_, _*ℤ_}
 use mir.Syntax.{w32}
 use Rattle.words.specs.Words.{wrap, floorDiv}
-use Rattle.wdf.specs.declared.Tpa.{Tpa}
-use Rattle.wdf.specs.declared.Tpa.the-variants.{Z, A, B, B1, X, C, C1, D}
-use Rattle.wdf.specs.declared.Ports.{Ports}
+use Rattle.wdf.specs.declared.tpa.Tpa.{Tpa}
+use Rattle.wdf.specs.declared.tpa.Tpa.the-variants.{Z, A, B, B1, X, C, C1, D}
+use Rattle.wdf.specs.declared.tpa.Ports.{Ports}
 
 abbrev pub plus : ℤ → ℤ → ℤ
 plus x y = wrap w32 (x +ℤ y)

@@ -7,11 +7,11 @@ use lib.ListN.{drop, replicate}
 use lib.IntN.{ℤ, pos}
 use Rattle.blocks.specs.Blocks.{unless}
 use Rattle.blocks.specs.Verdicts.{verdictOf}
-use Rattle.wdf.specs.declared.Wdf.{Wdf}
-use Rattle.wdf.specs.declared.Answer.{Answer}
-use Rattle.wdf.specs.declared.Out.{Out}
-use Rattle.wdf.specs.declared.Out.the-variants.{Given, Refused}
-use Rattle.wdf.specs.declared.Stepped.{Stepped}
+use Rattle.wdf.specs.declared.filter.Wdf.{Wdf}
+use Rattle.wdf.specs.declared.filter.Answer.{Answer}
+use Rattle.wdf.specs.declared.filter.Out.{Out}
+use Rattle.wdf.specs.declared.filter.Out.the-variants.{Given, Refused}
+use Rattle.wdf.specs.declared.filter.Stepped.{Stepped}
 use Rattle.wdf.specs.Sections.{sectionsOf, Passed, passed}
 
 -- 01, refusals: 50, more than 8 sections; 51, a nonzero nibble beyond the last section; 0 where there is none

@@ -3,7 +3,7 @@ use mathlib.Core.List.{List, [], _∷_}
 use Prim.Native.Nat.{ℕ, zero, suc, _/_, _%_}
 use lib.ListN.{getD, drop}
 use lib.IntN.{ℤ, pos}
-use Rattle.wdf.specs.declared.Tpa.{Tpa}
+use Rattle.wdf.specs.declared.tpa.Tpa.{Tpa}
 use Rattle.wdf.specs.Adapters.{adapted, codeOf}
 
 -- a section: its code, its coefficient and its cell

@@ -3,8 +3,8 @@ use borrow.Author.Tests.{ne-eqb}
 use Rattle.blocks.specs.Verdicts.{verdictOf}
 use Rattle.blocks.proofs.Ways.{refused}
 use Rattle.wdf.specs.Calls.{made}
-use Rattle.wdf.proofs.Wdf.new.Statement.{statement}
-use Rattle.wdf.proofs.Wdf.new.Tie as tie
+use Rattle.wdf.proofs.filter.Wdf.new.Statement.{statement}
+use Rattle.wdf.proofs.filter.Wdf.new.Tie as tie
 
 refusal-requires : tie.Need-refusal-requires
 refusal-requires c κs = search needs

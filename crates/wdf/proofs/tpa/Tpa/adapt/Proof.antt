@@ -5,8 +5,8 @@ use mir.Val.{toZ, ofZ}
 use mir.ValLaws.{toZ-ofZ}
 use Rattle.words.proofs.Reading.{read}
 use Rattle.wdf.specs.Adapters.{adapted}
-use Rattle.wdf.proofs.Tpa.adapt.Statement.{statement}
-use Rattle.wdf.proofs.Tpa.adapt.Tie as tie
+use Rattle.wdf.proofs.tpa.Tpa.adapt.Statement.{statement}
+use Rattle.wdf.proofs.tpa.Tpa.adapt.Tie as tie
 
 enum-told : tie.Need-enum-told
 enum-told c = search needs

@@ -1,8 +1,8 @@
 use borrow.Author.Needs.{needs}
 use mir.Syntax.{w32}
 use mir.ValLaws.{toZ-ofZ}
-use Rattle.wdf.proofs.section.Statement.{statement}
-use Rattle.wdf.proofs.section.Tie as tie
+use Rattle.wdf.proofs.filter.section.Statement.{statement}
+use Rattle.wdf.proofs.filter.section.Tie as tie
 
 cast-from : tie.Need-cast-from
 cast-from c = search needs

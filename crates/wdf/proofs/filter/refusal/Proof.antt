@@ -4,8 +4,8 @@ use mathlib.Core.Path.{_≡_}
 use Prim.Native.Nat.{_/_, _*_, _^_}
 use Rattle.wdf.specs.Calls.{numberOf}
 use Rattle.wdf.proofs.Nibbles.{four-bits}
-use Rattle.wdf.proofs.refusal.Statement.{statement}
-use Rattle.wdf.proofs.refusal.Tie as tie
+use Rattle.wdf.proofs.filter.refusal.Statement.{statement}
+use Rattle.wdf.proofs.filter.refusal.Tie as tie
 
 returns : tie.Need-returns
 unfolding numberOf

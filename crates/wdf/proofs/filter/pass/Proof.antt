@@ -8,11 +8,11 @@ use mir.Syntax.{w32}
 use mir.Val.{toZ, ofZ}
 use mir.ValLaws.{toZ-ofZ}
 use Rattle.words.proofs.Reading.{read}
-use Rattle.wdf.specs.declared.Ports.{Ports}
+use Rattle.wdf.specs.declared.tpa.Ports.{Ports}
 use Rattle.wdf.specs.Sections.{sectionsOf, passed}
 use Rattle.wdf.proofs.Passes.{section, Passing, begin, onward, finish}
-use Rattle.wdf.proofs.pass.Statement.{statement}
-use Rattle.wdf.proofs.pass.Tie as tie
+use Rattle.wdf.proofs.filter.pass.Statement.{statement}
+use Rattle.wdf.proofs.filter.pass.Tie as tie
 
 abbrev Inv-loop : tie.InvT-loop
 Inv-loop sections architecture a z₀ x last head going₀ left₀ i₀ z going left i =

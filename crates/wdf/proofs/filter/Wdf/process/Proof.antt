@@ -3,8 +3,8 @@ use mir.Syntax.{w32}
 use mir.ValLaws.{toZ-ofZ}
 use Rattle.words.proofs.Reading.{read}
 use Rattle.wdf.proofs.Steps.{few, refuses, gives}
-use Rattle.wdf.proofs.Wdf.step.Statement.{statement}
-use Rattle.wdf.proofs.Wdf.step.Tie as tie
+use Rattle.wdf.proofs.filter.Wdf.process.Statement.{statement}
+use Rattle.wdf.proofs.filter.Wdf.process.Tie as tie
 
 refusal-requires : tie.Need-refusal-requires
 refusal-requires c κs = search needs
@@ -26,5 +26,5 @@ returns-2 c =
     rw (read w32 (c .pass .result) (c .pass .ok), c .pass .ensures .0, c .pass .ensures .1, b)
     (gives (a .self) (a .x) (rw (k .ensures) at (e .if1 .left)))
 
-pub step-spec : {M : Type 1} → statement M
-step-spec = tie.close (tie.spec refusal-requires returns pass-requires returns-2)
+pub process-spec : {M : Type 1} → statement M
+process-spec = tie.close (tie.spec refusal-requires returns pass-requires returns-2)

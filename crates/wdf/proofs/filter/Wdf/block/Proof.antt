@@ -3,8 +3,8 @@ use mathlib.Core.Path.{sym, _∙_}
 use Rattle.blocks.proofs.Ways.{unlike, own, taken}
 use Rattle.wdf.specs.Calls.{number, answer, next, filter}
 use Rattle.wdf.proofs.Steps.{few}
-use Rattle.wdf.proofs.Wdf.block.Statement.{statement}
-use Rattle.wdf.proofs.Wdf.block.Tie as tie
+use Rattle.wdf.proofs.filter.Wdf.block.Statement.{statement}
+use Rattle.wdf.proofs.filter.Wdf.block.Tie as tie
 
 returns : tie.Need-returns
 returns c =

@@ -9,8 +9,8 @@ use Rattle.words.proofs.Reading.{read}
 use Rattle.blocks.proofs.Turns.{Going, start, turn, done}
 use Rattle.wdf.specs.Calls.{filter, answer, next}
 use Rattle.wdf.proofs.Steps.{next-length}
-use Rattle.wdf.proofs.run_block.Statement.{statement}
-use Rattle.wdf.proofs.run_block.Tie as tie
+use Rattle.wdf.proofs.filter.run_block.Statement.{statement}
+use Rattle.wdf.proofs.filter.run_block.Tie as tie
 
 abbrev Inv-loop : tie.InvT-loop
 Inv-loop sections architecture a z₀ xs ys₀ i₀ z ys i =

@@ -1,7 +1,7 @@
 use borrow.Author.Tests.{ne-eqb}
 use Rattle.wdf.specs.Adapters.{codeOf}
-use Rattle.wdf.proofs.Tpa.from.Statement.{statement}
-use Rattle.wdf.proofs.Tpa.from.Tie as tie
+use Rattle.wdf.proofs.tpa.Tpa.from.Statement.{statement}
+use Rattle.wdf.proofs.tpa.Tpa.from.Tie as tie
 
 returns : tie.Need-returns
 unfolding codeOf

@@ -2,8 +2,8 @@ use borrow.Author.Needs.{needs}
 use mir.Syntax.{w32, w64}
 use mir.ValLaws.{toZ-ofZ}
 use Rattle.words.proofs.Reading.{read}
-use Rattle.wdf.proofs.scale.Statement.{statement}
-use Rattle.wdf.proofs.scale.Tie as tie
+use Rattle.wdf.proofs.tpa.scale.Statement.{statement}
+use Rattle.wdf.proofs.tpa.scale.Tie as tie
 
 product-requires : tie.Need-product-requires
 product-requires c κs = search needs
