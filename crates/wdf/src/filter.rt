@@ -58,7 +58,7 @@ fn section(nibbles: u32, x: i32, cell: i32, coefficient: i32) -> Ports
 
 // One input through the sections: the answer comes back, and the cells of the sections are made anew.
 fn pass(sections: usize, architecture: u32, a: &[i32; 8], z: &mut [i32; 8], x: i32) -> i32
-    requires { ⌜ (sections ≤ 8) × (length (now a) ≡ 8) × (length (now z) ≡ 8) ⌝ }
+    requires { ⌜ (sections ≤ 8) × (length (now z) ≡ 8) ⌝ }
     ensures { λ r. ⌜ (r ≡ answer (filter sections architecture (now (a .entry)) (now (z .entry))) x)
         × (now (z .exit) ≡ next (filter sections architecture (now (a .entry)) (now (z .entry))) x .z) ⌝ }
 {
@@ -92,7 +92,7 @@ fn run_block(
     xs: &[i32],
     ys: &mut [i32],
 )
-    requires { ⌜ (sections ≤ 8) × (length (now a) ≡ 8) × (length (now z) ≡ 8) × (length (now xs) ≡ length (now ys)) ⌝ }
+    requires { ⌜ (sections ≤ 8) × (length (now z) ≡ 8) × (length (now xs) ≡ length (now ys)) ⌝ }
     ensures { λ r. ⌜ (filter sections architecture (now (a .entry)) (now (z .exit))
         ≡ ends answer next (filter sections architecture (now (a .entry)) (now (z .entry))) (now (xs .entry)))
         × (now (ys .exit) ≡ scan answer next (filter sections architecture (now (a .entry)) (now (z .entry))) (now (xs .entry))) ⌝ }

@@ -16,7 +16,7 @@ use Rattle.wdf.proofs.filter.pass.Tie as tie
 
 abbrev Inv-loop : tie.InvT-loop
 Inv-loop sections architecture a z₀ x last head going₀ left₀ i₀ z going left i =
-    ((sections ≤ 8) × (length a ≡ 8) × (length z₀ ≡ 8) × (last + 1 ≡ sections))
+    ((sections ≤ 8) × (length z₀ ≡ 8) × (last + 1 ≡ sections))
     × Passing last architecture a z₀ (toZ w32 x) (head .0) z (toZ w32 going) left i
 
 abbrev μ-loop : tie.MeasureT-loop
@@ -48,7 +48,7 @@ loop-holds c =
       read w32 (getD (a .z .now) 0 (pos 0)) (h .section-arg .given),
       read w32 (getD (a .a .now) 0 (pos 0)) (f .section-arg2 .given),
     ) in (
-      (s .pre .0, s .pre .1, s .pre .2, omega arith),
+      (s .pre .0, s .pre .1, omega arith),
       rw (read w32 (p .1) (c .struct-told .given .1 .0 .1))
           (begin (a .sections - 1) (a .architecture) (a .a .now) (a .z .now) (toZ w32 (ofZ w32 (a .x))) (omega arith) p e),
     )
@@ -108,7 +108,7 @@ returns-2 c =
     let at = c .before .before in let l = at .loop in let k = at .before .before in
     let s = k .before .before .before .before in let a = s .args in
     let y : ℤ = k .section .result .0 in
-    let n : a .sections - 1 + 1 ≡ a .sections = l .inv .0 .3 in
+    let n : a .sections - 1 + 1 ≡ a .sections = l .inv .0 .2 in
     let f = finish (a .sections - 1) (a .architecture) (a .a .now) (a .z .now) (toZ w32 (ofZ w32 (a .x))) (omega (arith, l .inv .0))
     y (l .z) (toZ w32 (l .going)) (l .left) (l .i) (l .inv .1) (c .before .loop-test .left) in
     let b = toZ-ofZ w32 (a .x) (s .fits .x) in

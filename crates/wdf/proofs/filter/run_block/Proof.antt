@@ -14,7 +14,7 @@ use Rattle.wdf.proofs.filter.run_block.Tie as tie
 
 abbrev Inv-loop : tie.InvT-loop
 Inv-loop sections architecture a z₀ xs ys₀ i₀ z ys i =
-    ((sections ≤ 8) × (length a ≡ 8) × (length z ≡ 8))
+    ((sections ≤ 8) × (length z ≡ 8))
     × Going answer next (filter sections architecture a z₀) xs ys (filter sections architecture a z) i
 
 abbrev μ-loop : tie.MeasureT-loop
@@ -23,7 +23,7 @@ abbrev μ-loop : tie.MeasureT-loop
 loop-holds : tie.Need-loop-holds Inv-loop μ-loop
 loop-holds c =
     let a = c .args in let p = c .pre in
-    ((p .0, p .1, p .2), start answer next (filter (a .sections) (a .architecture) (a .a .now) (a .z .now)) (a .xs .now) (a .ys .now) (sym (p .3)))
+    ((p .0, p .1), start answer next (filter (a .sections) (a .architecture) (a .a .now) (a .z .now)) (a .xs .now) (a .ys .now) (sym (p .2)))
 
 mul-x : tie.Need-mul-x Inv-loop μ-loop
 mul-x c = search needs
@@ -53,13 +53,13 @@ loop-again c =
     let x : ℤ = getD (a .xs .now) (l .i) (pos 0) in
     let b = read w32 x (c .before .before .x .given) in
     let z : c .pass .last .1 .1 .1 .0 ≡ next s x .z = rw b at (c .pass .ensures .1) in (
-      (l .inv .0 .0, l .inv .0 .1, ap length z ∙ next-length s x (omega (arith, l .inv .0)) ∙ l .inv .0 .2),
+      (l .inv .0 .0, ap length z ∙ next-length s x (omega (arith, l .inv .0)) ∙ l .inv .0 .1),
       rw (read w32 (c .pass .result) (c .pass .ok), c .pass .ensures .0, b, z)
           (turn answer next (filter (a .sections) (a .architecture) (a .a .now) (a .z .now)) (a .xs .now) (l .ys) s (l .i) (pos 0) (m .loop-test .taken) (l .inv .1)),
     )
 
 same-length : tie.Need-same-length Inv-loop μ-loop
-same-length c = c .before .loop .inv .1 .same ∙ c .before .before .pre .3
+same-length c = c .before .loop .inv .1 .same ∙ c .before .before .pre .2
 
 returns : tie.Need-returns Inv-loop μ-loop
 returns c =

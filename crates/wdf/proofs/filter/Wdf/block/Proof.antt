@@ -22,7 +22,7 @@ returns-2 c =
 run-block-requires : tie.Need-run-block-requires
 run-block-requires c κs =
     let e = c .before .before .before .before .before in let k = e .before .refusal in let d = e .before .before in let a = d .before .args in
-    (few (a .self .sections) (a .self .architecture) (rw (k .ensures) at (e .if2 .left)), search needs, search needs, d .if1 .left)
+    (few (a .self .sections) (a .self .architecture) (rw (k .ensures) at (e .if2 .left)), search needs, d .if1 .left)
 
 same-length : tie.Need-same-length
 same-length c = search needs

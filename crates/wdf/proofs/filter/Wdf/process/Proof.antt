@@ -17,7 +17,7 @@ returns c =
 pass-requires : tie.Need-pass-requires
 pass-requires c κs =
     let e = c .before .before .before .before in let k = e .before .refusal in let a = e .before .before .args in
-    (few (a .self .sections) (a .self .architecture) (rw (k .ensures) at (e .if1 .left)), search needs, search needs)
+    (few (a .self .sections) (a .self .architecture) (rw (k .ensures) at (e .if1 .left)), search needs)
 
 returns-2 : tie.Need-returns-2
 returns-2 c =
