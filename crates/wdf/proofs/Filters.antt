@@ -46,7 +46,7 @@ front (suc n) m cs zs =
       getD-take (suc n) zs 0 (pos 0) (omega arith),
       drop-take n cs,
       drop-take n zs,
-      front n (m / 16) (drop 1 cs) (drop 1 zs),
+      front n,
     )
 
 -- two filters that have the same sections

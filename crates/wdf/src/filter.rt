@@ -10,11 +10,15 @@ ghost use Rattle.blocks.specs.Blocks.{Blocked};
 ghost use Rattle.wdf.specs.Adapters.{adapted, codeOf};
 ghost use Rattle.wdf.specs.Calls.{numberOf, number, filter, made, answer, next, stepped};
 
-// A filter: the count of its sections, their nibbles with the first section lowest, the bits of their coefficients, their cells.
+// A filter. Coefficients and cells beyond its sections are kept and never matter.
 pub struct Wdf {
+    // How many sections there are, up to 8.
     pub sections: usize,
+    // A nibble for each section, the first one lowest, and no other.
     pub architecture: u32,
+    // The coefficients, in units of 2^-32.
     pub a: [i32; 8],
+    // The cells.
     pub z: [i32; 8],
 }
 
@@ -36,7 +40,7 @@ pub struct Stepped {
     pub out: Out,
 }
 
-// The number of the first test that fails, or 0.
+// The number of the first test that a filter fails, or 0.
 fn refusal(sections: usize, architecture: u32) -> u32
     ensures { λ r. ⌜ r ≡ numberOf sections architecture ⌝ }
 {
@@ -106,7 +110,8 @@ fn run_block(
 }
 
 impl Wdf {
-    // A filter of these sections, with all eight coefficients as given and cells of zero. A refused one is all zero.
+    // A filter of these sections, with all eight coefficients as given and cells of zero.
+    // 50 where there are more than 8 sections, 51 where a nibble beyond the last is not zero: the filter is all zero.
     pub fn new(sections: usize, architecture: u32, a: [i32; 8]) -> Answer
         ensures { λ r. ⌜ r ≡ made sections architecture a ⌝ }
     {
@@ -133,7 +138,8 @@ impl Wdf {
         }
     }
 
-    // Takes the input x: the output, and the filter with the cells of its sections made anew. A refused step changes nothing.
+    // Takes the input x: the output, and the filter with the cells of its sections made anew.
+    // A refused step, 50 or 51, changes nothing.
     pub fn process(self, x: i32) -> Stepped
         ensures { λ r. ⌜ r ≡ stepped self x ⌝ }
     {
@@ -160,7 +166,8 @@ impl Wdf {
         }
     }
 
-    // Takes the inputs in turn and writes their outputs. 31 where the slices differ in length, then 50 and 51: nothing is written.
+    // Takes the inputs in turn and writes their outputs.
+    // 31 where the slices differ in length, then 50 and 51: nothing is written or changed.
     pub fn block(self, xs: &[i32], ys: &mut [i32]) -> Answer
         ensures { λ r. ⌜ Blocked (number self) answer next self (now (xs .entry)) (now (ys .entry)) (r .state) (r .verdict) (now (ys .exit)) ⌝ }
     {

@@ -6,7 +6,8 @@ use Rattle.compare_wdf.proofs.compare.Statement.{statement}
 use Rattle.compare_wdf.proofs.compare.Tie as tie
 
 abbrev Inv-loop : tie.InvT-loop
-Inv-loop text code by-blocks name cases₀ differ₀ line₀ cases differ line = (line ≤ 700) × ((cases ≤ line * 4294967295) × (differ ≤ line))
+Inv-loop text code by-blocks name cases₀ differ₀ line₀ cases differ line =
+    (line ≤ 700) × ((cases ≤ line * 4294967295) × (differ ≤ line))
 
 abbrev μ-loop : tie.MeasureT-loop
 μ-loop text code by-blocks name cases₀ differ₀ line₀ cases differ line = 700 - line

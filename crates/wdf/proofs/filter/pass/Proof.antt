@@ -94,7 +94,7 @@ loop-again c =
       l .inv .0,
       rw (read w32 (p .0) (q .struct-told2 .given .0 .1), read w32 (p .1) (c .struct-told3 .given .1 .0 .1))
           (onward (a .sections - 1) (a .architecture) (a .a .now) (a .z .now) (toZ w32 (ofZ w32 (a .x))) (omega (arith, l .inv .0))
-          (at .before .before .section .result .0) (l .z) (toZ w32 (l .going)) (l .left) (l .i) (l .inv .1) p (m .loop-test .taken) e),
+          (at .before .before .section .result .0) (l .z) (toZ w32 (l .going)) (l .left) (l .i) (l .inv .1) p (omega (arith, m .loop-test .taken)) e),
     )
 
 mul-going : tie.Need-mul-going Inv-loop μ-loop
@@ -110,7 +110,7 @@ returns-2 c =
     let y : ℤ = k .section .result .0 in
     let n : a .sections - 1 + 1 ≡ a .sections = l .inv .0 .2 in
     let f = finish (a .sections - 1) (a .architecture) (a .a .now) (a .z .now) (toZ w32 (ofZ w32 (a .x))) (omega (arith, l .inv .0))
-    y (l .z) (toZ w32 (l .going)) (l .left) (l .i) (l .inv .1) (c .before .loop-test .left) in
+    y (l .z) (toZ w32 (l .going)) (l .left) (l .i) (l .inv .1) (omega (arith, c .before .loop-test .left)) in
     let b = toZ-ofZ w32 (a .x) (s .fits .x) in
     (read w32 y (c .struct-told4 .given .0 .1) ∙ rw (n, b) at (l .inv .1 .answer), rw (n, b) at f)
 

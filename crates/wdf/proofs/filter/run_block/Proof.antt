@@ -22,8 +22,8 @@ abbrev μ-loop : tie.MeasureT-loop
 
 loop-holds : tie.Need-loop-holds Inv-loop μ-loop
 loop-holds c =
-    let a = c .args in let p = c .pre in
-    ((p .0, p .1), start answer next (filter (a .sections) (a .architecture) (a .a .now) (a .z .now)) (a .xs .now) (a .ys .now) (sym (p .2)))
+    let a = c .args in let p = c .pre in let s₀ = filter (a .sections) (a .architecture) (a .a .now) (a .z .now) in
+    ((p .0, p .1), start answer next s₀ (a .xs .now) (a .ys .now) (sym (p .2)))
 
 mul-x : tie.Need-mul-x Inv-loop μ-loop
 mul-x c = search needs
@@ -49,13 +49,14 @@ loop-less c = search needs
 loop-again : tie.Need-loop-again Inv-loop μ-loop
 loop-again c =
     let m = c .before .before .before in let l = m .before .loop in let a = m .before .before .args in
+    let s₀ = filter (a .sections) (a .architecture) (a .a .now) (a .z .now) in
     let s = filter (a .sections) (a .architecture) (a .a .now) (l .z) in
     let x : ℤ = getD (a .xs .now) (l .i) (pos 0) in
     let b = read w32 x (c .before .before .x .given) in
     let z : c .pass .last .1 .1 .1 .0 ≡ next s x .z = rw b at (c .pass .ensures .1) in (
       (l .inv .0 .0, ap length z ∙ next-length s x (omega (arith, l .inv .0)) ∙ l .inv .0 .1),
       rw (read w32 (c .pass .result) (c .pass .ok), c .pass .ensures .0, b, z)
-          (turn answer next (filter (a .sections) (a .architecture) (a .a .now) (a .z .now)) (a .xs .now) (l .ys) s (l .i) (pos 0) (m .loop-test .taken) (l .inv .1)),
+          (turn answer next s₀ (a .xs .now) (l .ys) s (l .i) (pos 0) (m .loop-test .taken) (l .inv .1)),
     )
 
 same-length : tie.Need-same-length Inv-loop μ-loop

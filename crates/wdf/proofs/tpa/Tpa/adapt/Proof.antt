@@ -1,5 +1,6 @@
 use borrow.Author.Needs.{needs}
 use mathlib.Core.Path.{_≡_, _∙_}
+use lib.IntN.{ℤ}
 use mir.Syntax.{w32}
 use mir.Val.{toZ, ofZ}
 use mir.ValLaws.{toZ-ofZ}
@@ -104,9 +105,11 @@ add-i32-requires-8 c κs = search needs
 enum-told-8 : tie.Need-enum-told-8
 enum-told-8 c = search needs
 
--- the inputs, as they were passed
-inputs : (s : tie.Start)
-    → (toZ w32 (ofZ w32 (s .args .x0)) ≡ s .args .x0) × (toZ w32 (ofZ w32 (s .args .x1)) ≡ s .args .x1) × (toZ w32 (ofZ w32 (s .args .a)) ≡ s .args .a)
+-- a number that was passed is itself
+abbrev passed : ℤ → Type 0
+passed z = toZ w32 (ofZ w32 z) ≡ z
+
+inputs : (s : tie.Start) → passed (s .args .x0) × passed (s .args .x1) × passed (s .args .a)
 inputs s = (toZ-ofZ w32 (s .args .x0) (s .fits .x0), toZ-ofZ w32 (s .args .x1) (s .fits .x1), toZ-ofZ w32 (s .args .a) (s .fits .a))
 
 returns : tie.Need-returns
