@@ -1,5 +1,5 @@
 -- What a state that is not refused has.
-use mathlib.Core.Path.{_≡_, refl}
+use mathlib.Core.Path.{_≡_, refl, sym, _∙_}
 use mathlib.Core.Bool.{Bool, true, false, cond, _||_}
 use Prim.Native.Nat.{ℕ, zero, suc, _*_, _≤_, _<_}
 use native.Mathlib.Nat.{mul-le-mul}
@@ -8,7 +8,7 @@ use lib.Dec.{ltb, eqb}
 use borrow.Author.Tests.{ltb-false, eqb-false, le-ltb, ne-eqb}
 use mir.Syntax.{w64}
 use mir.Val.{Fits}
-use Rattle.sums.specs.State.{refusalOf}
+use Rattle.sums.specs.State.{State, refusalOf, refusal}
 
 pub record Sound (order delay rate countdown unsettled : ℕ) : Type 0 where
   pub few : order ≤ 8
@@ -62,3 +62,14 @@ accepts o d r c u h =
 
 pub small : (a b : ℕ) → a ≤ 8 → b ≤ 8 → Fits w64 (a * b)
 small a b h k = record { fits = omega (arith, mul-le-mul h k) }
+
+abbrev pub Good : {A : Type 0} → State A → Type 0
+Good s = Sound (s .order) (s .delay) (s .rate) (s .countdown) (s .unsettled)
+
+-- k is the number that the code found
+pub good : {A : Type 0} (s : State A) (k : ℕ) → k ≡ refusal s → k ≡ 0 → Good s
+good s k e z = sound (s .order) (s .delay) (s .rate) (s .countdown) (s .unsettled) (sym e ∙ z)
+
+-- the tests before the unsettled count
+pub early : {A : Type 0} (s : State A) → refusalOf (s .order) (s .delay) (s .rate) (s .countdown) 0 ≡ 0 → Sound (s .order) (s .delay) (s .rate) (s .countdown) 0
+early s e = sound (s .order) (s .delay) (s .rate) (s .countdown) 0 e
