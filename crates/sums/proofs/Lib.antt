@@ -1,0 +1,3 @@
+pub mod Shapes
+pub mod Arrays
+pub mod Loops
