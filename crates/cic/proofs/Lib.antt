@@ -1,3 +1,4 @@
 pub mod Refusals
 pub mod Ways
 pub mod Numbers
+pub mod Lines
