@@ -1,4 +1,3 @@
-pub mod Refusals
 pub mod Ways
 pub mod Numbers
 pub mod Lines

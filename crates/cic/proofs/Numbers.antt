@@ -60,3 +60,6 @@ module _ (g p : ℕ) (e : p ≡ min g (2 ^ 63)) where
 
   pub capped-is : p ≤ 2 ^ 63 - 1 → p ≡ g
   capped-is h = ⊎-elim (λ z. e ∙ min-eq-left {n = g} {m = 2 ^ 63} (omega arith)) (λ z. absurd (omega (arith, min-eq-right {n = 2 ^ 63} {m = g} (omega arith)))) (eq-zero-or-pos (g - 2 ^ 63))
+
+pub small : (a b : ℕ) → a ≤ 8 → b ≤ 8 → Fits w64 (a * b)
+small a b h k = product-fits a b 8 8 h k (omega arith)

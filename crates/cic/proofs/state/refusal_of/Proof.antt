@@ -1,6 +1,6 @@
 use borrow.Author.Tests.{lt-ltb, le-ltb, eq-eqb, ne-eqb}
 use Rattle.sums.specs.State.{refusalOf}
-use Rattle.cic.proofs.Refusals.{small}
+use Rattle.cic.proofs.Numbers.{small}
 use Rattle.cic.proofs.state.refusal_of.Statement.{statement}
 use Rattle.cic.proofs.state.refusal_of.Tie as tie
 

@@ -8,13 +8,13 @@ use Rattle.sums.specs.State.{refusal}
 use Rattle.sums.specs.Calls.{fitNumber, fits, gainLog2}
 use Rattle.cic.specs.Reading.{stateOf}
 use Rattle.cic.proofs.Numbers.{length-most}
-use Rattle.cic.proofs.Refusals.{Good, good}
+use Rattle.sums.proofs.Refusals.{Good, good}
 use Rattle.cic.proofs.Ways.{unfit, fitted}
 use Rattle.cic.proofs.state.Cic.fit.Statement.{statement}
 use Rattle.cic.proofs.state.Cic.fit.Tie as tie
 
 fine : (c : tie.Else1) → Good (stateOf (c .before .before .args .self))
-fine c = good (stateOf (c .before .before .args .self)) (c .before .refusal .result) (c .before .refusal .ensures) (c .if1 .left)
+fine c = good (stateOf (c .before .before .args .self)) (sym (c .before .refusal .ensures) ∙ c .if1 .left)
 
 none : (c : tie.Else1) → refusal (stateOf (c .before .before .args .self)) ≡ 0
 none c = sym (c .before .refusal .ensures) ∙ c .if1 .left

@@ -7,13 +7,13 @@ use Rattle.sums.specs.State.{refusalOf, refusal}
 use Rattle.sums.specs.Calls.{gain, gainNumber}
 use Rattle.cic.specs.Reading.{stateOf}
 use Rattle.cic.proofs.Numbers.{span-some, capped-over, capped-is}
-use Rattle.cic.proofs.Refusals.{Sound, early}
+use Rattle.sums.proofs.Refusals.{Sound, sound}
 use Rattle.cic.proofs.Ways.{untold, tells}
 use Rattle.cic.proofs.state.Cic.gain.Statement.{statement}
 use Rattle.cic.proofs.state.Cic.gain.Tie as tie
 
 fine : (c : tie.Else1) → let s = c .before .before .args .self in Sound (s .order) (s .delay) (s .rate) (s .countdown) 0
-fine c = early (stateOf (c .before .before .args .self)) (sym (c .before .refusal-of .ensures) ∙ c .if1 .left)
+fine c = let s = c .before .before .args .self in sound (s .order) (s .delay) (s .rate) (s .countdown) 0 (sym (c .before .refusal-of .ensures) ∙ c .if1 .left)
 
 none : (c : tie.Else1) → let s = c .before .before .args .self in refusalOf (s .order) (s .delay) (s .rate) (s .countdown) 0 ≡ 0
 none c = sym (c .before .refusal-of .ensures) ∙ c .if1 .left

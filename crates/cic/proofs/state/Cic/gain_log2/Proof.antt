@@ -2,13 +2,13 @@ use borrow.Author.Needs.{needs}
 use mathlib.Core.Path.{sym, _∙_}
 use Rattle.sums.specs.Calls.{gainLog2}
 use Rattle.cic.specs.Reading.{stateOf}
-use Rattle.cic.proofs.Refusals.{Good, good}
+use Rattle.sums.proofs.Refusals.{Good, good}
 use Rattle.cic.proofs.Ways.{untold, tells}
 use Rattle.cic.proofs.state.Cic.gain_log2.Statement.{statement}
 use Rattle.cic.proofs.state.Cic.gain_log2.Tie as tie
 
 fine : (c : tie.Else1) → Good (stateOf (c .before .before .args .self))
-fine c = good (stateOf (c .before .before .args .self)) (c .before .refusal .result) (c .before .refusal .ensures) (c .if1 .left)
+fine c = good (stateOf (c .before .before .args .self)) (sym (c .before .refusal .ensures) ∙ c .if1 .left)
 
 refusal-requires : tie.Need-refusal-requires
 refusal-requires c κs = search needs

@@ -9,13 +9,13 @@ use mir.Val.{toZ, ofZ}
 use Rattle.sums.specs.Calls.{currentAt}
 use Rattle.words.proofs.Reading.{read}
 use Rattle.cic.specs.Reading.{stateOf, i32Ops}
-use Rattle.cic.proofs.Refusals.{Good, good}
+use Rattle.sums.proofs.Refusals.{Good, good}
 use Rattle.cic.proofs.Ways.{unheard, heard, current-last}
 use Rattle.cic.proofs.state.Cic.get_interpolate.Statement.{statement}
 use Rattle.cic.proofs.state.Cic.get_interpolate.Tie as tie
 
 fine : (c : tie.Else1) → Good (stateOf (c .before .before .args .self))
-fine c = good (stateOf (c .before .before .args .self)) (c .before .refusal .result) (c .before .refusal .ensures) (c .if1 .left)
+fine c = good (stateOf (c .before .before .args .self)) (sym (c .before .refusal .ensures) ∙ c .if1 .left)
 
 refusal-requires : tie.Need-refusal-requires
 refusal-requires c κs = search needs

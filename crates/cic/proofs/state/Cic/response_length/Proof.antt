@@ -6,13 +6,13 @@ use native.Mathlib.Omega.{arith}
 use Rattle.sums.specs.Calls.{responseLength}
 use Rattle.cic.specs.Reading.{stateOf}
 use Rattle.cic.proofs.Numbers.{span-fits, span-some, product-fits}
-use Rattle.cic.proofs.Refusals.{Good, good}
+use Rattle.sums.proofs.Refusals.{Good, good}
 use Rattle.cic.proofs.Ways.{untold, tells}
 use Rattle.cic.proofs.state.Cic.response_length.Statement.{statement}
 use Rattle.cic.proofs.state.Cic.response_length.Tie as tie
 
 fine : (c : tie.Else1) → Good (stateOf (c .before .before .args .self))
-fine c = good (stateOf (c .before .before .args .self)) (c .before .refusal .result) (c .before .refusal .ensures) (c .if1 .left)
+fine c = good (stateOf (c .before .before .args .self)) (sym (c .before .refusal .ensures) ∙ c .if1 .left)
 
 refusal-requires : tie.Need-refusal-requires
 refusal-requires c κs = search needs

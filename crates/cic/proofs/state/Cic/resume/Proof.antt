@@ -5,7 +5,8 @@ use mir.ValLaws.{toZ-ofZ}
 use Rattle.sums.specs.State.{blank}
 use Rattle.sums.specs.Calls.{resumeNumber, resumeState}
 use Rattle.cic.specs.Reading.{i32Ops}
-use Rattle.cic.proofs.Refusals.{sound, small}
+use Rattle.sums.proofs.Refusals.{sound}
+use Rattle.cic.proofs.Numbers.{small}
 use Rattle.cic.proofs.Ways.{refuses, takes}
 use Rattle.cic.proofs.state.Cic.resume.Statement.{statement}
 use Rattle.cic.proofs.state.Cic.resume.Tie as tie

@@ -3,7 +3,8 @@ use mathlib.Core.Path.{_≡_, refl, sym, _∙_}
 use Prim.Native.Nat.{max}
 use Rattle.sums.specs.Calls.{rateNumber, rateState}
 use Rattle.cic.specs.Reading.{stateOf}
-use Rattle.cic.proofs.Refusals.{sound, small}
+use Rattle.sums.proofs.Refusals.{sound}
+use Rattle.cic.proofs.Numbers.{small}
 use Rattle.cic.proofs.Ways.{refuses, takes}
 use Rattle.cic.proofs.state.Cic.set_rate.Statement.{statement}
 use Rattle.cic.proofs.state.Cic.set_rate.Tie as tie
