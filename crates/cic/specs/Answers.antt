@@ -1,9 +1,14 @@
 -- What each call answers, by its number (0: accepted) and its value. A refused question gives its number alone.
 use mathlib.Core.Bool.{Bool}
+use mathlib.Core.Option.{Option, none, some}
 use Prim.Native.Nat.{ℕ, zero, suc}
 use lib.IntN.{ℤ}
 use Rattle.blocks.specs.Verdicts.{verdictOf}
-use Rattle.sums.specs.State.{State}
+use Rattle.sums.specs.Machine.{Output}
+use Rattle.sums.specs.State.{State, refusal}
+use Rattle.sums.specs.Calls.{stepState, stepGiven, riseNumber, riseState}
+use Rattle.sums.specs.Calls as Calls
+use Rattle.cic.specs.declared.state.Cic.{Cic}
 use Rattle.cic.specs.declared.state.Made.{Made}
 use Rattle.cic.specs.declared.questions.Told.{Told}
 use Rattle.cic.specs.declared.questions.Told.the-variants as Told
@@ -11,7 +16,13 @@ use Rattle.cic.specs.declared.questions.Interpolated.{Interpolated}
 use Rattle.cic.specs.declared.questions.Interpolated.the-variants as Interpolated
 use Rattle.cic.specs.declared.questions.Fitting.{Fitting}
 use Rattle.cic.specs.declared.questions.Fitting.the-variants as Fitting
-use Rattle.cic.specs.Reading.{cicOf}
+use Rattle.cic.specs.declared.steps.Out.{Out}
+use Rattle.cic.specs.declared.steps.Out.the-variants as Out
+use Rattle.cic.specs.declared.steps.Sample.{Sample}
+use Rattle.cic.specs.declared.steps.Sample.the-variants as Sample
+use Rattle.cic.specs.declared.steps.Stepped.{Stepped}
+use Rattle.cic.specs.declared.steps.Risen.{Risen}
+use Rattle.cic.specs.Reading.{i32Ops, stateOf, cicOf}
 
 -- A maker or a call on a state.
 abbrev pub madeOf : ℕ → State ℤ → Made
@@ -29,3 +40,32 @@ interpolatedOf (suc k) y = Interpolated.Refused (suc k)
 unfoldable pub fittingOf : ℕ → Bool → Fitting
 fittingOf zero b = Fitting.Fits b
 fittingOf (suc k) b = Fitting.Refused (suc k)
+
+-- The decimator's step: one output with its mark, or nothing at all.
+unfoldable pub outOf : ℕ → Option (Output ℤ) → Out
+outOf zero (some y) = Out.Given (y .value) (y .settled)
+outOf zero none = Out.Nothing
+outOf (suc k) y = Out.Refused (suc k)
+
+abbrev pub steppedOf : Cic → ℤ → Stepped
+steppedOf s x = record {
+  state = cicOf (stepState i32Ops (stateOf s) x);
+  out = outOf (refusal (stateOf s)) (stepGiven i32Ops (stateOf s) x);
+}
+
+-- The interpolator's step, with a sample or with none.
+abbrev pub sampleOf : Sample → Option ℤ
+sampleOf (Sample.Given x) = some x
+sampleOf Sample.Missing = none
+
+abbrev pub liftedOf : Cic → Option ℤ → Risen
+liftedOf s x = record {
+  state = cicOf (riseState i32Ops (stateOf s) x);
+  out = interpolatedOf 0 (Calls.risenOf i32Ops (stateOf s) x);
+}
+
+abbrev pub risenOf : Cic → Sample → Risen
+risenOf s x = record {
+  state = cicOf (riseState i32Ops (stateOf s) (sampleOf x));
+  out = interpolatedOf (riseNumber (stateOf s) (sampleOf x)) (Calls.risenOf i32Ops (stateOf s) (sampleOf x));
+}
