@@ -2,3 +2,5 @@ pub mod Ways
 pub mod Numbers
 pub mod Lines
 pub mod Turning
+pub mod Running
+pub mod Blocks

@@ -2,12 +2,15 @@
 use mathlib.Core.Bool.{Bool}
 use mathlib.Core.Option.{Option, none, some}
 use Prim.Native.Nat.{ℕ, zero, suc}
+use mathlib.Core.List.{List}
 use lib.IntN.{ℤ}
+use lib.ListN.{length}
 use Rattle.blocks.specs.Verdicts.{verdictOf}
 use Rattle.sums.specs.Machine.{Output}
 use Rattle.sums.specs.State.{State, refusal}
 use Rattle.sums.specs.Calls.{stepState, stepGiven, riseNumber, riseState}
 use Rattle.sums.specs.Calls as Calls
+use Rattle.sums.specs.Runs.{needed, blockNumber, blockState, fillNumber, fillState}
 use Rattle.cic.specs.declared.state.Cic.{Cic}
 use Rattle.cic.specs.declared.state.Made.{Made}
 use Rattle.cic.specs.declared.questions.Told.{Told}
@@ -22,6 +25,12 @@ use Rattle.cic.specs.declared.steps.Sample.{Sample}
 use Rattle.cic.specs.declared.steps.Sample.the-variants as Sample
 use Rattle.cic.specs.declared.steps.Stepped.{Stepped}
 use Rattle.cic.specs.declared.steps.Risen.{Risen}
+use Rattle.cic.specs.declared.runs.Wrote.{Wrote}
+use Rattle.cic.specs.declared.runs.Wrote.the-variants as Wrote
+use Rattle.cic.specs.declared.runs.Decimated.{Decimated}
+use Rattle.cic.specs.declared.runs.Read.{Read}
+use Rattle.cic.specs.declared.runs.Read.the-variants as Read
+use Rattle.cic.specs.declared.runs.Filled.{Filled}
 use Rattle.cic.specs.Reading.{i32Ops, stateOf, cicOf}
 
 -- A maker or a call on a state.
@@ -68,4 +77,26 @@ abbrev pub risenOf : Cic → Sample → Risen
 risenOf s x = record {
   state = cicOf (riseState i32Ops (stateOf s) (sampleOf x));
   out = interpolatedOf (riseNumber (stateOf s) (sampleOf x)) (Calls.risenOf i32Ops (stateOf s) (sampleOf x));
+}
+
+-- The decimator's block answers the count written and the unsettled count found before it.
+unfoldable pub wroteOf : ℕ → ℕ → ℕ → Wrote
+wroteOf zero written unsettled = Wrote.Outputs written unsettled
+wroteOf (suc k) written unsettled = Wrote.Refused (suc k)
+
+abbrev pub decimatedOf : Cic → List ℤ → List ℤ → Decimated
+decimatedOf s xs out = record {
+  state = cicOf (blockState i32Ops (stateOf s) xs out);
+  wrote = wroteOf (blockNumber (stateOf s) xs out) (needed (length xs) (s .countdown) (s .rate)) (s .unsettled);
+}
+
+-- The interpolator's block answers the count of inputs read.
+unfoldable pub readOf : ℕ → ℕ → Read
+readOf zero count = Read.Inputs count
+readOf (suc k) count = Read.Refused (suc k)
+
+abbrev pub filledOf : Cic → List ℤ → List ℤ → Filled
+filledOf s xs out = record {
+  state = cicOf (fillState i32Ops (stateOf s) xs out);
+  read = readOf (fillNumber (stateOf s) xs out) (needed (length out) (s .countdown) (s .rate));
 }
