@@ -7,3 +7,16 @@ pub mod Counts
 pub mod Blocks
 pub mod Fills
 pub mod Stretches
+pub mod Groups
+pub mod Sequences
+pub mod Cascade
+pub mod Zeros
+pub mod Traces
+pub mod Carried
+pub mod Alone
+pub mod Settling
+pub mod Makers
+pub mod Demands
+pub mod Climbs
+pub mod Rising
+pub mod Interpolating

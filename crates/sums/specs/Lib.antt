@@ -5,3 +5,4 @@ pub mod Moving
 pub mod State
 pub mod Calls
 pub mod Runs
+pub mod Demands
