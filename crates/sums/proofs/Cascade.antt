@@ -18,7 +18,7 @@ prep [] v n = v n
 prep (a ∷ l) v zero = a
 prep (a ∷ l) v (suc n) = prep l v n
 
-prep-past : {A : Type 0} (l : List A) (v : ℕ → A) (k : ℕ) → prep l v (k + length l) ≡ v k
+pub prep-past : {A : Type 0} (l : List A) (v : ℕ → A) (k : ℕ) → prep l v (k + length l) ≡ v k
 unfolding prep
 prep-past [] v k = ap v (add-zero k)
 prep-past (a ∷ l) v k = ap (prep (a ∷ l) v) (add-suc k (length l)) ∙ prep-past l v k

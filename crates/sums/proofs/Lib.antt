@@ -20,3 +20,7 @@ pub mod Demands
 pub mod Climbs
 pub mod Rising
 pub mod Interpolating
+pub mod Constant
+pub mod Tight
+pub mod Sizes
+pub mod Figures

@@ -28,7 +28,7 @@ use Rattle.sums.proofs.Traces.{output, outcome, outputs-are, output-set
 use Rattle.sums.proofs.Carried.{exactLaws, list-in, take-in, rows-in, output-wraps}
 
 -- the count, read backwards: output k is there exactly when input c + k R is
-needed-falls : (L c r k : ℕ) → ltb k (needed L c r) ≡ ltb (c + k * suc r) L
+pub needed-falls : (L c r k : ℕ) → ltb k (needed L c r) ≡ ltb (c + k * suc r) L
 needed-falls zero c r k = rw needed-none (leb·suc-zero k ∙ sym (leb·suc-zero (c + k * suc r)))
 needed-falls (suc L) (suc c) r k =
     let e : needed (suc L) (suc c) r ≡ needed L c r = needed-wait L (suc c) r (omega arith) ∙ ap (λ n. needed L n r) (omega arith) in

@@ -20,7 +20,7 @@ module _ {A : Type 0} (o : Ops A) where
   unfoldable pub late : ℕ → (ℕ → A) → ℕ → A
   late L f = prep (replicate L (o .nil)) f
 
-  late-none : (f : ℕ → A) (t : ℕ) → late 0 f t ≡ f t
+  pub late-none : (f : ℕ → A) (t : ℕ) → late 0 f t ≡ f t
   unfolding late prep
   late-none f t = refl
 

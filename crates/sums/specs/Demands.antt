@@ -6,7 +6,7 @@ use mathlib.Core.List.{List, [], _∷_, _++_}
 use mathlib.Core.Option.{Option, none, some}
 use Prim.Native.Nat.{ℕ, suc, _+_, _-_, _*_, _^_, _≤_, _<_}
 use lib.Dec.{ltb, leb}
-use lib.IntN.{ℤ, pos, _*ℤ_}
+use lib.IntN.{ℤ, pos, negsuc, _*ℤ_}
 use lib.Signed.{mag}
 use lib.ListN.{length, getD, getElem?, take, replicate}
 use mir.Syntax.{Width, w32}
@@ -145,12 +145,18 @@ pub record Misleads (w : Width) (N M rate countdown : ℕ) : Type 0 where
 abbrev pub Demand3Tight : Type 0
 Demand3Tight = (w : Width) (N M rate countdown : ℕ) → resumeNumber N M rate countdown ≡ 0 → 1 ≤ N → Misleads w N M rate countdown
 
--- The demands are of decimator calls alone: an interpolator's step leaves the unsettled count, and a decimator's output after it can
--- be marked settled without being the moving sum. N 1, M 2, rate 0, new: an interpolator's step on 1, then a decimator's step on 0.
+-- The demands are of decimator calls alone: an interpolator's step leaves the unsettled count, and a decimator's output after it can be
+-- marked settled without being the moving sum. From new, N 1, M 2, rate 0: an interpolator's step on 1 and a decimator's step on 0 give 1,
+-- where the moving sum is 0; and so after decimator's steps on 1 and 0, an interpolator's step on 0 and a decimator's step on 0 there comes -1.
 abbrev pub Between : Type 0
 Between =
-    stepGiven (signedOps w32) (riseState (signedOps w32) (newState (signedOps w32) 1 2 0) (some (pos 1))) (pos 0)
-    ≡ some (record { value = pos 1; settled = true })
+    let o : Ops ℤ = signedOps w32 in
+    let new : State ℤ = newState o 1 2 0 in
+    (stepGiven o (riseState o new (some (pos 1))) (pos 0) ≡ some (record { value = pos 1; settled = true }))
+    × (moving exactOps 2 1 (input (pos 0 ∷ [])) 0 ≡ pos 0)
+    × (stepGiven o (riseState o (stepState o (stepState o new (pos 1)) (pos 0)) (some (pos 0))) (pos 0) ≡ some (record { value = negsuc 0; settled = true }))
+    × (moving exactOps 2 1 (input (pos 1 ∷ pos 0 ∷ pos 0 ∷ [])) 2 ≡ pos 0)
+    × (moving exactOps 2 1 (input (pos 1 ∷ pos 0 ∷ pos 0 ∷ pos 0 ∷ [])) 3 ≡ pos 0)
 
 -- gain_log2 bounds the gain.
 abbrev pub GainBound : Type 0
@@ -170,10 +176,11 @@ FitNotExact =
     (fits (newState (signedOps w32) 3 1 2) 32 27 ≡ false)
     × ((x : ℕ → ℤ) → ((t : ℕ) → mag (x t) < 2 ^ 26) → (t : ℕ) → wrap w32 (moving exactOps 3 3 x t) ≡ moving exactOps 3 3 x t)
 
--- After settle_interpolate on x, interpolator calls whose samples are all x give x times gain at every step.
+-- After settle_interpolate on x, interpolator calls whose samples are all x give x times gain, modulo 2 ^ w, at every step.
+abbrev pub Stream : Width → State ℤ → ℤ → ℤ → Type 0
+Stream w s x v =
+    (calls : List Rise) (n : ℕ) → along (lifts (signedOps w)) samples s calls ≡ replicate n x
+    → (t : ℕ) (y : ℤ) → getElem? (along (lifts (signedOps w)) (yields (signedOps w)) s calls) t ≡ some y → y ≡ v
+
 abbrev pub Settled : Type 0
-Settled =
-    (w : Width) (s : State ℤ) (x : ℤ) → refusal s ≡ 0 → SFits w x
-    → (calls : List Rise) (n : ℕ) → along (lifts (signedOps w)) samples (settleState (signedOps w) s x) calls ≡ replicate n x
-    → (t : ℕ) (y : ℤ) → getElem? (along (lifts (signedOps w)) (yields (signedOps w)) (settleState (signedOps w) s x) calls) t ≡ some y
-    → y ≡ wrap w (pos (gain s) *ℤ x)
+Settled = (w : Width) (s : State ℤ) (x : ℤ) → refusal s ≡ 0 → SFits w x → Stream w (settleState (signedOps w) s x) x (wrap w (pos (gain s) *ℤ x))

@@ -6,3 +6,4 @@ pub mod State
 pub mod Calls
 pub mod Runs
 pub mod Demands
+pub mod Figures
