@@ -5,3 +5,4 @@ pub mod Turning
 pub mod Running
 pub mod Blocks
 pub mod Levels
+pub mod InTurn
