@@ -8,7 +8,7 @@ use crate::steps::turn;
 ghost use mathlib.Core.Path.{_≡_};
 ghost use Prim.Native.Nat.{_≤_, _<_};
 ghost use lib.ListN.{length};
-ghost use Rattle.sums.specs.Runs.{needed, blockOut, fillOut, settledPart};
+ghost use Rattle.sums.specs.Runs.{needed, blockOut, fillOut, settledNumber, settledPart};
 ghost use Rattle.cic.specs.Reading.{i32Ops, stateOf};
 ghost use Rattle.cic.specs.Answers.{decimatedOf, filledOf};
 ghost use Rattle.cic.specs.Turns.{apart, Ready, Drives, Picks, Fills};
@@ -209,4 +209,30 @@ pub fn settled_part(out: &[i32], written: usize, unsettled: usize) -> &[i32]
         return &out[0..0];
     }
     &out[unsettled..written]
+}
+
+// 20 where more are said to be written than out holds, else 0.
+fn settled_number(out: &[i32], written: usize) -> u32
+    ensures { λ r. ⌜ r ≡ settledNumber (now (out .entry)) written ⌝ }
+{
+    if out.len() < written {
+        return 20;
+    }
+    0
+}
+
+// A part of a caller's slice, and the number of a refusal, or 0.
+pub struct Part<'a> {
+    pub part: &'a [i32],
+    pub number: u32,
+}
+
+// The settled part of what a decimator's block wrote into out, and 0; where more are said to be written than out holds, the
+// empty part and 20.
+pub fn settled<'a>(out: &'a [i32], written: usize, unsettled: usize) -> Part<'a>
+    ensures { λ r. ⌜ (now (r .part) ≡ settledPart (now (out .entry)) written unsettled) × (r .number ≡ settledNumber (now (out .entry)) written) ⌝ }
+{
+    let number = settled_number(out, written);
+    let part = settled_part(out, written, unsettled);
+    Part { part, number }
 }
