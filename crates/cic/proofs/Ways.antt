@@ -23,13 +23,13 @@ use Rattle.cic.specs.declared.questions.Fitting.the-variants as Fitting
 use Rattle.cic.specs.Reading.{cicOf}
 use Rattle.cic.specs.Answers.{madeOf, toldOf, interpolatedOf, fittingOf}
 
-module _ (k n : ℕ) (e : k ≡ n) (s t : State ℤ) (a : Cic) where
-  pub refuses : (k ≡ 0 → ⊥) → a ≡ cicOf s → _≡_ {A = Made} (record { state = a; verdict = Refused k }) (madeOf n (unless n s t))
-  refuses h f = rw (← e, ne-eqb k 0 h, ← refused k h, f)
+module _ (k n : ℕ) (e : k ≡ n) (s t : State ℤ) where
+  pub refuses : (k ≡ 0 → ⊥) → _≡_ {A = Made} (record { state = cicOf s; verdict = Refused k }) (madeOf n (unless n s t))
+  refuses h = rw (← e, ne-eqb k 0 h, ← refused k h)
 
-  pub takes : k ≡ 0 → a ≡ cicOf t → _≡_ {A = Made} (record { state = a; verdict = Done }) (madeOf n (unless n s t))
+  pub takes : k ≡ 0 → (a : Cic) → a ≡ cicOf t → _≡_ {A = Made} (record { state = a; verdict = Done }) (madeOf n (unless n s t))
   unfolding verdictOf
-  takes z f = rw (sym e ∙ z, f)
+  takes z a f = rw (sym e ∙ z, f)
 
 pub untold : (k n v : ℕ) → k ≡ n → (k ≡ 0 → ⊥) → Told.Refused k ≡ toldOf n v
 unfolding toldOf

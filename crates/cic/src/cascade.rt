@@ -26,8 +26,9 @@ fn comb(cells: &mut [i32; 64], base: usize, m: usize, x: i32) -> i32
     requires { ⌜ (1 ≤ m) × (base + m ≤ 64) × (length (now cells) ≡ 64) ⌝ }
     ensures { λ r. ⌜ Pushes base m (now (cells .entry)) x (now (cells .exit)) r ⌝ }
 {
-    let oldest = cells[base];
     let last = m - 1;
+    let end = base + last;
+    let oldest = cells[base];
     let mut i: usize = 0;
     while i < last {
         let at = base + i;
@@ -35,7 +36,6 @@ fn comb(cells: &mut [i32; 64], base: usize, m: usize, x: i32) -> i32
         cells[at] = cell;
         i += 1;
     }
-    let end = base + last;
     cells[end] = x;
     sub_i32(x, oldest)
 }

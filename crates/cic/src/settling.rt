@@ -2,6 +2,7 @@
 use crate::questions::span;
 use crate::state::Cic;
 use crate::state::Made;
+use crate::state::kept;
 use crate::state::zeros;
 use blocks::Verdict;
 use words::signed::mul_i32;
@@ -53,10 +54,7 @@ impl Cic {
     {
         let number = self.refusal();
         if number != 0 {
-            return Made {
-                state: self,
-                verdict: Verdict::Refused(number),
-            };
+            return kept(self, number);
         }
         let order = self.order;
         let delay = self.delay;

@@ -3,7 +3,7 @@ use blocks::Verdict;
 ghost use mathlib.Core.Path.{_≡_};
 ghost use Prim.Native.Nat.{max};
 ghost use lib.Dec.{eqb};
-ghost use Rattle.sums.specs.State.{refusalOf, refusal, zeroed};
+ghost use Rattle.sums.specs.State.{refusalOf, refusal, zeroed, blank};
 ghost use Rattle.sums.specs.Calls.{newNumber, resumeNumber, rateNumber, newState, resumeState, rateState, clearState};
 ghost use Rattle.cic.specs.Reading.{i32Ops, stateOf, cicOf};
 ghost use Rattle.cic.specs.Answers.{madeOf};
@@ -76,6 +76,25 @@ pub(crate) fn zeros(order: usize, delay: usize, rate: u32) -> Cic
     }
 }
 
+// A refused maker's answer: its number, and the blank state.
+fn unmade(number: u32) -> Made
+    ensures { λ r. ⌜ r ≡ record { state = cicOf (blank i32Ops); verdict = Verdict.Refused number } ⌝ }
+{
+    let state = zeros(0, 1, 0);
+    Made {
+        state,
+        verdict: Verdict::Refused(number),
+    }
+}
+
+// A refused call's answer: its number, and the state as it was given.
+pub(crate) fn kept(state: Cic, number: u32) -> Made
+    ensures { λ r. ⌜ r ≡ record { state = state; verdict = Verdict.Refused number } ⌝ }
+{
+    let verdict = Verdict::Refused(number);
+    Made { state, verdict }
+}
+
 fn greater(a: u32, b: u32) -> u32
     ensures { λ r. ⌜ r ≡ max a b ⌝ }
 {
@@ -89,11 +108,7 @@ impl Cic {
     {
         let number = refusal_of(order, delay, rate, 0, 0);
         if number != 0 {
-            let blank = zeros(0, 1, 0);
-            return Made {
-                state: blank,
-                verdict: Verdict::Refused(number),
-            };
+            return unmade(number);
         }
         let state = zeros(order, delay, rate);
         Made {
@@ -116,18 +131,15 @@ impl Cic {
     {
         let number = refusal_of(order, delay, rate, countdown, 0);
         if number != 0 {
-            let blank = zeros(0, 1, 0);
-            return Made {
-                state: blank,
-                verdict: Verdict::Refused(number),
-            };
+            return unmade(number);
         }
+        let unsettled = order * delay;
         let state = Cic {
             order,
             delay,
             rate,
             countdown,
-            unsettled: order * delay,
+            unsettled,
             hold,
             integrators,
             combs,
@@ -160,10 +172,7 @@ impl Cic {
         let either = greater(self.rate, rate);
         let number = refusal_of(order, delay, either, self.countdown, self.unsettled);
         if number != 0 {
-            return Made {
-                state: self,
-                verdict: Verdict::Refused(number),
-            };
+            return kept(self, number);
         }
         let mut state = self;
         state.rate = rate;
@@ -180,10 +189,7 @@ impl Cic {
     {
         let number = self.refusal();
         if number != 0 {
-            return Made {
-                state: self,
-                verdict: Verdict::Refused(number),
-            };
+            return kept(self, number);
         }
         let state = zeros(self.order, self.delay, self.rate);
         Made {

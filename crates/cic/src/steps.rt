@@ -111,17 +111,23 @@ pub(crate) fn lift(integrators: &mut [i32; 8], combs: &mut [i32; 64], n: Numbers
     requires { ⌜ Ready (apart n (now integrators) (now combs)) ⌝ }
     ensures { λ r. ⌜ Rises (apart n (now (integrators .entry)) (now (combs .entry))) (dueSample i32Ops (n .countdown) (x ∷ [])) (apart (r .numbers) (now (integrators .exit)) (now (combs .exit))) (r .value) ⌝ }
 {
-    let mut numbers = n;
+    let mut next = n;
     if 0 < n.countdown {
-        numbers.countdown = n.countdown - 1;
+        next.countdown = n.countdown - 1;
         let value = integrate(integrators, n.order, n.hold);
-        return Lifted { numbers, value };
+        return Lifted {
+            numbers: next,
+            value,
+        };
     }
     let hold = difference(combs, n.order, n.delay, x);
-    numbers.countdown = n.rate;
-    numbers.hold = hold;
+    next.countdown = n.rate;
+    next.hold = hold;
     let value = integrate(integrators, n.order, hold);
-    Lifted { numbers, value }
+    Lifted {
+        numbers: next,
+        value,
+    }
 }
 
 impl Cic {

@@ -15,19 +15,22 @@ use Rattle.cic.proofs.cascade.comb.Statement.{statement}
 use Rattle.cic.proofs.cascade.comb.Tie as tie
 
 abbrev Inv-loop : tie.InvT-loop
-Inv-loop cells₀ base m x oldest last i₀ cells i = (i ≤ last) × (length cells ≡ 64) × (cells ≡ shifted base i cells₀)
+Inv-loop cells₀ base m x last end oldest i₀ cells i = (i ≤ last) × (length cells ≡ 64) × (cells ≡ shifted base i cells₀)
 
 abbrev μ-loop : tie.MeasureT-loop
-μ-loop cells₀ base m x oldest last i₀ cells i = last - i
+μ-loop cells₀ base m x last end oldest i₀ cells i = last - i
+
+sub-last : tie.Need-sub-last Inv-loop μ-loop
+sub-last c = search needs
+
+add-end : tie.Need-add-end Inv-loop μ-loop
+add-end c = search needs
 
 mul-oldest : tie.Need-mul-oldest Inv-loop μ-loop
 mul-oldest c = search needs
 
 element-copy-out-oldest : tie.Need-element-copy-out-oldest Inv-loop μ-loop
 element-copy-out-oldest c = search needs
-
-sub-last : tie.Need-sub-last Inv-loop μ-loop
-sub-last c = search needs
 
 loop-holds : tie.Need-loop-holds Inv-loop μ-loop
 loop-holds c = let p = c .before in (omega arith, p .pre .2, shift-start (p .args .cells .now) (p .args .base))
@@ -64,9 +67,6 @@ loop-again c =
     let turn = shift-turn (a .cells .now) (a .base) (l .i) (pos 0) (l .cells) (toZ w32 (ofZ w32 old)) short (l .inv .2) (read w32 old (c .cell .given)) in
     (omega arith, simp length-set (l .inv .1), turn)
 
-add-end : tie.Need-add-end Inv-loop μ-loop
-add-end c = search needs
-
 mul-x : tie.Need-mul-x Inv-loop μ-loop
 mul-x c = search needs
 
@@ -95,9 +95,10 @@ comb-spec =
     (tie.spec
     Inv-loop
     μ-loop
+    sub-last
+    add-end
     mul-oldest
     element-copy-out-oldest
-    sub-last
     loop-holds
     add-at
     add-cell
@@ -108,7 +109,6 @@ comb-spec =
     add-i
     loop-less
     loop-again
-    add-end
     mul-x
     element-set-from-x
     sub-i32-requires

@@ -17,8 +17,8 @@ given p = apart (p .args .n) (p .args .integrators .now) (p .args .combs .now)
 held : (p : tie.Start) → toZ w32 (ofZ w32 (p .args .n .hold)) ≡ p .args .n .hold
 held p = search needs
 
-sub-numbers : tie.Need-sub-numbers
-sub-numbers c = search needs
+sub-next : tie.Need-sub-next
+sub-next c = search needs
 
 integrate-requires : tie.Need-integrate-requires
 integrate-requires c κs = let p = c .before .before .before .before .before in (fit (given p) (p .pre) .good .few, p .pre .long8)
@@ -47,7 +47,7 @@ pub lift-spec : {M : Type 1} → statement M
 lift-spec =
     tie.close
     (tie.spec
-    sub-numbers
+    sub-next
     integrate-requires
     returns
     difference-requires

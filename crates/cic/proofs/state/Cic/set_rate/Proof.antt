@@ -2,8 +2,8 @@ use borrow.Author.Needs.{needs}
 use mathlib.Core.Path.{_≡_, refl, sym, _∙_}
 use Prim.Native.Nat.{max}
 use Rattle.sums.specs.Calls.{rateNumber, rateState}
-use Rattle.cic.specs.Reading.{stateOf}
 use Rattle.sums.proofs.Refusals.{sound}
+use Rattle.cic.specs.Reading.{stateOf}
 use Rattle.cic.proofs.Numbers.{small}
 use Rattle.cic.proofs.Ways.{refuses, takes}
 use Rattle.cic.proofs.state.Cic.set_rate.Statement.{statement}
@@ -18,11 +18,14 @@ greater-requires c κs = search needs
 refusal-of-requires : tie.Need-refusal-of-requires
 refusal-of-requires c κs = search needs
 
+kept-requires : tie.Need-kept-requires
+kept-requires c κs = search needs
+
 returns : tie.Need-returns
 unfolding rateState
 returns c =
-    let a = c .before .before .before .args in let f = c .before .refusal-of in
-    refuses (f .result) (rateNumber (stateOf (a .self)) (a .rate)) (number (c .before)) (stateOf (a .self)) _ (a .self) (c .if1 .taken) refl
+    let k = c .before .before in let a = k .before .before .args in let f = k .refusal-of in
+    c .kept .ensures ∙ refuses (f .result) (rateNumber (stateOf (a .self)) (a .rate)) (number k) (stateOf (a .self)) _ (c .before .if1 .taken)
 
 mul-state : tie.Need-mul-state
 mul-state c =
@@ -34,8 +37,9 @@ returns-2 : tie.Need-returns-2
 unfolding rateState
 returns-2 c =
     let a = c .before .before .before .args in let f = c .before .refusal-of in
-    takes (f .result) (rateNumber (stateOf (a .self)) (a .rate)) (number (c .before)) (stateOf (a .self)) _ _ (c .if1 .left) refl
+    takes (f .result) (rateNumber (stateOf (a .self)) (a .rate)) (number (c .before)) (stateOf (a .self)) _ (c .if1 .left) _ refl
 
 pub set-rate-spec : {M : Type 1} → statement M
 set-rate-spec =
-    tie.close (tie.spec greater-requires refusal-of-requires returns mul-state returns-2)
+    tie.close
+    (tie.spec greater-requires refusal-of-requires kept-requires returns mul-state returns-2)

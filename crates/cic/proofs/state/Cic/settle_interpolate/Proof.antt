@@ -1,5 +1,5 @@
 use borrow.Author.Needs.{needs}
-use mathlib.Core.Path.{_≡_, refl, sym, ap, _∙_}
+use mathlib.Core.Path.{_≡_, sym, ap, _∙_}
 use native.Mathlib.Numerals.{add-one}
 use native.Mathlib.Omega.{arith}
 use mir.Syntax.{w32}
@@ -29,11 +29,14 @@ gained c =
 refusal-requires : tie.Need-refusal-requires
 refusal-requires c κs = search needs
 
+kept-requires : tie.Need-kept-requires
+kept-requires c κs = search needs
+
 returns : tie.Need-returns
 unfolding settleState
 returns c =
-    let a = c .before .before .args in
-    refuses (c .before .refusal .result) (refusal (stateOf (a .self))) (c .before .refusal .ensures) (stateOf (a .self)) _ (a .self) (c .if1 .taken) refl
+    let a = c .before .before .before .args .self in let f = c .before .before .refusal in
+    c .kept .ensures ∙ refuses (f .result) (refusal (stateOf a)) (f .ensures) (stateOf a) _ (c .before .if1 .taken)
 
 zeros-requires : tie.Need-zeros-requires
 zeros-requires c κs = search needs
@@ -42,7 +45,7 @@ returns-2 : tie.Need-returns-2
 unfolding settleState zeroed
 returns-2 c =
     let k = c .before .before in let p = k .before .before in let a = p .args in let f = k .before .refusal in let s = stateOf (a .self) in
-    takes (f .result) (refusal s) (f .ensures) s _ _ (k .if1 .left)
+    takes (f .result) (refusal s) (f .ensures) s _ (k .if1 .left) _
     (rw (c .before .zeros .ensures, toZ-ofZ w32 (a .x) (p .fits .x)) (ap cicOf (settle-none s (a .x) (c .if2 .taken))))
 
 sub-last : tie.Need-sub-last
@@ -71,7 +74,7 @@ returns-3 c =
     let k = c .before .before .before .before .before in let p = k .before .before in let a = p .args in let f = k .before .refusal in let s = stateOf (a .self) in let ok = fine k in
     let bx = toZ-ofZ w32 (a .x) (p .fits .x) in let v = c .before .scaled in
     let gains : toZ w32 (ofZ w32 (v .result)) ≡ times i32Ops (gain s) (a .x) = read w32 (v .result) (v .ok) ∙ gained (c .before) in
-    takes (f .result) (refusal s) (f .ensures) s _ _ (k .if1 .left)
+    takes (f .result) (refusal s) (f .ensures) s _ (k .if1 .left) _
     (rw (c .before .before .before .before .zeros .ensures)
     (ap cicOf (settle-some s (a .x) (omega (arith, c .before .before .before .if2 .left)) (ok .few) _ (c .level .result) gains (rw bx at (c .level .ensures)))))
 
@@ -80,6 +83,7 @@ settle-interpolate-spec =
     tie.close
     (tie.spec
     refusal-requires
+    kept-requires
     returns
     zeros-requires
     returns-2
