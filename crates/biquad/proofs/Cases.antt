@@ -19,7 +19,8 @@ abbrev minus0 : Float
 minus0 = double 0x8000_0000_0000_0000
 
 -- 01, bench figures: zeros Real 2, 3; poles Complex 0.5, 0.5; gain 2: 2, -10, 12, 1, -0.5
-pub zpk : zpkOf (Real (double 0x4000_0000_0000_0000) (double 0x4008_0000_0000_0000)) (Complex (double 0x3fe0_0000_0000_0000) (double 0x3fe0_0000_0000_0000)) (double 0x4000_0000_0000_0000)
+pub zpk : zpkOf (Real (double 0x4000_0000_0000_0000) (double 0x4008_0000_0000_0000))
+    (Complex (double 0x3fe0_0000_0000_0000) (double 0x3fe0_0000_0000_0000)) (double 0x4000_0000_0000_0000)
     ≡ record {
       b0 = double 0x4000_0000_0000_0000;
       b1 = double 0xc024_0000_0000_0000;

@@ -1,4 +1,5 @@
--- What the clamp does: a NaN passes, all else comes out within accepted limits, and with no offset and no limits the sum comes out, but for -0.0.
+-- What the clamp does: a NaN passes, all else comes out within accepted limits, and with no offset and no limits the sum
+-- comes out, but for -0.0.
 use mathlib.Core.Path.{_≡_, refl, _∙_}
 use mathlib.Core.Bool.{Bool, true, false, cond}
 use Prim.Native.Nat.{_*_}
@@ -31,7 +32,8 @@ not-below (fin true m e) = le-ltb _ _ (le-refl (m * up e * down e))
 not-below (fin false m e) = le-ltb _ _ (le-refl (m * up e * down e))
 
 -- no output is below the lower limit or above the upper, where the lower is not above the upper
-pub within : (lower upper y : Float) → lt upper lower ≡ false → (lt (clampTo lower upper y) lower ≡ false) × (lt upper (clampTo lower upper y) ≡ false)
+pub within : (lower upper y : Float) → lt upper lower ≡ false
+    → (lt (clampTo lower upper y) lower ≡ false) × (lt upper (clampTo lower upper y) ≡ false)
 unfolding clampTo
 within lower upper y h = go (lt y lower) (lt upper y) refl refl
   where

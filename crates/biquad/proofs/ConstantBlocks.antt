@@ -37,7 +37,8 @@ pub record Quiet (s : DirectForm1) : Type 0 where
 plain-finite : (x : Float) → T (plain x) → Finite x
 plain-finite (fin s m e) p = refl
 
--- IDENTITY gives back a block of numbers other than -0.0: in direct form 1 from a finite state, in direct form 2 transposed from zero cells.
+-- IDENTITY gives back a block of numbers other than -0.0: in direct form 1 from a finite state, in direct form 2
+-- transposed from zero cells.
 pub identity-block1 : (xs : List Float) (s : DirectForm1) → Quiet s → Each Plain xs → scan (sum1 identityOf) (next1 identityOf) s xs ≡ xs
 identity-block1 [] s q e = refl
 identity-block1 (x ∷ xs) s q e =
@@ -59,7 +60,8 @@ identity-block2 (x ∷ xs) a b e =
     let on : after2 identityOf (cells a b) x x ≡ cells (b && t) t = cells2 one x x (cells a b) (zero-fits b) ∙ rw f in
     rw (is, on) (ap (λ (l : List Float). x ∷ l) (identity-block2 xs (b && t) t (e .1)))
 
--- HOLD gives the last output, a number other than -0.0, for each of a block of finite inputs: in direct form 1 from a finite state.
+-- HOLD gives the last output, a number other than -0.0, for each of a block of finite inputs: in direct form 1 from a
+-- finite state.
 pub hold-block1 : (xs : List Float) (s : DirectForm1) → Quiet s → Plain (s .y1) → Each Finite xs
     → scan (sum1 holdOf) (next1 holdOf) s xs ≡ map (λ (x : Float). s .y1) xs
 hold-block1 [] s q p e = refl

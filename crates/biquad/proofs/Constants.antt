@@ -14,8 +14,8 @@ use Rattle.biquad.specs.Forms.{sum1, sum2, after2}
 use Rattle.biquad.specs.Zeros.{negative, zeroOf, settled, joined}
 use Rattle.biquad.proofs.Adding.{Leaves, alone, none-of, more, onto, once, left, zero-fits}
 
--- Direct form 1 by proportional k gives k times x, if the four values of the state are finite; where the product is -0.0 it gives
--- +0.0, unless the four are all negative.
+-- Direct form 1 by proportional k gives k times x, if the four values of the state are finite; where the product is -0.0
+-- it gives +0.0, unless the four are all negative.
 pub proportional1 : (k x : Float) (s : DirectForm1)
     → sum1 (proportionalOf k) s x
     ≡ joined (finite (s .x1) && finite (s .x2) && finite (s .y1) && finite (s .y2))
@@ -31,8 +31,8 @@ pub identity1 : (x : Float) (s : DirectForm1) → T (fits binary64 x)
     (negative (s .x1) && negative (s .x2) && negative (s .y1) && negative (s .y2)) x
 identity1 x s h = rw (once x h) at (proportional1 one x s)
 
--- HOLD in direct form 1 gives the last output, if the input and the three other values of the state are finite; where that output
--- is -0.0 it gives +0.0, unless the four are all negative.
+-- HOLD in direct form 1 gives the last output, if the input and the three other values of the state are finite; where that
+-- output is -0.0 it gives +0.0, unless the four are all negative.
 pub hold1 : (x : Float) (s : DirectForm1) → T (fits binary64 (s .y1))
     → sum1 holdOf s x
     ≡ joined (finite x && finite (s .x1) && finite (s .x2) && finite (s .y2))
@@ -40,9 +40,10 @@ pub hold1 : (x : Float) (s : DirectForm1) → T (fits binary64 (s .y1))
 unfolding sum1
 hold1 x s h = let z = zero-fits true in more (s .y2) h (onto (s .y1) h (more (s .x2) z (more (s .x1) z (none-of x)))) .is
 
--- Direct form 2 transposed by proportional k, from cells that are zeros, gives k times x, and -0.0 only where the first cell is -0.0;
--- if x and the output y are finite, the first cell becomes the second, but for -0.0, and the second a zero.
-pub proportional2 : (k x : Float) (a : Bool) (s : DirectForm2Transposed) → s .s1 ≡ zeroOf a → sum2 (proportionalOf k) s x ≡ settled a (k ⊗ x)
+-- Direct form 2 transposed by proportional k, where the first cell is a zero, gives k times x, and -0.0 only where that
+-- cell is -0.0. If x and the output y are finite, the first cell becomes the second, but for -0.0, and the second a zero.
+pub proportional2 : (k x : Float) (a : Bool) (s : DirectForm2Transposed) → s .s1 ≡ zeroOf a
+    → sum2 (proportionalOf k) s x ≡ settled a (k ⊗ x)
 unfolding sum2
 proportional2 k x a s e = rw e (left (k ⊗ x) a (mul-fits binary64 k x))
 
@@ -56,12 +57,14 @@ unfolding after2
 cells2 k x y s h = λ i. record { s1 = more y h (more x h (alone (s .s2) h)) .is i; s2 = more y (zero-fits true) (none-of x) .is i }
 
 -- IDENTITY in direct form 2 transposed so gives x.
-pub identity2 : (x : Float) (a : Bool) (s : DirectForm2Transposed) → T (fits binary64 x) → s .s1 ≡ zeroOf a → sum2 identityOf s x ≡ settled a x
+pub identity2 : (x : Float) (a : Bool) (s : DirectForm2Transposed) → T (fits binary64 x) → s .s1 ≡ zeroOf a
+    → sum2 identityOf s x ≡ settled a x
 identity2 x a s h e = rw (once x h) at (proportional2 one x a s e)
 
--- HOLD in direct form 2 transposed gives the first cell, but for -0.0, if x is finite, and the output y becomes the first cell if
--- the second is a zero.
-pub hold2 : (x : Float) (s : DirectForm2Transposed) → T (fits binary64 (s .s1)) → sum2 holdOf s x ≡ joined (finite x) (negative x) (s .s1)
+-- HOLD in direct form 2 transposed gives the first cell, but for -0.0, if x is finite. The output y becomes the first cell
+-- where the second is a zero.
+pub hold2 : (x : Float) (s : DirectForm2Transposed) → T (fits binary64 (s .s1))
+    → sum2 holdOf s x ≡ joined (finite x) (negative x) (s .s1)
 unfolding sum2
 hold2 x s h = more x h (alone (s .s1) h) .is
 

@@ -1,4 +1,4 @@
--- A double that is rounded again stays as it is: its pattern of bits turns on its value alone, and what fits has one pattern.
+-- A double that is rounded again stays as it is: its bits turn on its value alone, and what fits has one pattern of bits.
 use mathlib.Core.Path.{_≡_, refl, sym, ap, _∙_, subst}
 use mathlib.Core.Logic.{_⊎_, inl, inr}
 use mathlib.Core.Bool.{Bool, true, false, not, cond, _&&_}

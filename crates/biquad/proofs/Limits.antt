@@ -1,4 +1,4 @@
--- What the tests for the refusals 41 and 42 come to: a NaN, and nothing else, differs from itself, and a number that is none is a refusal.
+-- What the tests for a refusal come to: a NaN, and nothing else, differs from itself, and a number other than 0 refuses.
 use mathlib.Core.Path.{_≡_, refl}
 use mathlib.Core.Bool.{true, false}
 use Prim.Native.Nat.{ℕ, zero, suc, _*_}

@@ -1,4 +1,4 @@
--- 01, 'Refusal numbers' 41 and 42: what the clamped step and the offset answer, by number. 0 says that there is no refusal.
+-- 01, 'Refusal numbers' 41 and 42: what the clamped step and the offset answer, by number. 0 says that there is none.
 use mathlib.Core.Bool.{Bool, cond, _||_}
 use Prim.Native.Nat.{ℕ, zero, suc}
 use lib.Ieee.{Float, lt, eq, isNan}

@@ -1,4 +1,5 @@
--- What adding a zero leaves of a double, with -0.0 told: the words in which IDENTITY, HOLD and proportional are told by what they do.
+-- What adding a zero leaves of a double, -0.0 told: the words in which IDENTITY, HOLD and proportional are told by what
+-- they do.
 use mathlib.Core.Bool.{Bool, true, false, not, _&&_, cond}
 use Prim.Native.Nat.{zero, suc}
 use lib.IntN.{pos}

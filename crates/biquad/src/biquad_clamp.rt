@@ -74,7 +74,7 @@ impl BiquadClamp {
     }
 
     // The limits' refusal: 41 where the lower is above the upper or one is a NaN, else 0.
-    pub fn limits(self) -> u32
+    pub(crate) fn limits(self) -> u32
         ensures { λ r. ⌜ r ≡ limitNumber self ⌝ }
     {
         if self.min > self.max {
@@ -90,7 +90,7 @@ impl BiquadClamp {
     }
 
     // A sum with the offset added, then clamped.
-    pub fn limited(self, sum: f64) -> f64
+    pub(crate) fn limited(self, sum: f64) -> f64
         ensures { λ r. ⌜ r ≡ limitedOf self sum ⌝ }
     {
         let u = self.u;
@@ -99,7 +99,7 @@ impl BiquadClamp {
 }
 
 // The lower limit where y is below it, else the upper where y is above it, else y: so a NaN passes.
-pub fn clamp(y: f64, min: f64, max: f64) -> f64
+fn clamp(y: f64, min: f64, max: f64) -> f64
     ensures { λ r. ⌜ r ≡ clampTo min max y ⌝ }
 {
     if y < min {

@@ -116,7 +116,8 @@ impl DirectForm1 {
 
     // Steps on the inputs in turn; writes the outputs. 31 where the slices differ in length: nothing is written.
     pub fn block(self, c: Biquad, xs: &[f64], ys: &mut [f64]) -> Block1
-        ensures { λ r. ⌜ Blocked 0 (sum1 c) (next1 c) self (now (xs .entry)) (now (ys .entry)) (r .state) (r .verdict) (now (ys .exit)) ⌝ }
+        ensures { λ r. ⌜ Blocked 0 (sum1 c) (next1 c) self (now (xs .entry)) (now (ys .entry))
+            (r .state) (r .verdict) (now (ys .exit)) ⌝ }
     {
         if xs.len() != ys.len() {
             return Block1 {
@@ -134,7 +135,8 @@ impl DirectForm1 {
     // Steps with offset and limits on the inputs in turn; writes the outputs.
     // 31 where the slices differ in length, 41 for wrong limits: the state stays and nothing is written.
     pub fn block_clamp(self, c: BiquadClamp, xs: &[f64], ys: &mut [f64]) -> Block1
-        ensures { λ r. ⌜ Blocked (limitNumber c) (held1 c) (onward1 c) self (now (xs .entry)) (now (ys .entry)) (r .state) (r .verdict) (now (ys .exit)) ⌝ }
+        ensures { λ r. ⌜ Blocked (limitNumber c) (held1 c) (onward1 c) self (now (xs .entry)) (now (ys .entry))
+            (r .state) (r .verdict) (now (ys .exit)) ⌝ }
     {
         if xs.len() != ys.len() {
             return Block1 {
@@ -159,7 +161,8 @@ impl DirectForm1 {
 
 fn process_all(s: DirectForm1, c: Biquad, xs: &[f64], ys: &mut [f64]) -> DirectForm1
     requires { ⌜ length (now xs) ≡ length (now ys) ⌝ }
-    ensures { λ r. ⌜ (r ≡ ends (sum1 c) (next1 c) s (now (xs .entry))) × (now (ys .exit) ≡ scan (sum1 c) (next1 c) s (now (xs .entry))) ⌝ }
+    ensures { λ r. ⌜ (r ≡ ends (sum1 c) (next1 c) s (now (xs .entry)))
+        × (now (ys .exit) ≡ scan (sum1 c) (next1 c) s (now (xs .entry))) ⌝ }
 {
     let mut t = s;
     let mut i: usize = 0;
@@ -175,7 +178,8 @@ fn process_all(s: DirectForm1, c: Biquad, xs: &[f64], ys: &mut [f64]) -> DirectF
 
 fn hold_all(s: DirectForm1, c: BiquadClamp, xs: &[f64], ys: &mut [f64]) -> DirectForm1
     requires { ⌜ length (now xs) ≡ length (now ys) ⌝ }
-    ensures { λ r. ⌜ (r ≡ ends (held1 c) (onward1 c) s (now (xs .entry))) × (now (ys .exit) ≡ scan (held1 c) (onward1 c) s (now (xs .entry))) ⌝ }
+    ensures { λ r. ⌜ (r ≡ ends (held1 c) (onward1 c) s (now (xs .entry)))
+        × (now (ys .exit) ≡ scan (held1 c) (onward1 c) s (now (xs .entry))) ⌝ }
 {
     let mut t = s;
     let mut i: usize = 0;

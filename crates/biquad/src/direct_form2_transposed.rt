@@ -1,4 +1,5 @@
-// Direct form 2 transposed: the state keeps two cells, what earlier samples give to the next output and to the one after.
+// Direct form 2 transposed: the state keeps two cells, what earlier samples give to the next output and to the one
+// after it.
 use crate::biquad::Biquad;
 use crate::biquad_clamp::Answer;
 use crate::biquad_clamp::BiquadClamp;
@@ -112,7 +113,8 @@ impl DirectForm2Transposed {
 
     // Steps on the inputs in turn; writes the outputs. 31 where the slices differ in length: nothing is written.
     pub fn block(self, c: Biquad, xs: &[f64], ys: &mut [f64]) -> Block2
-        ensures { λ r. ⌜ Blocked 0 (sum2 c) (next2 c) self (now (xs .entry)) (now (ys .entry)) (r .state) (r .verdict) (now (ys .exit)) ⌝ }
+        ensures { λ r. ⌜ Blocked 0 (sum2 c) (next2 c) self (now (xs .entry)) (now (ys .entry))
+            (r .state) (r .verdict) (now (ys .exit)) ⌝ }
     {
         if xs.len() != ys.len() {
             return Block2 {
@@ -130,7 +132,8 @@ impl DirectForm2Transposed {
     // Steps with offset and limits on the inputs in turn; writes the outputs.
     // 31 where the slices differ in length, 41 for wrong limits: the state stays and nothing is written.
     pub fn block_clamp(self, c: BiquadClamp, xs: &[f64], ys: &mut [f64]) -> Block2
-        ensures { λ r. ⌜ Blocked (limitNumber c) (held2 c) (onward2 c) self (now (xs .entry)) (now (ys .entry)) (r .state) (r .verdict) (now (ys .exit)) ⌝ }
+        ensures { λ r. ⌜ Blocked (limitNumber c) (held2 c) (onward2 c) self (now (xs .entry)) (now (ys .entry))
+            (r .state) (r .verdict) (now (ys .exit)) ⌝ }
     {
         if xs.len() != ys.len() {
             return Block2 {
@@ -160,7 +163,8 @@ fn process_all(
     ys: &mut [f64],
 ) -> DirectForm2Transposed
     requires { ⌜ length (now xs) ≡ length (now ys) ⌝ }
-    ensures { λ r. ⌜ (r ≡ ends (sum2 c) (next2 c) s (now (xs .entry))) × (now (ys .exit) ≡ scan (sum2 c) (next2 c) s (now (xs .entry))) ⌝ }
+    ensures { λ r. ⌜ (r ≡ ends (sum2 c) (next2 c) s (now (xs .entry)))
+        × (now (ys .exit) ≡ scan (sum2 c) (next2 c) s (now (xs .entry))) ⌝ }
 {
     let mut t = s;
     let mut i: usize = 0;
@@ -181,7 +185,8 @@ fn hold_all(
     ys: &mut [f64],
 ) -> DirectForm2Transposed
     requires { ⌜ length (now xs) ≡ length (now ys) ⌝ }
-    ensures { λ r. ⌜ (r ≡ ends (held2 c) (onward2 c) s (now (xs .entry))) × (now (ys .exit) ≡ scan (held2 c) (onward2 c) s (now (xs .entry))) ⌝ }
+    ensures { λ r. ⌜ (r ≡ ends (held2 c) (onward2 c) s (now (xs .entry)))
+        × (now (ys .exit) ≡ scan (held2 c) (onward2 c) s (now (xs .entry))) ⌝ }
 {
     let mut t = s;
     let mut i: usize = 0;

@@ -337,7 +337,8 @@ fn same(a: u32, b: u32) -> u64
     if a == b { 0 } else { 1 }
 }
 
-// How many of six calls with these limits have another number than this one, or than 31 where the slices differ in length.
+// How many of six calls with these limits have another number than this one, or than 31 where the slices differ in
+// length.
 fn refused(min: f64, max: f64, number: u32) -> u64
     ensures { λ r. ⌜ r ≤ 6 ⌝ }
 {
