@@ -115,6 +115,11 @@ pub inside-first : (n j : ℕ) (l : List ℤ) → j < n → n ≤ length l
 unfolding insideFrom
 inside-first n j l h k = rw (slice-cons j n l (pos 0) h k)
 
+-- a test of the cells in turn, b being what it finds of cell j
+pub inside-turn : (n j : ℕ) (l : List ℤ) (b : Bool) → j < n → n ≤ length l → insideFrom 0 (take n l) ≡ insideFrom j (slice j n l)
+    → inside j (getD l j (pos 0)) ≡ b → insideFrom 0 (take n l) ≡ (b && insideFrom (suc j) (slice (suc j) n l))
+inside-turn n j l b h k e f = e ∙ inside-first n j l h k ∙ rw f
+
 pub inside-none : (n j : ℕ) (l : List ℤ) → n ≡ j → insideFrom j (slice j n l) ≡ true
 unfolding insideFrom
 inside-none n j l e = rw (e, slice-empty)

@@ -1,13 +1,17 @@
--- The step's and the block's promises settle their answers: any two results that they allow are one.
+-- The step's and the block's promises settle their answers: any two results that they allow are one. Where the order is no
+-- refusal, a block's promise is the one that all one-to-one blocks share.
 use mathlib.Core.Path.{_≡_, sym, _∙_}
 use mathlib.Core.List.{List}
-use Prim.Native.Nat.{ℕ}
+use Prim.Native.Nat.{ℕ, _≤_}
+use borrow.Author.Tests.{le-ltb}
 use lib.IntN.{ℤ}
 use Rattle.blocks.specs.declared.Verdict.{Verdict}
+use Rattle.blocks.specs.Blocks.{Blocked}
 use Rattle.dsm.specs.declared.Dsm.{Dsm}
 use Rattle.dsm.specs.declared.Made.{Made}
 use Rattle.dsm.specs.declared.Stepped.{Stepped}
-use Rattle.dsm.specs.Calls.{Steps, Runs}
+use Rattle.dsm.specs.Modulator.{outOf, nextOf}
+use Rattle.dsm.specs.Calls.{cellsNumber, blockNumber, Steps, Runs}
 
 pub steps-settled : (s : Dsm) (x : ℕ) (q r : Stepped) → Steps s x q → Steps s x r → q ≡ r
 steps-settled s x q r p t = p .step ∙ sym (t .step)
@@ -18,3 +22,10 @@ same s t v w e f = rw (e, f)
 pub runs-settled : (s : Dsm) (xs : List ℕ) (ys : List ℤ) (q r : Made) (us vs : List ℤ) → Runs s xs ys q us → Runs s xs ys r vs → (q ≡ r) × (us ≡ vs)
 runs-settled s xs ys q r us vs p t =
     (same (q .state) (r .state) (q .verdict) (r .verdict) (p .state ∙ sym (t .state)) (p .verdict ∙ sym (t .verdict)), p .written ∙ sym (t .written))
+
+pub runs-blocked : (s : Dsm) (xs : List ℕ) (ys : List ℤ) (r : Made) (zs : List ℤ) → s .order ≤ 8 → Runs s xs ys r zs
+    → Blocked (cellsNumber s) outOf nextOf s xs ys (r .state) (r .verdict) zs
+unfolding blockNumber
+runs-blocked s xs ys r zs h p =
+    let e = le-ltb 8 (s .order) h in
+    record { verdict = rw e at (p .verdict); state = rw e at (p .state); written = rw e at (p .written) }

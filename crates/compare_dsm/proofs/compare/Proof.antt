@@ -6,7 +6,8 @@ use Rattle.compare_dsm.proofs.compare.Statement.{statement}
 use Rattle.compare_dsm.proofs.compare.Tie as tie
 
 abbrev Inv-loop : tie.InvT-loop
-Inv-loop text code name cases₀ differ₀ narrow₀ line₀ cases differ narrow line = (line ≤ 548) × ((cases ≤ line * 4294967295) × ((differ ≤ line) × (narrow ≤ line * 4294967295)))
+Inv-loop text code name cases₀ differ₀ narrow₀ line₀ cases differ narrow line =
+    (line ≤ 548) × ((cases ≤ line * 4294967295) × ((differ ≤ line) × (narrow ≤ line * 4294967295)))
 
 abbrev μ-loop : tie.MeasureT-loop
 μ-loop text code name cases₀ differ₀ narrow₀ line₀ cases differ narrow line = 548 - line

@@ -1,12 +1,12 @@
 use mathlib.Core.Path.{_≡_, refl, sym, _∙_}
-use mathlib.Core.Bool.{true, false, _&&_}
+use mathlib.Core.Bool.{Bool, true, false, _&&_}
 use native.Mathlib.Numerals.{add-one}
 use lib.IntN.{pos}
 use mir.Syntax.{w16}
 use mir.Val.{toZ, ofZ}
 use borrow.Author.Tests.{not-true, not-false}
 use Rattle.words.proofs.Reading.{read}
-use Rattle.dsm.proofs.Ranges.{inside-first, inside-none}
+use Rattle.dsm.proofs.Ranges.{inside-turn, inside-none}
 use Prim.Native.Nat.{suc, _-_, _≤_}
 use native.Mathlib.Omega.{arith}
 use lib.ListN.{length, take, getD}
@@ -22,13 +22,14 @@ Inv-loop order c i₀ i =
 abbrev μ-loop : tie.MeasureT-loop
 μ-loop order c i₀ i = order - i
 
-cell-read : (c : tie.After-in-range-arg Inv-loop μ-loop) → toZ w16 (ofZ w16 (getD (c .before .before .before .args .t1) (c .before .before .loop .i) (pos 0))) ≡ getD (c .before .before .before .args .t1) (c .before .before .loop .i) (pos 0)
-cell-read c = read w16 (getD (c .before .before .before .args .t1) (c .before .before .loop .i) (pos 0)) (c .in-range-arg .given)
-
-rest : (c : tie.In-loop Inv-loop μ-loop) → insideFrom (c .before .loop .i) (slice (c .before .loop .i) (c .before .before .args .order - 1) (c .before .before .args .t1))
-    ≡ (inside (c .before .loop .i) (getD (c .before .before .args .t1) (c .before .loop .i) (pos 0))
-    && insideFrom (suc (c .before .loop .i)) (slice (suc (c .before .loop .i)) (c .before .before .args .order - 1) (c .before .before .args .t1)))
-rest c = inside-first (c .before .before .args .order - 1) (c .before .loop .i) (c .before .before .args .t1) (omega arith) (omega (arith, c .before .loop .inv))
+turned : (c : tie.After-in-range Inv-loop μ-loop) (b : Bool) → c .in-range .result ≡ b
+    → insideFrom 0 (take (c .before .before .before .before .args .order - 1) (c .before .before .before .before .args .t1))
+    ≡ (b && insideFrom (suc (c .before .before .before .loop .i)) (slice (suc (c .before .before .before .loop .i)) (c .before .before .before .before .args .order - 1) (c .before .before .before .before .args .t1)))
+turned c b e =
+    let k = c .before .before .before in let a = k .before .args in
+    let x = getD (a .t1) (k .loop .i) (pos 0) in
+    let f : inside (k .loop .i) x ≡ b = sym (rw (read w16 x (c .before .in-range-arg .given)) at (c .in-range .ensures)) ∙ e in
+    inside-turn (a .order - 1) (k .loop .i) (a .t1) b (omega arith) (omega (arith, k .loop .inv)) (k .loop .inv .3) f
 
 loop-holds : tie.Need-loop-holds Inv-loop μ-loop
 loop-holds c = let e : length (c .args .t1) ≡ 8 = c .good .0 .1 .0 .1 in (c .pre, e, omega arith, refl)
@@ -46,10 +47,7 @@ in-range-requires : tie.Need-in-range-requires Inv-loop μ-loop
 in-range-requires c κs = omega arith
 
 returns : tie.Need-returns Inv-loop μ-loop
-returns c =
-    let k = c .before .in-range in let m = c .before .before .before .before in
-    let f : k .result ≡ false = not-true (k .result) (c .if1 .taken) in
-    sym (m .loop .inv .3 ∙ rest (c .before .before .before) ∙ rw (sym (rw (cell-read (c .before .before)) at (k .ensures)) ∙ f))
+returns c = sym (turned (c .before) false (not-true (c .before .in-range .result) (c .if1 .taken)))
 
 add-i : tie.Need-add-i Inv-loop μ-loop
 add-i c = omega arith
@@ -59,16 +57,13 @@ loop-less c = omega arith
 
 loop-again : tie.Need-loop-again Inv-loop μ-loop
 loop-again c =
-    let k = c .before .in-range in let m = c .before .before .before .before in
-    let f : k .result ≡ true = not-false (k .result) (c .if1 .left) in (
-      m .loop .inv .0,
-      m .loop .inv .1,
-      omega arith,
-      rw add-one (m .loop .inv .3 ∙ rest (c .before .before .before) ∙ rw (sym (rw (cell-read (c .before .before)) at (k .ensures)) ∙ f)),
-    )
+    let l = c .before .before .before .before .loop in
+    (l .inv .0, l .inv .1, omega arith, rw add-one (turned (c .before) true (not-false (c .before .in-range .result) (c .if1 .left))))
 
 returns-2 : tie.Need-returns-2 Inv-loop μ-loop
-returns-2 c = let l = c .before .loop in sym (l .inv .3 ∙ inside-none (c .before .before .args .order - 1) (l .i) (c .before .before .args .t1) (omega (arith, c .loop-test .left)))
+returns-2 c =
+    let l = c .before .loop in let a = c .before .before .args in
+    sym (l .inv .3 ∙ inside-none (a .order - 1) (l .i) (a .t1) (omega (arith, c .loop-test .left)))
 
 pub cells-in-range-spec : {M : Type 1} → statement M
 cells-in-range-spec =

@@ -26,7 +26,8 @@ fewer c = omega arith
 cell-near : (c : tie.In-loop Inv-loop μ-loop) → Near (c .before .loop .j) (getD (c .before .loop .c) (c .before .loop .j) (pos 0))
 cell-near c =
     let l = c .before .loop in let s = c .before .before .before in
-    combining-cell (s .args .order - 1) (s .args .d) (s .args .c .now) (omega (arith, s .pre)) (omega (arith, s .pre)) (l .c) (l .left) (toZ w16 (l .y)) (l .j) (fewer c) (l .inv .1)
+    combining-cell (s .args .order - 1) (s .args .d) (s .args .c .now) (omega (arith, s .pre)) (omega (arith, s .pre))
+    (l .c) (l .left) (toZ w16 (l .y)) (l .j) (fewer c) (l .inv .1)
 
 cell-read : (c : tie.After-old Inv-loop μ-loop) → toZ w16 (ofZ w16 (getD (c .before .before .loop .c) (c .before .before .loop .j) (pos 0)))
     ≡ getD (c .before .before .loop .c) (c .before .before .loop .j) (pos 0)

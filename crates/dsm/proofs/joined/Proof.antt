@@ -32,7 +32,12 @@ add-result c = rw (carry-read c, toZ-ofZ w16 (c .before .args .y) (c .before .fi
 sub-result : tie.Need-sub-result
 sub-result c =
     let s = c .before in
-    rw (carry-read c, toZ-ofZ w16 (s .args .y) (s .fits .y), toZ-ofZ w16 (pos (s .args .d % 2) +ℤ s .args .y) (sum-fits c), toZ-ofZ w16 (s .args .retained) (s .fits .retained))
+    rw (
+      carry-read c,
+      toZ-ofZ w16 (s .args .y) (s .fits .y),
+      toZ-ofZ w16 (pos (s .args .d % 2) +ℤ s .args .y) (sum-fits c),
+      toZ-ofZ w16 (s .args .retained) (s .fits .retained),
+    )
     (all-fits c)
 
 returns : tie.Need-returns

@@ -62,7 +62,8 @@ same-length c = search needs
 returns : tie.Need-returns Inv-loop μ-loop
 returns c =
     let l = c .before in let s = l .before .before .before .before in
-    running-end (s .args .s) (s .args .xs .now) (s .pre .1) (l .loop .ys) (with-cells (s .args .s) (l .loop .a) (l .loop .c)) (l .loop .i) (c .loop-test .left) (l .loop .inv)
+    running-end (s .args .s) (s .args .xs .now) (s .pre .1) (l .loop .ys) (with-cells (s .args .s) (l .loop .a) (l .loop .c)) (l .loop .i)
+    (c .loop-test .left) (l .loop .inv)
 
 pub modulate-spec : {M : Type 1} → statement M
 modulate-spec =

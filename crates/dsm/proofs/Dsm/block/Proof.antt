@@ -4,15 +4,14 @@ use Prim.Native.Nat.{_-_}
 use native.Mathlib.Omega.{arith}
 use lib.ListN.{take}
 use borrow.Author.Tests.{not-true, not-false}
-use Rattle.dsm.specs.Modulator.{insideFrom}
-use Rattle.dsm.proofs.Refusals.{none, block-over, block-unlike, block-stray, block-none}
+use Rattle.dsm.proofs.Refusals.{lying, none, block-over, block-unlike, block-stray, block-none}
 use Rattle.dsm.proofs.Ways.{block-refused, block-done}
 use borrow.Author.Needs.{needs}
 use Rattle.dsm.proofs.Dsm.block.Statement.{statement}
 use Rattle.dsm.proofs.Dsm.block.Tie as tie
 
-lying : (c : tie.Else3) → insideFrom 0 (take (c .before .before .before .before .before .before .args .self .order - 1) (c .before .before .before .before .before .before .args .self .retained)) ≡ true
-lying c = sym (c .before .cells-in-range .ensures) ∙ not-false (c .before .cells-in-range .result) (c .if3 .left)
+found : (c : tie.Else3) → lying (c .before .before .before .before .before .before .args .self) ≡ true
+found c = sym (c .before .cells-in-range .ensures) ∙ not-false (c .before .cells-in-range .result) (c .if3 .left)
 
 returns : tie.Need-returns
 returns c =
@@ -38,7 +37,7 @@ returns-3 c =
 modulate-requires : tie.Need-modulate-requires
 modulate-requires c κs =
     let k = c .before .before .before .before in
-    (k .if2 .left, none (k .before .before .before .args .self) (k .before .if1 .left) (lying (c .before)))
+    (k .if2 .left, none (k .before .before .before .args .self) (k .before .if1 .left) (found (c .before)))
 
 same-length : tie.Need-same-length
 same-length c = search needs
@@ -47,7 +46,7 @@ returns-4 : tie.Need-returns-4
 returns-4 c =
     let e = c .before .before .before in let k = e .before .before .before in let a = k .before .before .before .args in
     block-done (a .self) (a .xs .now) (a .ys .now) (c .before .modulate .result) (c .before .modulate .last .1 .1 .0)
-    (block-none (a .self) (a .xs .now) (a .ys .now) (k .before .if1 .left) (k .if2 .left) (lying e)) (c .before .modulate .ensures)
+    (block-none (a .self) (a .xs .now) (a .ys .now) (k .before .if1 .left) (k .if2 .left) (found e)) (c .before .modulate .ensures)
 
 pub block-spec : {M : Type 1} → statement M
 block-spec =

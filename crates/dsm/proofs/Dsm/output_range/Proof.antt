@@ -35,7 +35,8 @@ cells-in-range-requires c κs = search needs
 returns-2 : tie.Need-returns-2
 returns-2 c =
     let s = c .before .before .before .before .args .self in
-    rw (stray s (c .before .before .before .if1 .left) (sym (c .before .cells-in-range .ensures) ∙ not-true (c .before .cells-in-range .result) (c .if2 .taken))) (unranged 32 _ (λ e. omega arith))
+    let f = sym (c .before .cells-in-range .ensures) ∙ not-true (c .before .cells-in-range .result) (c .if2 .taken) in
+    rw (stray s (c .before .before .before .if1 .left) f) (unranged 32 _ (λ e. omega arith))
 
 returns-3 : tie.Need-returns-3
 returns-3 c =
