@@ -20,6 +20,8 @@ ghost use Prim.Native.Nat.{_<_, _≤_};
 const LINES: usize = 1800;
 
 const WIDTH: usize = 12;
+// The inputs of a block in a long run.
+const BLOCK: usize = 250;
 // No later rate.
 const NONE: u32 = 0xffff_ffff;
 
@@ -211,7 +213,7 @@ struct Inputs {
     draws: u64,
 }
 
-fn inputs(first: u64) -> Inputs {
+fn drawn_inputs(first: u64) -> Inputs {
     let mut xs = [0i32; 250];
     let mut draws = first;
     for i in 0..250 {
@@ -228,7 +230,7 @@ fn feed_outputs(d: u64, ys: [i32; 250], countdown: u32, rate: u32) -> u64 {
     let mut e = d;
     let mut c = countdown;
     let mut k: usize = 0;
-    for i in 0..250 {
+    for _ in 0..BLOCK {
         if c == 0 {
             let y = ys[k];
             e = digest(digest(e, 1), i32_as_u32(y));
@@ -243,7 +245,7 @@ fn feed_outputs(d: u64, ys: [i32; 250], countdown: u32, rate: u32) -> u64 {
 }
 
 fn block_down(r: Run) -> Run {
-    let given = inputs(r.draws);
+    let given = drawn_inputs(r.draws);
     let xs = given.xs;
     let mut ys = [0i32; 250];
     let s = r.state;
@@ -289,7 +291,7 @@ fn feed_all(d: u64, ys: [i32; 250]) -> u64 {
 }
 
 fn block_up(r: Run) -> Run {
-    let given = inputs(r.draws);
+    let given = drawn_inputs(r.draws);
     let s = r.state;
     let xs = given.xs;
     let zs = due(xs, s.countdown, s.rate);
