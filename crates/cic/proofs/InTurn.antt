@@ -1,24 +1,23 @@
 -- A block gives what its steps in turn would give, and its settled part is what they would have marked settled.
 use mathlib.Core.Path.{_≡_, refl, sym, ap, _∙_}
-use mathlib.Core.Bool.{true, false, cond}
+use mathlib.Core.Bool.{cond}
 use mathlib.Core.List.{List, [], _∷_, _++_}
 use mathlib.Core.Option.{Option, none, some}
-use Prim.Native.Nat.{ℕ, zero, suc, _+_, _-_, _≤_, _<_}
+use Prim.Native.Nat.{ℕ, zero, suc, _+_, _-_, _<_}
 use native.Mathlib.Omega.{arith}
 use lib.Dec.{leb, leb·zero, leb·suc-zero, leb·suc-suc}
 use lib.IntN.{ℤ}
-use lib.ListN.{length, getD, take, drop, length-append}
+use lib.ListN.{length, getD, drop, length-append}
 use lib.Seq.{drop-nil, take-append-seam}
 use borrow.Author.Tests.{le-ltb, ne-eqb}
 use Rattle.sums.specs.Machine.{Output}
-use Rattle.sums.specs.State.{State, refusal}
-use Rattle.sums.specs.Calls.{unless, stepState, stepGiven}
+use Rattle.sums.specs.State.{refusal}
+use Rattle.sums.specs.Calls.{unless, stepGiven}
 use Rattle.sums.specs.Runs.{needed, join, values, over, outputs, after, blockNumber, blockState, blockOut, settledNumber, settledPart}
 use Rattle.sums.proofs.Steps.{Fit}
 use Rattle.sums.proofs.Counts.{outputs-length, outputs-mark}
 use Rattle.sums.proofs.Blocks.{values-length}
 use Rattle.cic.specs.declared.state.Cic.{Cic}
-use Rattle.cic.specs.declared.runs.Decimated.{Decimated}
 use Rattle.cic.specs.declared.runs.Wrote.the-variants.{Outputs}
 use Rattle.cic.specs.Reading.{i32Ops, stateOf}
 use Rattle.cic.specs.Answers.{outOf, steppedOf, wroteOf, decimatedOf}

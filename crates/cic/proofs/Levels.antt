@@ -1,6 +1,6 @@
 -- A number of turns on words is a product modulo 2 ^ w; and lists of one value but for some cells.
 use mathlib.Core.Path.{_≡_, refl, sym, ap, subst, _∙_}
-use mathlib.Core.List.{List, [], _∷_, _++_}
+use mathlib.Core.List.{List, _∷_, _++_}
 use Prim.Native.Nat.{ℕ, zero, suc, _+_, _-_, _*_, _^_, _≤_, _<_}
 use native.Mathlib.Nat.{add-zero, add-suc, mul-zero, mul-suc, pow-zero, pow-suc, suc-sub-suc, sub-zero}
 use native.Mathlib.Numerals.{add-one}
@@ -16,7 +16,7 @@ use Rattle.words.proofs.Reading.{wrap-is}
 use Rattle.words.proofs.Sums.{equal, wrapped, wrap-same, same-add, same-mul}
 use Rattle.sums.specs.Ops.{times}
 use Rattle.sums.specs.Signed.{signedOps}
-use Rattle.sums.specs.State.{State, zeroed}
+use Rattle.sums.specs.State.{State}
 use Rattle.sums.specs.Calls.{gain, settledAt}
 use Rattle.sums.proofs.Steps.{packed}
 use Rattle.cic.specs.Reading.{i32Ops}

@@ -1,7 +1,7 @@
 -- A comb's oldest cell, in its line and in the array.
 use mathlib.Core.Path.{_≡_, ap, _∙_}
 use mathlib.Core.List.{List}
-use Prim.Native.Nat.{ℕ, _+_, _≤_}
+use Prim.Native.Nat.{ℕ, _≤_}
 use native.Mathlib.Nat.{add-zero}
 use lib.ListN.{getD, take, drop}
 use lib.Seq.{getD-take, getD-drop}

@@ -1,11 +1,11 @@
 -- The numbers that questions ask for: powers that stop at a cap, lengths in bits, and that they fit.
-use mathlib.Core.Path.{_≡_, refl, sym, ap, _∙_}
-use mathlib.Core.Logic.{_⊎_, inl, inr, ⊎-elim}
+use mathlib.Core.Path.{_≡_, refl, sym, _∙_}
+use mathlib.Core.Logic.{_⊎_, ⊎-elim}
 use Prim.Native.Nat.{ℕ, zero, suc, min, _+_, _-_, _*_, _/_, _^_, _≤_, _<_}
 use native.Mathlib.Nat.{pow-suc, min-eq-left, min-eq-right, min-le-left, mul-le-mul, mul-le-mul-left, mul-le-mul-right, div-lt-iff-lt-mul, div-mul-le-self, eq-zero-or-pos}
 use native.Mathlib.Numerals.{add-one}
 use native.Mathlib.Omega.{arith}
-use lib.Count.{leadingZeros, leading-le}
+use lib.Count.{leadingZeros}
 use mir.Syntax.{w64}
 use mir.Val.{Fits}
 use Rattle.sums.specs.Calls.{bitLength}

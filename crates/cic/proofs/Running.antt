@@ -1,10 +1,10 @@
 -- The loops over a block, turn by turn, from what a step on lent arrays promises; and the two ways to cut a part out of a list.
-use mathlib.Core.Path.{_≡_, refl, sym, ap, subst, _∙_}
+use mathlib.Core.Path.{_≡_, refl, sym, subst}
 use mathlib.Core.Bool.{Bool}
 use mathlib.Core.List.{List, [], _∷_}
 use mathlib.Core.Logic.{inl, inr, ⊎-elim}
 use mathlib.Core.Option.{Option, none, some}
-use Prim.Native.Nat.{ℕ, zero, suc, _+_, _-_, _≤_, _<_}
+use Prim.Native.Nat.{ℕ, zero, suc, _+_, _-_, _<_}
 use native.Mathlib.Nat.{sub-zero, zero-sub, suc-sub-suc}
 use native.Mathlib.Omega.{arith}
 use lib.IntN.{ℤ, pos}
@@ -16,11 +16,11 @@ use Rattle.sums.specs.Machine.{Output}
 use Rattle.sums.specs.State.{State}
 use Rattle.sums.specs.Calls.{stepGiven}
 use Rattle.sums.specs.Runs.{dueSample}
-use Rattle.sums.proofs.Steps.{Fit, Turn, step-fit, down, rise-waits-fit, rise-takes-fit}
+use Rattle.sums.proofs.Steps.{Fit, step-fit, down, rise-waits-fit, rise-takes-fit}
 use Rattle.sums.proofs.Blocks.{Jump, Held, jump-turn, held-none, held-room, held-one}
 use Rattle.sums.proofs.Fills.{Filling, filling-due, filling-wait}
 use Rattle.cic.specs.declared.steps.Out.{Out}
-use Rattle.cic.specs.declared.steps.Out.the-variants.{Given, Nothing, Refused}
+use Rattle.cic.specs.declared.steps.Out.the-variants.{Given}
 use Rattle.cic.specs.Reading.{i32Ops}
 use Rattle.cic.specs.Answers.{outOf}
 use Rattle.cic.specs.Turns.{Turns, Picks, Rises}

@@ -1,13 +1,12 @@
 -- The ways of a step on lent arrays, and of the calls over it: what the loops have shown is what the rules ask.
-use mathlib.Core.Path.{_≡_, refl, sym, ap, _∙_}
+use mathlib.Core.Path.{_≡_, refl, _∙_}
 use mathlib.Core.List.{List, [], _∷_}
 use mathlib.Core.Option.{Option, none, some}
 use Prim.Native.Nat.{ℕ, zero, suc, _-_, _≤_, _<_}
 use native.Mathlib.Omega.{arith}
 use lib.Dec.{eqb}
 use lib.IntN.{ℤ}
-use borrow.Author.Tests.{eq-eqb, ne-eqb}
-use Rattle.sums.specs.Ops.{Ops}
+use borrow.Author.Tests.{ne-eqb}
 use Rattle.sums.specs.State.{State, refusal}
 use Rattle.sums.specs.Calls.{stepState, riseNumber, riseState}
 use Rattle.sums.specs.Runs.{dueSample}

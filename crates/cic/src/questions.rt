@@ -127,7 +127,8 @@ impl Cic {
         Told::Number(order as u64 * (r - 1))
     }
 
-    // Whether b + gain_log2 is at most 32: then inputs of b signed bits make no output wrap. Refused with 17 for b outside 1..32.
+    // Whether b + gain_log2 is at most 32: then inputs of b signed bits make no output wrap. Refused with 17
+    // for b outside 1..32.
     pub fn fit(self, b: u32) -> Fitting
         ensures { λ r. ⌜ r ≡ fittingOf (fitNumber (stateOf self) 32 b) (fits (stateOf self) 32 b) ⌝ }
     {

@@ -13,8 +13,8 @@ ghost use Rattle.cic.specs.Reading.{i32Ops, stateOf};
 ghost use Rattle.cic.specs.Answers.{decimatedOf, filledOf};
 ghost use Rattle.cic.specs.Turns.{apart, Ready, Drives, Picks, Fills};
 
-// What a decimator's block wrote: the count of its outputs, and the unsettled count found before it, so that output i of the
-// block is settled exactly where that count is at most i. Or the number of a refusal.
+// What a decimator's block wrote: the count of its outputs, and the unsettled count found before it, so that
+// output i of the block is settled exactly where that count is at most i. Or the number of a refusal.
 pub enum Wrote {
     Outputs(usize, usize),
     Refused(u32),
@@ -50,7 +50,8 @@ pub(crate) struct Picked {
     pub next: usize,
 }
 
-// The low-rate samples of a block of len at the high rate: 0 if len is at most the countdown, else 1 + floor((len - 1 - countdown) / R).
+// The low-rate samples of a block of len at the high rate: 0 if len is at most the countdown, else 1 +
+// floor((len - 1 - countdown) / R).
 fn low_rate(len: usize, countdown: u32, rate: u32) -> usize
     ensures { λ r. ⌜ r ≡ needed len countdown rate ⌝ }
 {
@@ -63,8 +64,8 @@ fn low_rate(len: usize, countdown: u32, rate: u32) -> usize
     n + 1
 }
 
-// The steps of a decimator's block in turn, on an accepted state whose arrays are lent. The outputs go to the front of
-// out; the rest of it stays.
+// The steps of a decimator's block in turn, on an accepted state whose arrays are lent. The outputs go to the
+// front of out; the rest of it stays.
 fn drive(
     integrators: &mut [i32; 8],
     combs: &mut [i32; 64],
@@ -106,7 +107,8 @@ fn pick(input: &[i32], k: usize, countdown: u32) -> Picked
     Picked { x, next: k + 1 }
 }
 
-// The steps of an interpolator's block in turn, on an accepted state whose arrays are lent. Every element of out is written.
+// The steps of an interpolator's block in turn, on an accepted state whose arrays are lent. Every element of
+// out is written.
 fn raise(
     integrators: &mut [i32; 8],
     combs: &mut [i32; 64],
@@ -135,8 +137,8 @@ fn raise(
 }
 
 impl Cic {
-    // A block of inputs in, its outputs to the front of out. The rest of out stays. Refused with 20 where out is shorter than
-    // the block needs; a refused block changes nothing.
+    // A block of inputs in, its outputs to the front of out. The rest of out stays. Refused with 20 where out
+    // is shorter than the block needs; a refused block changes nothing.
     pub fn decimate_block(self, input: &[i32], out: &mut [i32]) -> Decimated
         ensures { λ r. ⌜ (r ≡ decimatedOf self (now (input .entry)) (now (out .entry))) × (now (out .exit) ≡ blockOut i32Ops (stateOf self) (now (input .entry)) (now (out .entry))) ⌝ }
     {
@@ -166,8 +168,8 @@ impl Cic {
         }
     }
 
-    // Every element of out is written, from as many inputs as are due; later ones stay unread. Refused with 23 where input is
-    // shorter than needed; a refused block changes nothing.
+    // Every element of out is written, from as many inputs as are due; later ones stay unread. Refused with
+    // 23 where input is shorter than needed; a refused block changes nothing.
     pub fn interpolate_block(self, input: &[i32], out: &mut [i32]) -> Filled
         ensures { λ r. ⌜ (r ≡ filledOf self (now (input .entry)) (now (out .entry))) × (now (out .exit) ≡ fillOut i32Ops (stateOf self) (now (input .entry)) (now (out .entry))) ⌝ }
     {
@@ -197,8 +199,8 @@ impl Cic {
     }
 }
 
-// The settled part of what a decimator's block wrote: the written outputs less the leading unsettled ones. Empty where too few
-// are written to settle, and where more are said to be written than out holds.
+// The settled part of what a decimator's block wrote: the written outputs less the leading unsettled ones.
+// Empty where too few are written to settle, and where more are said to be written than out holds.
 pub fn settled_part(out: &[i32], written: usize, unsettled: usize) -> &[i32]
     ensures { λ r. ⌜ now r ≡ settledPart (now (out .entry)) written unsettled ⌝ }
 {
@@ -212,7 +214,7 @@ pub fn settled_part(out: &[i32], written: usize, unsettled: usize) -> &[i32]
 }
 
 // 20 where more are said to be written than out holds, else 0.
-fn settled_number(out: &[i32], written: usize) -> u32
+pub fn settled_number(out: &[i32], written: usize) -> u32
     ensures { λ r. ⌜ r ≡ settledNumber (now (out .entry)) written ⌝ }
 {
     if out.len() < written {
@@ -227,8 +229,8 @@ pub struct Part<'a> {
     pub number: u32,
 }
 
-// The settled part of what a decimator's block wrote into out, and 0; where more are said to be written than out holds, the
-// empty part and 20.
+// The settled part of what a decimator's block wrote into out, and 0; where more are said to be written than
+// out holds, the empty part and 20.
 pub fn settled<'a>(out: &'a [i32], written: usize, unsettled: usize) -> Part<'a>
     ensures { λ r. ⌜ (now (r .part) ≡ settledPart (now (out .entry)) written unsettled) × (r .number ≡ settledNumber (now (out .entry)) written) ⌝ }
 {

@@ -47,8 +47,8 @@ fn level(m: usize, x: i32) -> [i32; 64]
 }
 
 impl Cic {
-    // The state of zeros but for the first delay line, all x, and the last integrator, x times the gain modulo 2^32;
-    // where N is 0, but for the hold, x. A refused call changes nothing.
+    // The state of zeros but for the first delay line, all x, and the last integrator, x times the gain
+    // modulo 2^32; where N is 0, but for the hold, x. A refused call changes nothing.
     pub fn settle_interpolate(self, x: i32) -> Made
         ensures { λ r. ⌜ r ≡ madeOf (refusal (stateOf self)) (settleState i32Ops (stateOf self) x) ⌝ }
     {

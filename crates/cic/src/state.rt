@@ -8,8 +8,9 @@ ghost use Rattle.sums.specs.Calls.{newNumber, resumeNumber, rateNumber, newStat
 ghost use Rattle.cic.specs.Reading.{i32Ops, stateOf, cicOf};
 ghost use Rattle.cic.specs.Answers.{madeOf};
 
-// N = order integrators, N delay lines of M = delay cells, line j at 8 j .. 8 j + M of combs, the oldest cell first.
-// Rate is R - 1. Outputs are unsettled while `unsettled` is above 0. Cells beyond N and M never matter.
+// N = order integrators, N delay lines of M = delay cells, line j at 8 j .. 8 j + M of combs, the oldest cell
+// first. Rate is R - 1. Outputs are unsettled while `unsettled` is above 0. Cells beyond N and M never
+// matter.
 pub struct Cic {
     pub order: usize,
     pub delay: usize,
@@ -117,7 +118,8 @@ impl Cic {
         }
     }
 
-    // A state with these numbers and all these cells; its first N·M outputs are unsettled. Refused: the number, and the blank state.
+    // A state with these numbers and all these cells; its first N·M outputs are unsettled. Refused: the
+    // number, and the blank state.
     pub fn resume(
         order: usize,
         delay: usize,
@@ -163,7 +165,8 @@ impl Cic {
         )
     }
 
-    // The state at another rate: cells, hold and countdown stay, and the next N·M outputs are unsettled, also at the same rate.
+    // The state at another rate: cells, hold and countdown stay, and the next N·M outputs are unsettled, also
+    // at the same rate.
     pub fn set_rate(self, rate: u32) -> Made
         ensures { λ r. ⌜ r ≡ madeOf (rateNumber (stateOf self) rate) (rateState i32Ops (stateOf self) rate) ⌝ }
     {

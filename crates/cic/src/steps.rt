@@ -182,8 +182,9 @@ impl Cic {
         Stepped { state, out }
     }
 
-    // One output out: a sample is due exactly at countdown 0, and is then held for R steps. Refused with 21 where one is given
-    // and none is due, and with 22 where none is given and one is due. A refused step changes nothing.
+    // One output out: a sample is due exactly at countdown 0, and is then held for R steps. Refused with 21
+    // where one is given and none is due, and with 22 where none is given and one is due. A refused step
+    // changes nothing.
     pub fn interpolate(self, sample: Sample) -> Risen
         ensures { λ r. ⌜ r ≡ risenOf self sample ⌝ }
     {
