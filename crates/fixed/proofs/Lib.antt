@@ -1,0 +1,4 @@
+pub mod Spreading
+pub mod Halves
+pub mod Keeping
+pub mod Numbers
