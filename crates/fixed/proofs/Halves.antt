@@ -14,7 +14,7 @@ use Rattle.words.proofs.Sums.{equal, _and_, same-add, turns, worded}
 use Rattle.words.proofs.Floors.{floor-rest}
 use Rattle.fixed.specs.Forms.{overwritten}
 use Rattle.fixed.proofs.Spreading.{spread, regroup}
-use Rattle.fixed.proofs.Numbers.{wrap-left}
+use Rattle.fixed.proofs.Wraps.{wrap-left}
 
 -- k turns of m and less than one are k turns
 pub floor-is : (k : ℤ) (r m : ℕ) → r < m → floorDiv (k *ℤ pos m +ℤ pos r) m ≡ k

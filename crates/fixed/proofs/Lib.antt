@@ -1,4 +1,6 @@
 pub mod Spreading
+pub mod Wraps
 pub mod Halves
-pub mod Keeping
 pub mod Numbers
+pub mod Keeping
+pub mod Figures

@@ -1,6 +1,6 @@
 use mir.Syntax.{w32}
 use mir.ValLaws.{toZ-ofZ}
-use Rattle.fixed.proofs.Numbers.{tested-lt}
+use Rattle.fixed.proofs.Wraps.{tested-lt}
 use Rattle.fixed.proofs.biquad.clamp.Statement.{statement}
 use Rattle.fixed.proofs.biquad.clamp.Tie as tie
 

@@ -4,7 +4,7 @@ use mathlib.Core.Bool.{cond}
 use lib.Signed.{ltZ}
 use Rattle.blocks.proofs.Ways.{kept}
 use Rattle.fixed.specs.Answers.{fractionNumber}
-use Rattle.fixed.proofs.Numbers.{tested-lt}
+use Rattle.fixed.proofs.Wraps.{tested-lt}
 use Rattle.fixed.proofs.biquad.BiquadClamp.refusal.Statement.{statement}
 use Rattle.fixed.proofs.biquad.BiquadClamp.refusal.Tie as tie
 

@@ -6,7 +6,7 @@ use mir.ValLaws.{toZ-ofZ}
 use Rattle.words.specs.Words.{floorDiv}
 use Rattle.words.proofs.Reading.{read}
 use Rattle.fixed.specs.Forms.{forward, wideSum}
-use Rattle.fixed.proofs.Numbers.{wrap-inner}
+use Rattle.fixed.proofs.Wraps.{wrap-inner}
 use Rattle.fixed.proofs.wide.DirectForm1Wide.sum.Statement.{statement}
 use Rattle.fixed.proofs.wide.DirectForm1Wide.sum.Tie as tie
 
