@@ -142,8 +142,9 @@ impl DirectForm1Dither {
         requires { ⌜ fractionNumber 1 c ≡ 0 ⌝ }
         ensures { λ r. ⌜ (r .y ≡ ditherOut c self x0) × (r .state ≡ ditherNext c self x0) ⌝ }
     {
-        let acc = shl_i64(self.sum(c, x0), 32 - c.f);
-        let e = shr_u32(i64_as_u32(acc), 32 - c.f);
+        let f = c.f;
+        let acc = shl_i64(self.sum(c, x0), 32 - f);
+        let e = shr_u32(i64_as_u32(acc), 32 - f);
         let y = i64_high(acc);
         Turned {
             y,

@@ -46,11 +46,18 @@ struct Turned {
     state: DirectForm1Wide,
 }
 
-// The low word, read as unsigned, times a coefficient.
+// The low word, read as unsigned.
+fn low_of(y: i64) -> i64
+    ensures { λ r. ⌜ r ≡ pos (word w32 y) ⌝ }
+{
+    u32_as_i64(i64_as_u32(y))
+}
+
+// The low word times a coefficient: 64 bits always hold it.
 fn low_product(y: i64, a: i32) -> i64
     ensures { λ r. ⌜ r ≡ pos (word w32 y) *ℤ a ⌝ }
 {
-    u32_as_i64(i64_as_u32(y)) * i32_as_i64(a)
+    low_of(y) * i32_as_i64(a)
 }
 
 // acc grown by the wide output y times a, divided by 2^32 and rounded down: by its low word, then by its high word.
@@ -66,7 +73,9 @@ fn fed(acc: i64, y: i64, a: i32) -> i64
 fn overwrite(acc: i64, y: i32) -> i64
     ensures { λ r. ⌜ r ≡ overwritten acc y ⌝ }
 {
-    add_i64(shl_i64(i32_as_i64(y), 32), u32_as_i64(i64_as_u32(acc)))
+    let high = i32_as_i64(y);
+    let low = low_of(acc);
+    add_i64(shl_i64(high, 32), low)
 }
 
 impl DirectForm1Wide {
@@ -171,7 +180,8 @@ impl DirectForm1Wide {
         requires { ⌜ fractionNumber 0 c ≡ 0 ⌝ }
         ensures { λ r. ⌜ (r .y ≡ wideOut c self x0) × (r .state ≡ wideNext c self x0) ⌝ }
     {
-        let acc = shl_i64(self.sum(c, x0), 32 - c.f);
+        let f = c.f;
+        let acc = shl_i64(self.sum(c, x0), 32 - f);
         Turned {
             y: i64_high(acc),
             state: DirectForm1Wide {

@@ -8,22 +8,18 @@ use Rattle.words.proofs.Sizes.{low-product-fits}
 use Rattle.fixed.proofs.wide.low_product.Statement.{statement}
 use Rattle.fixed.proofs.wide.low_product.Tie as tie
 
-i64-as-u32-requires : tie.Need-i64-as-u32-requires
-i64-as-u32-requires c κs = search needs
-
-u32-as-i64-requires : tie.Need-u32-as-i64-requires
-u32-as-i64-requires c κs = search needs
+low-of-requires : tie.Need-low-of-requires
+low-of-requires c κs = search needs
 
 i32-as-i64-requires : tie.Need-i32-as-i64-requires
 i32-as-i64-requires c κs = search needs
 
 mul-result : tie.Need-mul-result
 mul-result c =
-    let k = c .before in let l = k .before in let s = l .before in let y = s .args .y in let a = s .args .a in
+    let k = c .before in let s = k .before in let y = s .args .y in let a = s .args .a in
     rw (
-      read w64 (k .u32-as-i64 .result) (k .u32-as-i64 .ok),
-      k .u32-as-i64 .ensures,
-      l .i64-as-u32 .ensures,
+      read w64 (k .low-of .result) (k .low-of .ok),
+      k .low-of .ensures,
       toZ-ofZ w64 y (s .fits .y),
       read w64 (c .i32-as-i64 .result) (c .i32-as-i64 .ok),
       c .i32-as-i64 .ensures,
@@ -33,11 +29,10 @@ mul-result c =
 
 returns : tie.Need-returns
 returns c =
-    let k = c .before in let l = k .before in let s = l .before in let y = s .args .y in let a = s .args .a in
+    let k = c .before in let s = k .before in let y = s .args .y in let a = s .args .a in
     rw (
-      read w64 (k .u32-as-i64 .result) (k .u32-as-i64 .ok),
-      k .u32-as-i64 .ensures,
-      l .i64-as-u32 .ensures,
+      read w64 (k .low-of .result) (k .low-of .ok),
+      k .low-of .ensures,
       toZ-ofZ w64 y (s .fits .y),
       read w64 (c .i32-as-i64 .result) (c .i32-as-i64 .ok),
       c .i32-as-i64 .ensures,
@@ -46,6 +41,4 @@ returns c =
     )
 
 pub low-product-spec : {M : Type 1} → statement M
-low-product-spec =
-    tie.close
-    (tie.spec i64-as-u32-requires u32-as-i64-requires i32-as-i64-requires mul-result returns)
+low-product-spec = tie.close (tie.spec low-of-requires i32-as-i64-requires mul-result returns)

@@ -9,21 +9,18 @@ use Rattle.fixed.proofs.wide.overwrite.Tie as tie
 i32-as-i64-requires : tie.Need-i32-as-i64-requires
 i32-as-i64-requires c κs = search needs
 
+low-of-requires : tie.Need-low-of-requires
+low-of-requires c κs = search needs
+
 shl-i64-requires : tie.Need-shl-i64-requires
 shl-i64-requires c κs = search needs
-
-i64-as-u32-requires : tie.Need-i64-as-u32-requires
-i64-as-u32-requires c κs = search needs
-
-u32-as-i64-requires : tie.Need-u32-as-i64-requires
-u32-as-i64-requires c κs = search needs
 
 add-i64-requires : tie.Need-add-i64-requires
 add-i64-requires c κs = search needs
 
 returns : tie.Need-returns
 returns c =
-    let u = c .before in let l = u .before in let h = l .before in let i = h .before in let s = i .before in
+    let h = c .before in let l = h .before in let i = l .before in let s = i .before in
     let acc = s .args .acc in let y = s .args .y in
     rw (
       read w64 (c .add-i64 .result) (c .add-i64 .ok),
@@ -32,9 +29,8 @@ returns c =
       h .shl-i64 .ensures,
       read w64 (i .i32-as-i64 .result) (i .i32-as-i64 .ok),
       i .i32-as-i64 .ensures,
-      read w64 (u .u32-as-i64 .result) (u .u32-as-i64 .ok),
-      u .u32-as-i64 .ensures,
-      l .i64-as-u32 .ensures,
+      read w64 (l .low-of .result) (l .low-of .ok),
+      l .low-of .ensures,
       toZ-ofZ w64 acc (s .fits .acc),
       toZ-ofZ w32 y (s .fits .y),
     )
@@ -43,10 +39,4 @@ returns c =
 pub overwrite-spec : {M : Type 1} → statement M
 overwrite-spec =
     tie.close
-    (tie.spec
-    i32-as-i64-requires
-    shl-i64-requires
-    i64-as-u32-requires
-    u32-as-i64-requires
-    add-i64-requires
-    returns)
+    (tie.spec i32-as-i64-requires low-of-requires shl-i64-requires add-i64-requires returns)

@@ -14,7 +14,7 @@ sum-requires : tie.Need-sum-requires
 sum-requires c κs = search needs
 
 sub-shl-i64 : tie.Need-sub-shl-i64
-sub-shl-i64 c = omega (arith, in-range 1 (c .before .before .args .c) (c .before .before .pre))
+sub-shl-i64 c = omega (arith, in-range 1 (c .before .args .c) (c .before .pre))
 
 shl-i64-requires : tie.Need-shl-i64-requires
 shl-i64-requires c κs = search needs
@@ -23,7 +23,7 @@ i64-as-u32-requires : tie.Need-i64-as-u32-requires
 i64-as-u32-requires c κs = search needs
 
 sub-shr-u32 : tie.Need-sub-shr-u32
-sub-shr-u32 c = let s = c .before .before .before .before .before in omega (arith, in-range 1 (s .args .c) (s .pre))
+sub-shr-u32 c = let s = c .before .before .before in omega (arith, in-range 1 (s .args .c) (s .pre))
 
 shr-u32-requires : tie.Need-shr-u32-requires
 shr-u32-requires c κs = search needs
@@ -33,7 +33,7 @@ i64-high-requires c κs = search needs
 
 returns : tie.Need-returns
 returns c =
-    let h = c .before in let r = h .before in let w = r .before .before in let l = w .before in let m = l .before .before in let s = m .before in
+    let h = c .before in let r = h .before in let w = r .before in let l = w .before in let m = l .before in let s = m .before in
     let a = s .args in let g = c .struct-told .given in let i = in-range 1 (a .c) (s .pre) in
     let up : (32 - a .c .f) % 64 ≡ 32 - a .c .f = mod-eq-of-lt (omega arith) in
     let down : (32 - a .c .f) % 32 ≡ 32 - a .c .f = mod-eq-of-lt (omega arith) in

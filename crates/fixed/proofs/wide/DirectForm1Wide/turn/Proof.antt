@@ -14,7 +14,7 @@ sum-requires : tie.Need-sum-requires
 sum-requires c κs = search needs
 
 sub-shl-i64 : tie.Need-sub-shl-i64
-sub-shl-i64 c = omega (arith, in-range 0 (c .before .before .args .c) (c .before .before .pre))
+sub-shl-i64 c = omega (arith, in-range 0 (c .before .args .c) (c .before .pre))
 
 shl-i64-requires : tie.Need-shl-i64-requires
 shl-i64-requires c κs = search needs
@@ -24,15 +24,15 @@ i64-high-requires c κs = search needs
 
 returns : tie.Need-returns
 returns c =
-    let h = c .before in let l = h .before in let m = l .before .before in let s = m .before in
+    let h = c .before in let l = h .before in let m = l .before in let s = m .before in
     let a = s .args in let g = c .struct-told .given in
-    let e : (32 - a .c .f) % 64 ≡ 32 - a .c .f = mod-eq-of-lt (omega arith) in
+    let up : (32 - a .c .f) % 64 ≡ 32 - a .c .f = mod-eq-of-lt (omega arith) in
     rw (
       read w32 (h .i64-high .result) (h .i64-high .ok),
       h .i64-high .ensures,
       read w64 (l .shl-i64 .result) (l .shl-i64 .ok),
       l .shl-i64 .ensures,
-      e,
+      up,
       read w64 (m .sum .result) (m .sum .ok),
       m .sum .ensures,
       toZ-ofZ w32 (a .x0) (s .fits .x0),
