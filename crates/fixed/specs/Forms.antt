@@ -31,15 +31,15 @@ wideOut c s x = floorDiv (raised c (wideSum c s x)) (2 ^ 32)
 abbrev pub wideNext : Biquad → DirectForm1Wide → ℤ → DirectForm1Wide
 wideNext c s x = record { x1 = x; x2 = s .x1; y1 = raised c (wideSum c s x); y2 = s .y1 }
 
--- Dither: the error joins the sum; the output is the high word, and the error what the low word holds, shifted back.
+-- Dither: the error joins the sum; the output is the high word, and the next error is the low word, shifted back.
+abbrev pub errorOf : Biquad → ℤ → ℕ
+errorOf c sum = word w32 (raised c sum) / 2 ^ (32 - c .f)
+
 unfoldable pub ditherSum : Biquad → DirectForm1Dither → ℤ → ℤ
 ditherSum c s x = wrap w64 (pos (s .e) +ℤ (forward c x (s .x1) (s .x2) +ℤ (c .a1 *ℤ s .y1 +ℤ c .a2 *ℤ s .y2)))
 
 abbrev pub ditherOut : Biquad → DirectForm1Dither → ℤ → ℤ
 ditherOut c s x = floorDiv (raised c (ditherSum c s x)) (2 ^ 32)
-
-abbrev pub errorOf : Biquad → ℤ → ℕ
-errorOf c sum = word w32 (raised c sum) / 2 ^ (32 - c .f)
 
 abbrev pub ditherNext : Biquad → DirectForm1Dither → ℤ → DirectForm1Dither
 ditherNext c s x = record { x1 = x; x2 = s .x1; y1 = ditherOut c s x; y2 = s .y1; e = errorOf c (ditherSum c s x) }
