@@ -1,0 +1,6 @@
+pub mod Spreading
+pub mod Wraps
+pub mod Halves
+pub mod Numbers
+pub mod Keeping
+pub mod Figures

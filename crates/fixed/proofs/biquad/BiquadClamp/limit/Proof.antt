@@ -1,0 +1,30 @@
+use borrow.Author.Needs.{needs}
+use mir.Syntax.{w32}
+use mir.ValLaws.{toZ-ofZ}
+use Rattle.words.proofs.Reading.{read}
+use Rattle.fixed.proofs.biquad.BiquadClamp.limit.Statement.{statement}
+use Rattle.fixed.proofs.biquad.BiquadClamp.limit.Tie as tie
+
+add-i32-requires : tie.Need-add-i32-requires
+add-i32-requires c κs = search needs
+
+clamp-requires : tie.Need-clamp-requires
+clamp-requires c κs = search needs
+
+returns : tie.Need-returns
+returns c =
+    let k = c .before .before .before in let t = k .before in let s = t .before in
+    let a = s .args in let g = t .struct-told .given in
+    rw (
+      read w32 (c .clamp .result) (c .clamp .ok),
+      c .clamp .ensures,
+      read w32 (k .add-i32 .result) (k .add-i32 .ok),
+      k .add-i32 .ensures,
+      toZ-ofZ w32 (a .y) (s .fits .y),
+      read w32 (a .self .u) (g .1 .0 .1),
+      read w32 (a .self .min) (g .1 .1 .0 .1),
+      read w32 (a .self .max) (g .1 .1 .1 .0 .1),
+    )
+
+pub limit-spec : {M : Type 1} → statement M
+limit-spec = tie.close (tie.spec add-i32-requires clamp-requires returns)
