@@ -41,7 +41,8 @@ fn clip(lo: i32, hi: i32, shift: u32) -> i32
     add_i32(shr_i32(lo, shift), shl_i32(hi, 32 - shift))
 }
 
-// lo scaled down by shift bits and extended by hi, clipped where hi exceeds the output's range. 65 where shift is outside 1..32.
+// lo scaled down by shift bits and extended by hi, clipped where hi exceeds the output's range.
+// 65 where shift is outside 1..32.
 pub fn saturating_scale(lo: i32, hi: i32, shift: u32) -> Scaled
     ensures { λ r. ⌜ r ≡ scaledOf lo hi shift ⌝ }
 {
