@@ -1,5 +1,5 @@
 -- What stays: a prediction leaves all but the phase, and without coefficients neither frequency nor phase leaves zero.
-use mathlib.Core.Path.{_≡_, refl, ap}
+use mathlib.Core.Path.{_≡_, refl}
 use mathlib.Core.List.{List, [], _∷_}
 use lib.IntN.{ℤ, pos, zero-*ℤ}
 use Rattle.words.specs.Words as W

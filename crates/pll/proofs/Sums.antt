@@ -1,10 +1,9 @@
 -- The machine's sums, each wrapped by itself, are the sum wrapped once; the low word's product fits.
-use mathlib.Core.Path.{_≡_, refl, sym, ap, _∙_, subst}
-use Prim.Native.Nat.{_^_}
+use mathlib.Core.Path.{_≡_, refl, subst}
 use lib.IntN.{ℤ, pos, _+ℤ_, _*ℤ_, *ℤ-comm}
 use mir.Syntax.{w32, w64}
 use mir.Val.{SFits}
-use Rattle.words.specs.Words.{word, wrap, floorDiv}
+use Rattle.words.specs.Words.{word, wrap}
 use Rattle.words.proofs.Reading.{word-fits}
 use Rattle.words.proofs.Sums.{equal, _and_, wrapped, same-add, wrap-same}
 use Rattle.words.proofs.Sizes.{low-product-fits}

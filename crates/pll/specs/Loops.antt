@@ -1,4 +1,5 @@
--- 01, 'Sections and loops': the PLL's step follows the code, every sum and product modulo its width. Each line of the code by its meaning.
+-- 01, 'Sections and loops': the PLL's step follows the code, every sum and product modulo its width.
+-- Each line of the code stands here by its meaning.
 use Prim.Native.Nat.{_^_}
 use lib.IntN.{ℤ, pos, _+ℤ_, _*ℤ_}
 use mir.Syntax.{w32, w64}

@@ -15,7 +15,8 @@ ghost use mir.Syntax.{w64};
 ghost use Rattle.words.specs.Words.{wrap};
 ghost use Rattle.blocks.specs.Scan.{scan, ends};
 ghost use Rattle.blocks.specs.Blocks.{Blocked};
-ghost use Rattle.pll.specs.Loops.{frequencyOf, predictedOf, scaledOf, leadLag, trackedOf, trackedPhase, trackedNext};
+ghost use Rattle.pll.specs.Loops.{frequencyOf, predictedOf, scaledOf, leadLag};
+ghost use Rattle.pll.specs.Loops.{trackedOf, trackedPhase, trackedNext};
 
 // The lead lag's coefficients, as bits with 32 of them after the point: f0 grows by b0 y0 + b1 y1 + a1 f1.
 pub struct PLL {

@@ -1,7 +1,7 @@
 -- The machine's words of 64 bits give the exact quotients: a word's high part is the floor's word, its low part the remainder.
 use mathlib.Core.Path.{_≡_, refl, sym, ap, _∙_}
-use Prim.Native.Nat.{ℕ, zero, suc, _+_, _-_, _*_, _/_, _%_, _^_, _<_, _≤_}
-use native.Mathlib.Nat.{mod-lt, mod-eq-of-lt, add-mul}
+use Prim.Native.Nat.{ℕ, suc, _+_, _-_, _*_, _/_, _%_, _^_, _<_, _≤_}
+use native.Mathlib.Nat.{mod-lt, add-mul}
 use native.Mathlib.Omega.{arith}
 use lib.Arith.{mod-mul, digits-div}
 use lib.Pow.{pow-pos, pow-add, pow-lt}

@@ -1,4 +1,5 @@
--- 01, 'Sections and loops': the RPLL's step follows the code, every sum and product modulo its width. Each line of the code by its meaning.
+-- 01, 'Sections and loops': the RPLL's step follows the code, every sum and product modulo its width.
+-- Each line of the code stands here by its meaning.
 use mathlib.Core.Bool.{cond, _||_}
 use Prim.Native.Nat.{ℕ, _+_, _-_, _/_, _^_}
 use lib.Dec.{ltb, leb, eqb}
@@ -12,7 +13,8 @@ use Rattle.rpll.specs.declared.Timestamp.the-variants.{At, Missing}
 use Rattle.rpll.specs.declared.Estimate.the-variants.{Given, Refused}
 use Rattle.rpll.specs.declared.Processed.{Processed}
 
--- 60: dt2 above 30. 61: shift_frequency not above dt2, or above 32. 62: shift_phase below dt2 or above dt2 + 31. 0: none of them
+-- 60: dt2 above 30. 61: shift_frequency not above dt2, or above 32. 62: shift_phase below dt2 or above dt2 + 31.
+-- 0 where it is none of them.
 unfoldable pub refusalOf : RPLLConfig → ℕ
 refusalOf c =
     cond (ltb 30 (c .dt2)) 60
@@ -23,7 +25,7 @@ refusalOf c =
 abbrev pub periodOf : ℤ → ℤ → ℤ
 periodOf before x = wrap w32 (x -ℤ before)
 
--- phase over the period dx at the frequency ff, divided by 2 ^ shift_frequency and rounded to the nearest, a half upwards
+-- phase over the period dx at the frequency ff, divided by 2 ^ shift_frequency and rounded, a half upwards
 abbrev pub signalPhase : ℕ → ℤ → ℕ → ℕ
 signalPhase ff dx shift = word w32 (floorDiv (pos ff *ℤ dx +ℤ pos (2 ^ (shift - 1))) (2 ^ shift))
 
@@ -51,7 +53,7 @@ errorOf f x y dt2 shift = floorDiv (wrap w32 (expectedPhase f x dt2 -ℤ y)) (2 
 abbrev pub advancedOf : RPLL → RPLL
 advancedOf s = record { x = s .x; ff = s .ff; f = s .f; y = wrap w32 (s .y +ℤ pos (s .f)) }
 
--- a timestamp x, once the phase has advanced: it is stored, and the frequency is that of the frequency lock and the phase error
+-- a timestamp x, once the phase has advanced: it is stored, and the frequency comes from the lock and the phase error
 abbrev pub frequencyLocked : RPLLConfig → RPLL → ℤ → ℕ
 frequencyLocked c s x = lockedOf (s .ff) (periodOf (s .x) x) (c .dt2) (c .«shift_frequency»)
 
@@ -59,7 +61,12 @@ abbrev pub phaseError : RPLLConfig → RPLL → ℤ → ℤ
 phaseError c s x = errorOf (s .f) x (s .y) (c .dt2) (c .«shift_phase»)
 
 abbrev pub takenOf : RPLLConfig → RPLL → ℤ → RPLL
-takenOf c s x = record { x = x; ff = frequencyLocked c s x; f = word w32 (pos (frequencyLocked c s x) +ℤ phaseError c s x); y = s .y }
+takenOf c s x = record {
+  x = x;
+  ff = frequencyLocked c s x;
+  f = word w32 (pos (frequencyLocked c s x) +ℤ phaseError c s x);
+  y = s .y;
+}
 
 -- a step, with a timestamp or without
 abbrev pub steppedOf : RPLLConfig → RPLL → Timestamp → RPLL
@@ -70,5 +77,8 @@ steppedOf c s Missing = advancedOf s
 abbrev pub givenOf : RPLL → Processed
 givenOf s = record { estimate = Given (s .y) (wrap w32 (pos (s .f))); state = s }
 
+-- a refused call hands back the given state
 unfoldable pub processedOf : RPLLConfig → RPLL → Timestamp → Processed
-processedOf c s t = cond (eqb (refusalOf c) 0) (givenOf (steppedOf c s t)) (record { estimate = Refused (refusalOf c); state = s })
+processedOf c s t =
+    cond (eqb (refusalOf c) 0) (givenOf (steppedOf c s t))
+    (record { estimate = Refused (refusalOf c); state = s })

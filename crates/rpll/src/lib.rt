@@ -1,5 +1,5 @@
-// The reciprocal phase-locked loop: from the timestamps of a reference, the phase and frequency of its own steps against
-// that reference, 2^32 to a turn. Port of the crate's rpll.rs. Callers cite specs/Loops.
+// The reciprocal phase-locked loop: from the timestamps of a reference, the phase and frequency of its own steps
+// against that reference, 2^32 to a turn. Port of the crate's rpll.rs. Callers cite specs/Loops.
 use words::casts::i32_as_u32;
 use words::casts::i32_as_u64;
 use words::casts::u32_as_i32;
@@ -33,7 +33,7 @@ pub struct RPLL {
 pub struct RPLLConfig {
     // A step lasts 2^dt2 counter cycles.
     pub dt2: u8,
-    // The frequency loop settles in 2^shift_frequency counter cycles, which are to be more than a period of the reference.
+    // The frequency loop settles in 2^shift_frequency counter cycles, which are to be more than the reference's period.
     pub shift_frequency: u8,
     // The phase loop settles in 2^shift_phase counter cycles, usually half as many.
     pub shift_phase: u8,
@@ -69,7 +69,8 @@ fn frequency_lock(ff: u32, dx: i32, dt2: u32, shift: u32) -> u32
     add_u32(ff, sub_u32(p_ref, p_sig))
 }
 
-// The phase loop: what the phase y lacks to the reference's now, by the timestamp x and the frequency f, over 2^(shift - dt2).
+// The phase loop: what the phase y lacks to the reference's now, by the timestamp x and the frequency f,
+// over 2^(shift - dt2).
 fn phase_error(f: u32, x: i32, y: i32, dt2: u32, shift: u32) -> i32
     requires { ⌜ (dt2 ≤ 30) × (dt2 ≤ shift) × (shift ≤ dt2 + 31) ⌝ }
     ensures { λ r. ⌜ r ≡ errorOf f x y dt2 shift ⌝ }

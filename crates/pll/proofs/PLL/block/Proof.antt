@@ -19,7 +19,8 @@ same-length c = search needs
 returns-2 : tie.Need-returns-2
 returns-2 c =
     let k = c .before in let a = c .before .before .before .before .args in
-    taken 0 (trackedPhase (a .self)) (trackedNext (a .self)) (a .state) (a .xs .now) (a .ys .now) (k .track-all .result) _ (search needs) refl (k .track-all .ensures .0) (k .track-all .ensures .1)
+    taken 0 (trackedPhase (a .self)) (trackedNext (a .self)) (a .state) (a .xs .now) (a .ys .now)
+    (k .track-all .result) _ (search needs) refl (k .track-all .ensures .0) (k .track-all .ensures .1)
 
 pub block-spec : {M : Type 1} → statement M
 block-spec = tie.close (tie.spec returns track-all-requires same-length returns-2)

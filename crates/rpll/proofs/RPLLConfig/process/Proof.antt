@@ -1,9 +1,8 @@
-use mathlib.Core.Path.{_≡_, _∙_, sym}
 use borrow.Author.Needs.{needs}
 use mir.Syntax.{w32}
 use Rattle.words.proofs.Reading.{read}
 use borrow.Author.Tests.{eq-eqb, ne-eqb}
-use Rattle.rpll.specs.Loops.{refusalOf, processedOf}
+use Rattle.rpll.specs.Loops.{processedOf}
 use Rattle.rpll.proofs.RPLLConfig.process.Statement.{statement}
 use Rattle.rpll.proofs.RPLLConfig.process.Tie as tie
 
@@ -52,7 +51,15 @@ returns-3 c =
     let v = m .before in
     let o = v .before in
     let e = o .before .refusal in
-    rw (c .given2 .ensures, l .taken .ensures, v .advanced .ensures, ← e .ensures, eq-eqb (e .result) 0 (o .if1 .left), t .before .x .given .1, read w32 (t .before .x .given .0 .0) (t .known-told .given .0 .1))
+    rw (
+      c .given2 .ensures,
+      l .taken .ensures,
+      v .advanced .ensures,
+      ← e .ensures,
+      eq-eqb (e .result) 0 (o .if1 .left),
+      t .before .x .given .1,
+      read w32 (t .before .x .given .0 .0) (t .known-told .given .0 .1),
+    )
 
 pub process-spec : {M : Type 1} → statement M
 process-spec =
