@@ -1,6 +1,9 @@
 pub mod Ops
+pub mod Signed
 pub mod Machine
 pub mod Moving
 pub mod State
 pub mod Calls
 pub mod Runs
+pub mod Demands
+pub mod Figures

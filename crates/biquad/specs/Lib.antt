@@ -1,0 +1,5 @@
+pub mod Rounded
+pub mod Coefficients
+pub mod Forms
+pub mod Answers
+pub mod Zeros

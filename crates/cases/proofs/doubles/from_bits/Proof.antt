@@ -1,0 +1,19 @@
+use mathlib.Core.Path.{sym}
+use lib.Ieee.{div, ofBits}
+use borrow.Author.Needs.{needs}
+use Rattle.cases.proofs.Patterns.{pattern-nan, pattern-number}
+use Rattle.cases.proofs.doubles.from_bits.Statement.{statement}
+use Rattle.cases.proofs.doubles.from_bits.Tie as tie
+
+returns : tie.Need-returns
+unfolding div ofBits
+returns c = sym (pattern-nan (c .before .args .bits) (c .if1 .taken))
+
+float-from-bits-result : tie.Need-float-from-bits-result
+float-from-bits-result c = pattern-number (c .before .args .bits) (c .if1 .left)
+
+returns-2 : tie.Need-returns-2
+returns-2 c = search needs
+
+pub from-bits-spec : {M : Type 1} → statement M
+from-bits-spec = tie.close (tie.spec returns float-from-bits-result returns-2)

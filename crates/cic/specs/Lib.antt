@@ -1,0 +1,5 @@
+pub mod Reading
+pub mod Answers
+pub mod Cascade
+pub mod Turns
+pub mod InTurn

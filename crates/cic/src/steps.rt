@@ -1,0 +1,215 @@
+// The decimator's and the interpolator's step.
+use crate::cascade::difference;
+use crate::cascade::integrate;
+use crate::questions::Interpolated;
+use crate::state::Cic;
+ghost use mathlib.Core.Path.{_≡_};
+ghost use mathlib.Core.List.{_∷_, []};
+ghost use Prim.Native.Nat.{_-_};
+ghost use Rattle.sums.specs.Runs.{dueSample};
+ghost use Rattle.sums.specs.State.{refusal};
+ghost use Rattle.cic.specs.Reading.{i32Ops, stateOf, cicOf};
+ghost use Rattle.cic.specs.Answers.{steppedOf, liftedOf, risenOf};
+ghost use Rattle.cic.specs.Turns.{numbersOf, apart, Ready, Turns, Rises};
+
+// What a decimator's step gives: an output and whether it is settled, nothing, or the number of a refusal.
+pub enum Out {
+    Given(i32, bool),
+    Nothing,
+    Refused(u32),
+}
+
+// A decimator's step: the state after it, and what it gives.
+pub struct Stepped {
+    pub state: Cic,
+    pub out: Out,
+}
+
+// What an interpolator's step is given.
+pub enum Sample {
+    Given(i32),
+    Missing,
+}
+
+// An interpolator's step: the state after it, and its output.
+pub struct Risen {
+    pub state: Cic,
+    pub out: Interpolated,
+}
+
+// A state's numbers: all of it but its arrays, which are lent beside them.
+pub(crate) struct Numbers {
+    pub order: usize,
+    pub delay: usize,
+    pub rate: u32,
+    pub countdown: u32,
+    pub unsettled: usize,
+    pub hold: i32,
+}
+
+// A decimator's step on lent arrays: the numbers after it, and what it gives.
+pub(crate) struct Turned {
+    pub numbers: Numbers,
+    pub out: Out,
+}
+
+// An interpolator's step on lent arrays: the numbers after it, and its output.
+pub(crate) struct Lifted {
+    pub numbers: Numbers,
+    pub value: i32,
+}
+
+// A state put together.
+pub(crate) fn joined(n: Numbers, integrators: [i32; 8], combs: [i32; 64]) -> Cic
+    ensures { λ r. ⌜ r ≡ cicOf (apart n integrators combs) ⌝ }
+{
+    Cic {
+        order: n.order,
+        delay: n.delay,
+        rate: n.rate,
+        countdown: n.countdown,
+        unsettled: n.unsettled,
+        hold: n.hold,
+        integrators,
+        combs,
+    }
+}
+
+fn lowered(n: usize) -> usize
+    ensures { λ r. ⌜ r ≡ n - 1 ⌝ }
+{
+    if n == 0 { 0 } else { n - 1 }
+}
+
+// The decimator's step of an accepted state whose arrays are lent.
+pub(crate) fn turn(integrators: &mut [i32; 8], combs: &mut [i32; 64], n: Numbers, x: i32) -> Turned
+    requires { ⌜ Ready (apart n (now integrators) (now combs)) ⌝ }
+    ensures { λ r. ⌜ Turns (apart n (now (integrators .entry)) (now (combs .entry))) x (apart (r .numbers) (now (integrators .exit)) (now (combs .exit))) (r .out) ⌝ }
+{
+    let mut numbers = n;
+    let unsettled = n.unsettled;
+    let sum = integrate(integrators, n.order, x);
+    if 0 < n.countdown {
+        numbers.countdown = n.countdown - 1;
+        return Turned {
+            numbers,
+            out: Out::Nothing,
+        };
+    }
+    let y = difference(combs, n.order, n.delay, sum);
+    numbers.countdown = n.rate;
+    numbers.unsettled = lowered(unsettled);
+    numbers.hold = y;
+    Turned {
+        numbers,
+        out: Out::Given(y, unsettled == 0),
+    }
+}
+
+// The interpolator's step of an accepted state whose arrays are lent. Above countdown 0, x isn't looked at.
+pub(crate) fn lift(integrators: &mut [i32; 8], combs: &mut [i32; 64], n: Numbers, x: i32) -> Lifted
+    requires { ⌜ Ready (apart n (now integrators) (now combs)) ⌝ }
+    ensures { λ r. ⌜ Rises (apart n (now (integrators .entry)) (now (combs .entry))) (dueSample i32Ops (n .countdown) (x ∷ [])) (apart (r .numbers) (now (integrators .exit)) (now (combs .exit))) (r .value) ⌝ }
+{
+    let mut next = n;
+    if 0 < n.countdown {
+        next.countdown = n.countdown - 1;
+        let value = integrate(integrators, n.order, n.hold);
+        return Lifted {
+            numbers: next,
+            value,
+        };
+    }
+    let hold = difference(combs, n.order, n.delay, x);
+    next.countdown = n.rate;
+    next.hold = hold;
+    let value = integrate(integrators, n.order, hold);
+    Lifted {
+        numbers: next,
+        value,
+    }
+}
+
+impl Cic {
+    // All but the arrays.
+    pub(crate) fn numbers(self) -> Numbers
+        ensures { λ r. ⌜ r ≡ numbersOf self ⌝ }
+    {
+        Numbers {
+            order: self.order,
+            delay: self.delay,
+            rate: self.rate,
+            countdown: self.countdown,
+            unsettled: self.unsettled,
+            hold: self.hold,
+        }
+    }
+
+    // The interpolator's step of an accepted state.
+    fn lifted(self, x: i32) -> Risen
+        requires { ⌜ refusal (stateOf self) ≡ 0 ⌝ }
+        ensures { λ r. ⌜ r ≡ liftedOf self (dueSample i32Ops (self .countdown) (x ∷ [])) ⌝ }
+    {
+        let mut integrators = self.integrators;
+        let mut combs = self.combs;
+        let t = lift(&mut integrators, &mut combs, self.numbers(), x);
+        let numbers = t.numbers;
+        let state = joined(numbers, integrators, combs);
+        Risen {
+            state,
+            out: Interpolated::Value(t.value),
+        }
+    }
+
+    // One input in: every R-th step gives an output, held too, and lowers an unsettled count above 0 by 1.
+    // A refused step changes nothing.
+    pub fn decimate(self, x: i32) -> Stepped
+        ensures { λ r. ⌜ r ≡ steppedOf self x ⌝ }
+    {
+        let number = self.refusal();
+        if number != 0 {
+            return Stepped {
+                state: self,
+                out: Out::Refused(number),
+            };
+        }
+        let mut integrators = self.integrators;
+        let mut combs = self.combs;
+        let t = turn(&mut integrators, &mut combs, self.numbers(), x);
+        let numbers = t.numbers;
+        let state = joined(numbers, integrators, combs);
+        let out = t.out;
+        Stepped { state, out }
+    }
+
+    // One output out: a sample is due exactly at countdown 0, and is then held for R steps. Refused with 21 where one is given
+    // and none is due, and with 22 where none is given and one is due. A refused step changes nothing.
+    pub fn interpolate(self, sample: Sample) -> Risen
+        ensures { λ r. ⌜ r ≡ risenOf self sample ⌝ }
+    {
+        let number = self.refusal();
+        if number != 0 {
+            return Risen {
+                state: self,
+                out: Interpolated::Refused(number),
+            };
+        }
+        let countdown = self.countdown;
+        let Sample::Given(x) = sample else {
+            if countdown == 0 {
+                return Risen {
+                    state: self,
+                    out: Interpolated::Refused(22),
+                };
+            }
+            return self.lifted(0);
+        };
+        if 0 < countdown {
+            return Risen {
+                state: self,
+                out: Interpolated::Refused(21),
+            };
+        }
+        self.lifted(x)
+    }
+}

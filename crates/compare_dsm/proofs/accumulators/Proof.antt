@@ -1,0 +1,55 @@
+use lib.ListN.{length}
+use Prim.Native.Nat.{_≤_, _-_}
+use mathlib.Core.Path.{_≡_}
+use borrow.Author.Needs.{needs}
+use Rattle.compare_dsm.proofs.accumulators.Statement.{statement}
+use Rattle.compare_dsm.proofs.accumulators.Tie as tie
+
+abbrev Inv-loop : tie.InvT-loop
+Inv-loop text at a₀ j₀ a j = (j ≤ 8) × (length a ≡ 8)
+
+abbrev μ-loop : tie.MeasureT-loop
+μ-loop text at a₀ j₀ a j = 8 - j
+
+loop-holds : tie.Need-loop-holds Inv-loop μ-loop
+loop-holds c = search needs
+
+add-word : tie.Need-add-word Inv-loop μ-loop
+add-word c = search needs
+
+word-requires : tie.Need-word-requires Inv-loop μ-loop
+word-requires c κs = search needs
+
+mul-a : tie.Need-mul-a Inv-loop μ-loop
+mul-a c = search needs
+
+array-write-a : tie.Need-array-write-a Inv-loop μ-loop
+array-write-a c = search needs
+
+add-j : tie.Need-add-j Inv-loop μ-loop
+add-j c = search needs
+
+loop-less : tie.Need-loop-less Inv-loop μ-loop
+loop-less c = search needs
+
+loop-again : tie.Need-loop-again Inv-loop μ-loop
+loop-again c = search needs
+
+returns : tie.Need-returns Inv-loop μ-loop
+returns c = search needs
+
+pub accumulators-spec : {M : Type 1} → statement M
+accumulators-spec =
+    tie.close
+    (tie.spec
+    Inv-loop
+    μ-loop
+    loop-holds
+    add-word
+    word-requires
+    mul-a
+    array-write-a
+    add-j
+    loop-less
+    loop-again
+    returns)

@@ -1,0 +1,49 @@
+use borrow.Author.Needs.{needs}
+use Prim.Native.Nat.{_≤_, _-_}
+use Rattle.compare_wdf.proofs.run_steps.Statement.{statement}
+use Rattle.compare_wdf.proofs.run_steps.Tie as tie
+
+abbrev Inv-loop : tie.InvT-loop
+Inv-loop sections architecture seed steps r₀ i₀ r i = i ≤ steps
+
+abbrev μ-loop : tie.MeasureT-loop
+μ-loop sections architecture seed steps r₀ i₀ r i = steps - i
+
+drawn-requires : tie.Need-drawn-requires Inv-loop μ-loop
+drawn-requires c κs = search needs
+
+loop-holds : tie.Need-loop-holds Inv-loop μ-loop
+loop-holds c = search needs
+
+step-on-requires : tie.Need-step-on-requires Inv-loop μ-loop
+step-on-requires c κs = search needs
+
+add-i : tie.Need-add-i Inv-loop μ-loop
+add-i c = search needs
+
+loop-less : tie.Need-loop-less Inv-loop μ-loop
+loop-less c = search needs
+
+loop-again : tie.Need-loop-again Inv-loop μ-loop
+loop-again c = search needs
+
+fed-cells-requires : tie.Need-fed-cells-requires Inv-loop μ-loop
+fed-cells-requires c κs = search needs
+
+returns : tie.Need-returns Inv-loop μ-loop
+returns c = search needs
+
+pub run-steps-spec : {M : Type 1} → statement M
+run-steps-spec =
+    tie.close
+    (tie.spec
+    Inv-loop
+    μ-loop
+    drawn-requires
+    loop-holds
+    step-on-requires
+    add-i
+    loop-less
+    loop-again
+    fed-cells-requires
+    returns)

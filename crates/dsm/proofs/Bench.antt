@@ -1,0 +1,39 @@
+-- By computation: the definition gives the bench figures, and reaches both ends of its range.
+use mathlib.Core.Path.{_≡_, refl}
+use mathlib.Core.Bool.{Bool, true, _&&_}
+use Prim.Native.Nat.{ℕ, zero, suc, _≤_}
+use mathlib.Core.Logic.{⊎-elim}
+use native.Mathlib.Nat.{eq-or-lt-of-le}
+use native.Mathlib.Omega.{arith}
+use Rattle.dsm.specs.Modulator.{accumulated, carries, combined, retaining, output, keeping, outOf, nextOf, least, greatest}
+use Rattle.dsm.specs.Totals.{outputs}
+use Rattle.dsm.specs.Bench.{figures, Hold, among, swing, EndsReached}
+use Rattle.dsm.proofs.Ranges.{both}
+
+pub t7-t8 : Hold figures
+unfolding accumulated carries combined retaining output keeping outOf nextOf
+t7-t8 = (refl, (refl, tt))
+
+-- a test that each number of 1 .. n passes
+passes : (ℕ → Bool) → ℕ → Bool
+passes test zero = true
+passes test (suc n) = passes test n && test (suc n)
+
+pass : (test : ℕ → Bool) (n k : ℕ) → passes test n ≡ true → 1 ≤ k → k ≤ n → test k ≡ true
+unfolding passes
+pass test zero k h l m = absurd (omega arith)
+pass test (suc n) k h l m =
+    let b = both (passes test n) (test (suc n)) h in
+    ⊎-elim (λ e. rw e (b .1)) (λ e. pass test n k (b .0) l (omega arith)) (eq-or-lt-of-le m)
+
+reaches : ℕ → Bool
+reaches K = among (least K) (outputs K (swing K)) && among (greatest K) (outputs K (swing K))
+
+all-reach : passes reaches 8 ≡ true
+unfolding passes reaches accumulated carries combined retaining output keeping outOf nextOf
+all-reach = refl
+
+pub ends-reached : EndsReached
+unfolding reaches
+ends-reached K l m =
+    both (among (least K) (outputs K (swing K))) (among (greatest K) (outputs K (swing K))) (pass reaches 8 K all-reach l m)

@@ -1,0 +1,11 @@
+pub mod Chaining
+pub mod Ranges
+pub mod Combining
+pub mod Shapes
+pub mod Refusals
+pub mod Running
+pub mod Ways
+pub mod Balance
+pub mod Totals
+pub mod Bench
+pub mod Settled

@@ -1,0 +1,20 @@
+-- The step's and the block's promises settle their answers: any two results that they allow are one.
+use mathlib.Core.Path.{_≡_, sym, _∙_}
+use mathlib.Core.List.{List}
+use Prim.Native.Nat.{ℕ}
+use lib.IntN.{ℤ}
+use Rattle.blocks.specs.declared.Verdict.{Verdict}
+use Rattle.dsm.specs.declared.Dsm.{Dsm}
+use Rattle.dsm.specs.declared.Made.{Made}
+use Rattle.dsm.specs.declared.Stepped.{Stepped}
+use Rattle.dsm.specs.Calls.{Steps, Runs}
+
+pub steps-settled : (s : Dsm) (x : ℕ) (q r : Stepped) → Steps s x q → Steps s x r → q ≡ r
+steps-settled s x q r p t = p .step ∙ sym (t .step)
+
+same : (s t : Dsm) (v w : Verdict) → s ≡ t → v ≡ w → _≡_ {A = Made} (record { state = s; verdict = v }) (record { state = t; verdict = w })
+same s t v w e f = rw (e, f)
+
+pub runs-settled : (s : Dsm) (xs : List ℕ) (ys : List ℤ) (q r : Made) (us vs : List ℤ) → Runs s xs ys q us → Runs s xs ys r vs → (q ≡ r) × (us ≡ vs)
+runs-settled s xs ys q r us vs p t =
+    (same (q .state) (r .state) (q .verdict) (r .verdict) (p .state ∙ sym (t .state)) (p .verdict ∙ sym (t .verdict)), p .written ∙ sym (t .written))

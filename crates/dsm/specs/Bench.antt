@@ -1,0 +1,49 @@
+-- 01, 'Bench figures': T7 and T8, one statement over one table. And both ends of the output range, reached from zero.
+use mathlib.Core.Path.{_≡_}
+use mathlib.Core.Bool.{Bool, true, false, _&&_, _||_}
+use mathlib.Core.List.{List, [], _∷_}
+use Prim.Native.Nat.{ℕ, zero, suc, _+_, _-_, _%_, _^_, _≤_}
+use lib.IntN.{ℤ, pos}
+use lib.ListN.{replicate}
+use lib.Signed.{leZ}
+use Rattle.dsm.specs.Modulator.{least, greatest}
+use Rattle.dsm.specs.Totals.{outputs}
+
+pub record Figure : Type 0 where
+  pub order : ℕ
+  pub inputs : List ℕ
+  pub gives : List ℤ
+
+-- T7 K 1, x 2 ^ 31: 0, 1, 0, 1. T8 K 2, same x: 0, 1, 1, 0.
+abbrev pub figures : List Figure
+figures =
+    record { order = 1; inputs = replicate 4 (2 ^ 31); gives = pos 0 ∷ pos 1 ∷ pos 0 ∷ pos 1 ∷ [] }
+    ∷ record { order = 2; inputs = replicate 4 (2 ^ 31); gives = pos 0 ∷ pos 1 ∷ pos 1 ∷ pos 0 ∷ [] }
+    ∷ []
+
+abbrev pub Hold : List Figure → Type 0
+Hold [] = Unit
+Hold (f ∷ fs) = (outputs (f .order) (f .inputs) ≡ f .gives) × Hold fs
+
+-- whether y is among the numbers
+abbrev pub among : ℤ → List ℤ → Bool
+among y [] = false
+among y (z ∷ zs) = leZ y z && leZ z y || among y zs
+
+-- the backward difference modulo 2 ^ 32, after v
+abbrev pub differences : ℕ → List ℕ → List ℕ
+differences v [] = []
+differences v (w ∷ ws) = ((w + 2 ^ 32 - v) % 2 ^ 32) ∷ differences w ws
+
+-- Inputs under which the last of K accumulators swings between 2 ^ 32 - 2 ^ 20 and 2 ^ 20: each accumulator sums the one before.
+abbrev pub swings : ℕ → List ℕ
+swings zero = []
+swings (suc n) = (2 ^ 32 - 2 ^ 20) ∷ (2 ^ 20) ∷ swings n
+
+abbrev pub swing : ℕ → List ℕ
+swing zero = swings 5
+swing (suc K) = differences 0 (swing K)
+
+abbrev pub EndsReached : Type 0
+EndsReached = (K : ℕ) → 1 ≤ K → K ≤ 8
+    → (among (least K) (outputs K (swing K)) ≡ true) × (among (greatest K) (outputs K (swing K)) ≡ true)

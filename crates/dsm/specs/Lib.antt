@@ -1,0 +1,5 @@
+pub mod Modulator
+pub mod Calls
+pub mod Cells
+pub mod Totals
+pub mod Bench

@@ -1,0 +1,5 @@
+pub mod Nibbles
+pub mod Passes
+pub mod Steps
+pub mod Adapters
+pub mod Filters

@@ -1,0 +1,27 @@
+use borrow.Author.Needs.{needs}
+use mir.Syntax.{w32, w64}
+use mir.ValLaws.{toZ-ofZ}
+use Rattle.words.proofs.Reading.{read}
+use Rattle.wdf.proofs.tpa.scale.Statement.{statement}
+use Rattle.wdf.proofs.tpa.scale.Tie as tie
+
+product-requires : tie.Need-product-requires
+product-requires c κs = search needs
+
+i64-high-requires : tie.Need-i64-high-requires
+i64-high-requires c κs = search needs
+
+returns : tie.Need-returns
+returns c =
+    let k = c .before in let s = k .before in
+    rw (
+      read w32 (c .i64-high .result) (c .i64-high .ok),
+      c .i64-high .ensures,
+      read w64 (k .product .result) (k .product .ok),
+      k .product .ensures,
+      toZ-ofZ w32 (s .args .c) (s .fits .c),
+      toZ-ofZ w32 (s .args .a) (s .fits .a),
+    )
+
+pub scale-spec : {M : Type 1} → statement M
+scale-spec = tie.close (tie.spec product-requires i64-high-requires returns)

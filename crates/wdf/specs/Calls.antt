@@ -1,0 +1,56 @@
+-- The calls on a filter: what each refuses, answers and leaves.
+use mathlib.Core.Bool.{cond}
+use mathlib.Core.List.{List, _++_}
+use Prim.Native.Nat.{ℕ, zero, suc, _/_, _^_}
+use lib.Dec.{eqb, ltb}
+use lib.ListN.{drop, replicate}
+use lib.IntN.{ℤ, pos}
+use Rattle.blocks.specs.Blocks.{unless}
+use Rattle.blocks.specs.Verdicts.{verdictOf}
+use Rattle.wdf.specs.declared.filter.Wdf.{Wdf}
+use Rattle.wdf.specs.declared.filter.Answer.{Answer}
+use Rattle.wdf.specs.declared.filter.Out.{Out}
+use Rattle.wdf.specs.declared.filter.Out.the-variants.{Given, Refused}
+use Rattle.wdf.specs.declared.filter.Stepped.{Stepped}
+use Rattle.wdf.specs.Sections.{sectionsOf, Passed, passed}
+
+-- 01, refusals: 50, more than 8 sections; 51, a nonzero nibble beyond the last section; 0 where there is none
+unfoldable pub numberOf : ℕ → ℕ → ℕ
+numberOf sections architecture = cond (ltb 8 sections) 50 (cond (eqb (architecture / 16 ^ sections) 0) 0 51)
+
+abbrev pub number : Wdf → ℕ
+number s = numberOf (s .sections) (s .architecture)
+
+abbrev pub filter : ℕ → ℕ → List ℤ → List ℤ → Wdf
+filter sections architecture a z = record { sections = sections; architecture = architecture; a = a; z = z }
+
+-- 01: a refused maker gives its number and an all-zero state
+abbrev pub none : Wdf
+none = filter 0 0 (replicate 8 (pos 0)) (replicate 8 (pos 0))
+
+-- a new filter: its cells are zero
+unfoldable pub made : ℕ → ℕ → List ℤ → Answer
+made sections architecture a = record {
+  state = unless (numberOf sections architecture) none (filter sections architecture a (replicate 8 (pos 0)));
+  verdict = verdictOf (numberOf sections architecture);
+}
+
+-- what x does to the sections of s
+abbrev pub run : Wdf → ℤ → Passed
+run s x = passed (sectionsOf (s .sections) (s .architecture) (s .a) (s .z)) x
+
+abbrev pub answer : Wdf → ℤ → ℤ
+answer s x = run s x .back
+
+-- the filter after x: the cells beyond its sections stay
+abbrev pub next : Wdf → ℤ → Wdf
+next s x = filter (s .sections) (s .architecture) (s .a) (run s x .cells ++ drop (s .sections) (s .z))
+
+-- the answer y, unless there is a refusal's number
+abbrev pub outOf : ℕ → ℤ → Out
+outOf zero y = Given y
+outOf (suc k) y = Refused (suc k)
+
+-- 01: a refused call hands back the given state and is no step
+unfoldable pub stepped : Wdf → ℤ → Stepped
+stepped s x = record { state = unless (number s) s (next s x); out = outOf (number s) (answer s x) }

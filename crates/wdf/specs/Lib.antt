@@ -1,0 +1,3 @@
+pub mod Adapters
+pub mod Sections
+pub mod Calls

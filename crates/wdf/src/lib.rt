@@ -1,0 +1,5 @@
+// Wave digital filters: two port adapters in a chain of up to 8 sections, each with a coefficient and a cell.
+// Port of the crate's iir/wdf.rs. Callers cite specs/Adapters (Tpa), specs/Sections (what runs through a chain) and
+// specs/Calls (Wdf); proofs/Adapters and proofs/Filters have what follows from them.
+pub mod filter;
+pub mod tpa;
