@@ -1,0 +1,79 @@
+use borrow.Author.Needs.{needs}
+use lib.Signed.{shrZ, mag-shr}
+use mir.Syntax.{w32, w64}
+use mir.Val.{SFits}
+use mir.ValLaws.{toZ-ofZ, sfits-le}
+use Rattle.words.proofs.Reading.{read}
+use Rattle.pll.specs.Loops.{trackedPhase, trackedNext}
+use Rattle.pll.proofs.PLL.process.Statement.{statement}
+use Rattle.pll.proofs.PLL.process.Tie as tie
+
+predict-requires : tie.Need-predict-requires
+predict-requires c κs = search needs
+
+add-i32-requires : tie.Need-add-i32-requires
+add-i32-requires c κs = search needs
+
+process-requires : tie.Need-process-requires
+process-requires c κs = search needs
+
+add-i32-requires-2 : tie.Need-add-i32-requires-2
+add-i32-requires-2 c κs = search needs
+
+lead-lag-requires : tie.Need-lead-lag-requires
+lead-lag-requires c κs = search needs
+
+add-i64-requires : tie.Need-add-i64-requires
+add-i64-requires c κs = search needs
+
+returns : tie.Need-returns
+unfolding trackedPhase trackedNext
+returns c =
+    let f = c .before in
+    let l = f .before .before in
+    let y0 = l .before in
+    let f0 = y0 .before in
+    let n = f0 .before in
+    let z0 = n .before in
+    let h = z0 .before in
+    let e = h .before .before in
+    let j = e .before in
+    let t = j .before .before in
+    let g = t .before in
+    let s = g .before in
+    let a = s .args in
+    let z = e .process .result .y in
+    let b = h .struct-told2 .given .0 .1 in
+    let k : SFits w32 z = record { sfits = b } in
+    rw (
+      read w64 (c .add-i64 .result) (c .add-i64 .ok),
+      c .add-i64 .ensures,
+      read w64 (l .lead-lag .result) (l .lead-lag .ok),
+      l .lead-lag .ensures,
+      read w32 (n .add-i322 .result) (n .add-i322 .ok),
+      n .add-i322 .ensures,
+      read w32 z b,
+      toZ-ofZ w32 (shrZ z 2) (sfits-le (mag-shr z 2) k),
+      e .process .ensures,
+      read w32 (j .add-i32 .result) (j .add-i32 .ok),
+      j .add-i32 .ensures,
+      toZ-ofZ w32 (a .x) (s .fits .x),
+      read w32 (g .predict .result .y) (t .struct-told .given .0 .1),
+      g .predict .ensures,
+      read w32 (a .state .z0) (z0 .struct-told3 .given .1 .0 .1),
+      read w32 (a .state .y0) (y0 .struct-told5 .given .1 .1 .0 .1),
+      read w64 (a .state .f0) (f0 .struct-told4 .given .1 .1 .1 .0 .1),
+      read w64 (a .state .f) (f .struct-told6 .given .1 .1 .1 .1 .0 .1),
+    )
+
+pub process-spec : {M : Type 1} → statement M
+process-spec =
+    tie.close
+    (tie.spec
+    predict-requires
+    add-i32-requires
+    process-requires
+    add-i32-requires-2
+    lead-lag-requires
+    add-i64-requires
+    returns)

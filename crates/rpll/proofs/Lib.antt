@@ -1,0 +1,3 @@
+pub mod Ranges
+pub mod Rounding
+pub mod Coasting

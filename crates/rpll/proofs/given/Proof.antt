@@ -1,0 +1,20 @@
+use borrow.Author.Needs.{needs}
+use mir.Syntax.{w32}
+use Rattle.words.proofs.Reading.{read}
+use Rattle.rpll.proofs.given.Statement.{statement}
+use Rattle.rpll.proofs.given.Tie as tie
+
+u32-as-i32-requires : tie.Need-u32-as-i32-requires
+u32-as-i32-requires c κs = search needs
+
+returns : tie.Need-returns
+returns c =
+    let u = c .before in
+    rw (
+      read w32 (u .before .args .state .y) (c .struct-told .given .1 .1 .1 .0 .1),
+      read w32 (u .u32-as-i32 .result) (u .u32-as-i32 .ok),
+      u .u32-as-i32 .ensures,
+    )
+
+pub given-spec : {M : Type 1} → statement M
+given-spec = tie.close (tie.spec u32-as-i32-requires returns)
