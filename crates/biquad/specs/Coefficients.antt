@@ -1,10 +1,10 @@
 -- 01, 'f64 biquad': pairs, the associated filters, the record of doubles, gain and offset.
 use mathlib.Core.Bool.{true, false}
-use mathlib.Core.List.{List, [], _∷_}
 use lib.Ieee.{Float, inf, neg}
 use Rattle.biquad.specs.Rounded.{_⊕_, _⊗_, nought, one}
 use Rattle.biquad.specs.declared.pair.Pair.{Pair}
 use Rattle.biquad.specs.declared.pair.Pair.the-variants.{Real, Complex}
+use Rattle.biquad.specs.declared.pair.Quadratic.{Quadratic}
 use Rattle.biquad.specs.declared.biquad.Biquad.{Biquad}
 use Rattle.biquad.specs.declared.biquad_clamp.BiquadClamp.{BiquadClamp}
 
@@ -17,8 +17,8 @@ abbrev pub productOf : Pair → Float
 productOf (Real x y) = x ⊗ y
 productOf (Complex x y) = x ⊗ x ⊕ y ⊗ y
 
-abbrev pub coeffOf : Pair → List Float
-coeffOf p = sumOf p ∷ productOf p ∷ []
+abbrev pub coeffOf : Pair → Quadratic
+coeffOf p = record { 0 = sumOf p; 1 = productOf p }
 
 -- from zeros, poles and gain
 abbrev pub zpkOf : Pair → Pair → Float → Biquad

@@ -52,10 +52,10 @@ impl Biquad {
         let a = poles.coeff();
         Biquad {
             b0: gain,
-            b1: -(gain * b[0]),
-            b2: gain * b[1],
-            a1: a[0],
-            a2: -a[1],
+            b1: -(gain * b.0),
+            b2: gain * b.1,
+            a1: a.0,
+            a2: -a.1,
         }
     }
 

@@ -9,14 +9,17 @@ pub enum Pair {
     Complex(f64, f64),
 }
 
+// The two coefficients that a pair of roots gives: the sum of the roots, and their product.
+pub struct Quadratic(pub f64, pub f64);
+
 impl Pair {
-    // The real polynomial coefficients: the sum of the roots, then their product.
-    pub fn coeff(self) -> [f64; 2]
+    // The real polynomial coefficients.
+    pub fn coeff(self) -> Quadratic
         ensures { λ r. ⌜ r ≡ coeffOf self ⌝ }
     {
         match self {
-            Pair::Real(x, y) => [x + y, x * y],
-            Pair::Complex(x, y) => [x + x, x * x + y * y],
+            Pair::Real(x, y) => Quadratic(x + y, x * y),
+            Pair::Complex(x, y) => Quadratic(x + x, x * x + y * y),
         }
     }
 }

@@ -66,10 +66,10 @@ fn polynomial(text: &[u8], at: usize) -> u64
     ensures { λ r. ⌜ r ≤ 1 ⌝ }
 {
     let c = pair(text, at + 1).coeff();
-    if other(text, at + 6, c[0]) == 1 {
+    if other(text, at + 6, c.0) == 1 {
         return 1;
     }
-    other(text, at + 8, c[1])
+    other(text, at + 8, c.1)
 }
 
 fn zpk(text: &[u8], at: usize) -> u64

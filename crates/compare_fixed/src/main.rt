@@ -1,4 +1,5 @@
-// Runs the proved wide and dithered biquads over the Rust's stored answers (oracle/README.md, fixed) and prints what differs.
+// Runs the proved wide and dithered biquads over the Rust's stored answers (oracle/README.md, fixed) and prints
+// what differs.
 use blocks::Verdict;
 use cases::runs::digest;
 use cases::runs::spread;

@@ -1,4 +1,5 @@
-// Runs the proved adapters and filters over the Rust's stored answers (oracle/README.md, wdf) and prints what differs.
+// Runs the proved adapters and filters over the Rust's stored answers (oracle/README.md, wdf) and prints what
+// differs.
 use cases::runs::digest;
 use cases::runs::spread;
 use cases::text::double;

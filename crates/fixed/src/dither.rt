@@ -43,7 +43,8 @@ struct Turned {
 }
 
 impl DirectForm1Dither {
-    // Takes the input x0: the output, and the state that has both and the error. 40 where f is outside 1..31: the state stays.
+    // Takes the input x0: the output, and the state that has both and the error. 40 where f is outside 1..31: the
+    // state stays.
     pub fn process(self, c: Biquad, x0: i32) -> DitherStep
         ensures { λ r. ⌜ r ≡ ditherOf c self x0 ⌝ }
     {
@@ -62,7 +63,8 @@ impl DirectForm1Dither {
         }
     }
 
-    // The same with offset and limits; the limited output goes into the state, the error stays. 40, 41: the state stays.
+    // The same with offset and limits; the limited output goes into the state, the error stays. 40, 41: the state
+    // stays.
     pub fn process_clamp(self, c: BiquadClamp, x0: i32) -> DitherStep
         ensures { λ r. ⌜ r ≡ ditherClampOf c self x0 ⌝ }
     {
@@ -81,7 +83,8 @@ impl DirectForm1Dither {
         }
     }
 
-    // Takes the inputs in turn and writes their outputs. 31 where the slices differ in length, else 40: nothing is written.
+    // Takes the inputs in turn and writes their outputs. 31 where the slices differ in length, else 40: nothing is
+    // written.
     pub fn block(self, c: Biquad, xs: &[i32], ys: &mut [i32]) -> DitherBlock
         ensures { λ r. ⌜ Blocked (fractionNumber 1 c) (ditherOut c) (ditherNext c) self (now (xs .entry)) (now (ys .entry)) (r .state) (r .verdict) (now (ys .exit)) ⌝ }
     {

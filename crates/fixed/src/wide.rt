@@ -117,7 +117,8 @@ impl DirectForm1Wide {
         }
     }
 
-    // Takes the inputs in turn and writes their outputs. 31 where the slices differ in length, else 40: nothing is written.
+    // Takes the inputs in turn and writes their outputs. 31 where the slices differ in length, else 40: nothing is
+    // written.
     pub fn block(self, c: Biquad, xs: &[i32], ys: &mut [i32]) -> WideBlock
         ensures { λ r. ⌜ Blocked (fractionNumber 0 c) (wideOut c) (wideNext c) self (now (xs .entry)) (now (ys .entry)) (r .state) (r .verdict) (now (ys .exit)) ⌝ }
     {

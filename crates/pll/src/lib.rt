@@ -49,7 +49,8 @@ pub struct TrackedBlock {
 }
 
 impl PLLState {
-    // Advances the phase by an update period at the current frequency; all else stays. For an update without an input.
+    // Advances the phase by an update period at the current frequency; all else stays. For an update without an
+    // input.
     pub fn predict(self) -> Tracked
         ensures { λ r. ⌜ r ≡ predictedOf self ⌝ }
     {

@@ -33,7 +33,8 @@ pub struct RPLL {
 pub struct RPLLConfig {
     // A step lasts 2^dt2 counter cycles.
     pub dt2: u8,
-    // The frequency loop settles in 2^shift_frequency counter cycles, which are to be more than the reference's period.
+    // The frequency loop settles in 2^shift_frequency counter cycles, which are to be more than the reference's
+    // period.
     pub shift_frequency: u8,
     // The phase loop settles in 2^shift_phase counter cycles, usually half as many.
     pub shift_phase: u8,

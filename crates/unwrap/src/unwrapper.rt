@@ -61,7 +61,8 @@ impl Unwrapper {
         i64_as_i32(self.y)
     }
 
-    // Feeds the samples in turn and writes their differences. 31 where the slices differ in length: nothing is written.
+    // Feeds the samples in turn and writes their differences. 31 where the slices differ in length: nothing is
+    // written.
     pub fn block(self, xs: &[i32], dxs: &mut [i32]) -> UnwrappedBlock
         ensures { λ r. ⌜ Blocked 0 stepOf grown self (now (xs .entry)) (now (dxs .entry)) (r .state) (r .verdict) (now (dxs .exit)) ⌝ }
     {
