@@ -227,6 +227,7 @@ fn turn_all(s: DirectForm1Wide, c: Biquad, xs: &[i32], ys: &mut [i32]) -> Direct
     t
 }
 
+// The clamped steps of a block in turn.
 fn turn_clamp_all(s: DirectForm1Wide, c: BiquadClamp, xs: &[i32], ys: &mut [i32]) -> DirectForm1Wide
     requires { ⌜ (length (now xs) ≡ length (now ys)) × (clampNumber 0 c ≡ 0) ⌝ }
     ensures { λ r. ⌜ (r ≡ ends (wideHeld c) (wideOnward c) s (now (xs .entry)))
