@@ -404,6 +404,95 @@ fn differs(text: &[u8], at: usize, code: u32) -> u64
     }
 }
 
+// A clamped filter of no gain with f fraction bits and these limits.
+fn silent(f: u32, min: i32, max: i32) -> BiquadClamp {
+    BiquadClamp {
+        coeff: Biquad {
+            b0: 0,
+            b1: 0,
+            b2: 0,
+            a1: 0,
+            a2: 0,
+            f,
+        },
+        u: 0,
+        min,
+        max,
+    }
+}
+
+// The number of a refused step of it from zero; 0, its output, where it is accepted.
+fn wide_number(f: u32, min: i32, max: i32) -> u32 {
+    let r = wide_step(silent(f, min, max), wide_of(&[0u32; 14]), 0, true);
+    let out = r.out;
+    value(out)
+}
+
+fn dither_number(f: u32, min: i32, max: i32) -> u32 {
+    let r = dither_step(silent(f, min, max), dither_of(&[0u32; 14]), 0, true);
+    let out = r.out;
+    value(out)
+}
+
+// The number of a refused block of n inputs and two outputs; 0 where it is accepted.
+fn wide_block_number(f: u32, min: i32, max: i32, n: usize) -> u32
+    requires { ⌜ n ≤ 4 ⌝ }
+{
+    let xs = [0i32; 4];
+    let mut ys = [0i32; 2];
+    let s = wide_of(&[0u32; 14]);
+    let r = s.block_clamp(silent(f, min, max), &xs[..n], &mut ys);
+    let v = r.verdict;
+    number(v)
+}
+
+fn dither_block_number(f: u32, min: i32, max: i32, n: usize) -> u32
+    requires { ⌜ n ≤ 4 ⌝ }
+{
+    let xs = [0i32; 4];
+    let mut ys = [0i32; 2];
+    let s = dither_of(&[0u32; 14]);
+    let r = s.block_clamp(silent(f, min, max), &xs[..n], &mut ys);
+    let v = r.verdict;
+    number(v)
+}
+
+fn same(a: u32, b: u32) -> u64
+    ensures { λ r. ⌜ r ≤ 1 ⌝ }
+{
+    if a == b { 0 } else { 1 }
+}
+
+// Steps: 40 at the bounds and before 41; equal limits are in order. Of 10 cases, how many differ from document 01.
+fn step_refusals() -> u64
+    ensures { λ r. ⌜ r ≤ 10 ⌝ }
+{
+    same(wide_number(0, -1, 1), 0)
+        + same(wide_number(31, 0, 0), 0)
+        + same(wide_number(32, -1, 1), 40)
+        + same(wide_number(32, 1, -1), 40)
+        + same(wide_number(31, 1, -1), 41)
+        + same(dither_number(0, -1, 1), 40)
+        + same(dither_number(1, -1, 1), 0)
+        + same(dither_number(31, -1, 1), 0)
+        + same(dither_number(32, 1, -1), 40)
+        + same(dither_number(1, 1, -1), 41)
+}
+
+// Blocks: 31 before 40 before 41. Of 8 cases, how many differ from document 01.
+fn block_refusals() -> u64
+    ensures { λ r. ⌜ r ≤ 8 ⌝ }
+{
+    same(wide_block_number(32, 1, -1, 3), 31)
+        + same(wide_block_number(32, 1, -1, 2), 40)
+        + same(wide_block_number(0, 1, -1, 2), 41)
+        + same(wide_block_number(0, -1, 1, 2), 0)
+        + same(dither_block_number(0, 1, -1, 3), 31)
+        + same(dither_block_number(0, 1, -1, 2), 40)
+        + same(dither_block_number(1, 1, -1, 2), 41)
+        + same(dither_block_number(1, -1, 1, 2), 0)
+}
+
 // How many cases a line stands for: the steps of a run, else one.
 fn weight(text: &[u8], at: usize, code: u32) -> u64
     requires { ⌜ at < 65536 ⌝ }
@@ -448,4 +537,6 @@ fn main() {
     compare(text, 10, b"wide clamped, tame runs in blocks");
     compare(text, 11, b"dither, tame runs in blocks");
     compare(text, 12, b"dither clamped, tame runs in blocks");
+    report(b"refusals of steps", 10, step_refusals());
+    report(b"refusals of blocks", 8, block_refusals());
 }

@@ -3,4 +3,5 @@ pub mod Wraps
 pub mod Halves
 pub mod Numbers
 pub mod Keeping
+pub mod Opening
 pub mod Figures

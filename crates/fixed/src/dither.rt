@@ -141,6 +141,7 @@ impl DirectForm1Dither {
         add_i64(u32_as_i64(self.e), add_i64(inputs, outputs))
     }
 
+    // A step that is accepted.
     fn turn(self, c: Biquad, x0: i32) -> Turned
         requires { ⌜ fractionNumber 1 c ≡ 0 ⌝ }
         ensures { λ r. ⌜ (r .y ≡ ditherOut c self x0) × (r .state ≡ ditherNext c self x0) ⌝ }
@@ -161,6 +162,7 @@ impl DirectForm1Dither {
         }
     }
 
+    // A clamped step that is accepted.
     fn turn_clamp(self, c: BiquadClamp, x0: i32) -> Turned
         requires { ⌜ clampNumber 1 c ≡ 0 ⌝ }
         ensures { λ r. ⌜ (r .y ≡ ditherHeld c self x0) × (r .state ≡ ditherOnward c self x0) ⌝ }
@@ -174,6 +176,7 @@ impl DirectForm1Dither {
     }
 }
 
+// The steps of a block in turn.
 fn turn_all(s: DirectForm1Dither, c: Biquad, xs: &[i32], ys: &mut [i32]) -> DirectForm1Dither
     requires { ⌜ (length (now xs) ≡ length (now ys)) × (fractionNumber 1 c ≡ 0) ⌝ }
     ensures { λ r. ⌜ (r ≡ ends (ditherOut c) (ditherNext c) s (now (xs .entry)))
@@ -192,6 +195,7 @@ fn turn_all(s: DirectForm1Dither, c: Biquad, xs: &[i32], ys: &mut [i32]) -> Dire
     t
 }
 
+// The clamped steps of a block in turn.
 fn turn_clamp_all(
     s: DirectForm1Dither,
     c: BiquadClamp,

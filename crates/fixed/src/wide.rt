@@ -177,6 +177,7 @@ impl DirectForm1Wide {
         )
     }
 
+    // A step that is accepted.
     fn turn(self, c: Biquad, x0: i32) -> Turned
         requires { ⌜ fractionNumber 0 c ≡ 0 ⌝ }
         ensures { λ r. ⌜ (r .y ≡ wideOut c self x0) × (r .state ≡ wideNext c self x0) ⌝ }
@@ -194,6 +195,7 @@ impl DirectForm1Wide {
         }
     }
 
+    // A clamped step that is accepted.
     fn turn_clamp(self, c: BiquadClamp, x0: i32) -> Turned
         requires { ⌜ clampNumber 0 c ≡ 0 ⌝ }
         ensures { λ r. ⌜ (r .y ≡ wideHeld c self x0) × (r .state ≡ wideOnward c self x0) ⌝ }
@@ -207,6 +209,7 @@ impl DirectForm1Wide {
     }
 }
 
+// The steps of a block in turn.
 fn turn_all(s: DirectForm1Wide, c: Biquad, xs: &[i32], ys: &mut [i32]) -> DirectForm1Wide
     requires { ⌜ (length (now xs) ≡ length (now ys)) × (fractionNumber 0 c ≡ 0) ⌝ }
     ensures { λ r. ⌜ (r ≡ ends (wideOut c) (wideNext c) s (now (xs .entry)))
@@ -225,6 +228,7 @@ fn turn_all(s: DirectForm1Wide, c: Biquad, xs: &[i32], ys: &mut [i32]) -> Direct
     t
 }
 
+// The clamped steps of a block in turn.
 fn turn_clamp_all(s: DirectForm1Wide, c: BiquadClamp, xs: &[i32], ys: &mut [i32]) -> DirectForm1Wide
     requires { ⌜ (length (now xs) ≡ length (now ys)) × (clampNumber 0 c ≡ 0) ⌝ }
     ensures { λ r. ⌜ (r ≡ ends (wideHeld c) (wideOnward c) s (now (xs .entry)))
