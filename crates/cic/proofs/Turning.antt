@@ -19,9 +19,9 @@ use Rattle.cic.specs.declared.steps.Sample.{Sample}
 use Rattle.cic.specs.declared.state.Cic.{Cic}
 use Rattle.cic.specs.declared.questions.Interpolated.the-variants as Interpolated
 use Rattle.cic.specs.Reading.{i32Ops, stateOf, cicOf}
-use Rattle.cic.specs.Answers.{outOf, steppedOf, interpolatedOf, sampleOf, liftedOf, risenOf}
+use Rattle.cic.specs.Answers.{outOf, steppedOf, interpolatedOf, sampleOf, risenOf}
 use Rattle.cic.specs.Cascade.{Integrates, Combs}
-use Rattle.cic.specs.Turns.{Ready, Turns, Rises}
+use Rattle.cic.specs.Turns.{liftedOf, Ready, Turns, Rises}
 
 pub fit : (s : State ℤ) → Ready s → Fit s
 fit s r = fitted s (r .accepted) (r .long8) (r .long64)
@@ -79,7 +79,6 @@ module _ (s : Cic) (x : ℤ) where
 -- the interpolator's call
 pub lift-takes : (s : Cic) (x : Option ℤ) (t : State ℤ) (y : ℤ) → Rises (stateOf s) x t y
     → _≡_ {A = Risen} (record { state = cicOf t; out = Interpolated.Value y }) (liftedOf s x)
-unfolding interpolatedOf
 lift-takes s x t y r = rw (r .state, r .gives)
 
 module _ (s : Cic) (x : Sample) where
@@ -90,6 +89,7 @@ module _ (s : Cic) (x : Sample) where
   rise-refuses (suc k) e h = rw (← e, ne-eqb (suc k) 0 h)
 
   pub rise-takes : (r : Risen) (z : Option ℤ) → r ≡ liftedOf s z → z ≡ sampleOf x → riseNumber (stateOf s) (sampleOf x) ≡ 0 → r ≡ risenOf s x
+  unfolding interpolatedOf
   rise-takes r z er ez e = er ∙ rw (ez, e)
 
 -- the interpolator's numbers

@@ -67,12 +67,6 @@ abbrev pub sampleOf : Sample → Option ℤ
 sampleOf (Sample.Given x) = some x
 sampleOf Sample.Missing = none
 
-abbrev pub liftedOf : Cic → Option ℤ → Risen
-liftedOf s x = record {
-  state = cicOf (riseState i32Ops (stateOf s) x);
-  out = interpolatedOf 0 (Calls.risenOf i32Ops (stateOf s) x);
-}
-
 abbrev pub risenOf : Cic → Sample → Risen
 risenOf s x = record {
   state = cicOf (riseState i32Ops (stateOf s) (sampleOf x));

@@ -11,7 +11,9 @@ use Rattle.sums.specs.Runs.{needed, values, over, outputs, after, risings, rise
 use Rattle.cic.specs.declared.state.Cic.{Cic}
 use Rattle.cic.specs.declared.steps.Numbers.{Numbers}
 use Rattle.cic.specs.declared.steps.Out.{Out}
-use Rattle.cic.specs.Reading.{i32Ops}
+use Rattle.cic.specs.declared.steps.Risen.{Risen}
+use Rattle.cic.specs.declared.questions.Interpolated.the-variants as Interpolated
+use Rattle.cic.specs.Reading.{i32Ops, stateOf, cicOf}
 use Rattle.cic.specs.Answers.{outOf}
 
 abbrev pub numbersOf : Cic → Numbers
@@ -50,6 +52,13 @@ pub record Turns (s : State ℤ) (x : ℤ) (t : State ℤ) (out : Out) : Type 0 
 pub record Rises (s : State ℤ) (x : Option ℤ) (t : State ℤ) (y : ℤ) : Type 0 where
   pub state : t ≡ riseState i32Ops s x
   pub gives : y ≡ risenOf i32Ops s x
+
+-- The interpolator's step of an accepted `Cic`, as its call answers it.
+abbrev pub liftedOf : Cic → Option ℤ → Risen
+liftedOf s x = record {
+  state = cicOf (riseState i32Ops (stateOf s) x);
+  out = Interpolated.Value (risenOf i32Ops (stateOf s) x);
+}
 
 -- The decimator's steps of s on xs in turn leave t; k outputs stand in front of the slice that was out, which is now left.
 pub record Drives (s : State ℤ) (xs out : List ℤ) (t : State ℤ) (k : ℕ) (left : List ℤ) : Type 0 where

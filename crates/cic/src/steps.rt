@@ -9,8 +9,8 @@ ghost use Prim.Native.Nat.{_-_};
 ghost use Rattle.sums.specs.Runs.{dueSample};
 ghost use Rattle.sums.specs.State.{refusal};
 ghost use Rattle.cic.specs.Reading.{i32Ops, stateOf, cicOf};
-ghost use Rattle.cic.specs.Answers.{steppedOf, liftedOf, risenOf};
-ghost use Rattle.cic.specs.Turns.{numbersOf, apart, Ready, Turns, Rises};
+ghost use Rattle.cic.specs.Answers.{steppedOf, risenOf};
+ghost use Rattle.cic.specs.Turns.{numbersOf, apart, liftedOf, Ready, Turns, Rises};
 
 // What a decimator's step gives: an output and whether it is settled, nothing, or the number of a refusal.
 pub enum Out {
