@@ -1,14 +1,17 @@
 // Runs the proved decimator and interpolator over the Rust's stored answers (oracle/README.md, cic) and prints what
 // differs: short runs by steps with the whole state after each, long runs by blocks.
+use blocks::Verdict;
 use cases::runs::digest;
 use cases::runs::spread;
 use cases::text::double;
 use cases::text::report;
 use cases::text::word;
+use cic::questions::Fitting;
 use cic::questions::Interpolated;
 use cic::questions::Told;
 use cic::runs::Read;
 use cic::runs::Wrote;
+use cic::runs::settled_number;
 use cic::state::Cic;
 use cic::steps::Out;
 use cic::steps::Sample;
@@ -459,6 +462,185 @@ fn compare(text: &[u8], code: u32, name: &[u8]) {
     report(name, cases, differ);
 }
 
+// ---- refusals: each number at its boundary, and a neighbour that is accepted
+
+// n and one more where what was found isn't what document 01 says.
+fn tally(n: u64, found: u32, said: u32) -> u64 {
+    if found == said {
+        return n;
+    }
+    if n < 1000 {
+        return n + 1;
+    }
+    n
+}
+
+fn number(v: Verdict) -> u32 {
+    match v {
+        Verdict::Done => 0,
+        Verdict::Refused(k) => k,
+    }
+}
+
+fn made(order: usize, delay: usize, rate: u32) -> u32 {
+    let m = Cic::new(order, delay, rate);
+    let v = m.verdict;
+    number(v)
+}
+
+fn makers() -> u64 {
+    let mut n: u64 = 0;
+    n = tally(n, made(8, 1, 0), 0);
+    n = tally(n, made(9, 1, 0), 10);
+    n = tally(n, made(0, 0, 0), 11);
+    n = tally(n, made(0, 8, 0), 0);
+    n = tally(n, made(0, 9, 0), 11);
+    n = tally(n, made(0, 1, 65535), 0);
+    n = tally(n, made(0, 1, 65536), 12);
+    n = tally(n, made(9, 0, 65536), 10);
+    n = tally(n, made(8, 9, 65536), 11);
+    n
+}
+
+fn resumed(countdown: u32) -> u32 {
+    let m = Cic::resume(1, 1, 1, [0i32; 8], [0i32; 64], 0, countdown);
+    let v = m.verdict;
+    number(v)
+}
+
+// A state put together by hand.
+fn state(order: usize, delay: usize, rate: u32, countdown: u32, unsettled: usize) -> Cic {
+    Cic {
+        order,
+        delay,
+        rate,
+        countdown,
+        unsettled,
+        hold: 0,
+        integrators: [0i32; 8],
+        combs: [0i32; 64],
+    }
+}
+
+fn cleared(s: Cic) -> u32 {
+    let m = s.clear();
+    let v = m.verdict;
+    number(v)
+}
+
+fn rate_set(s: Cic, rate: u32) -> u32 {
+    let m = s.set_rate(rate);
+    let v = m.verdict;
+    number(v)
+}
+
+fn state_calls() -> u64 {
+    let mut n: u64 = 0;
+    n = tally(n, resumed(65535), 0);
+    n = tally(n, resumed(65536), 13);
+    n = tally(n, cleared(state(2, 3, 0, 0, 6)), 0);
+    n = tally(n, cleared(state(2, 3, 0, 0, 7)), 15);
+    n = tally(n, cleared(state(2, 3, 0, 65536, 7)), 13);
+    n = tally(n, rate_set(state(1, 1, 0, 65535, 0), 65535), 0);
+    n = tally(n, rate_set(state(1, 1, 0, 0, 0), 65536), 12);
+    n = tally(n, rate_set(state(1, 1, 0, 65536, 9), 65536), 12);
+    n
+}
+
+fn refused(t: Told) -> u32 {
+    match t {
+        Told::Number(_) => 0,
+        Told::Refused(k) => k,
+    }
+}
+
+fn fitted(f: Fitting) -> u32 {
+    match f {
+        Fitting::Fits(yes) => { if yes { 1 } else { 0 } }
+        Fitting::Refused(k) => k,
+    }
+}
+
+fn asked() -> u64 {
+    let mut n: u64 = 0;
+    n = tally(n, refused(state(7, 1, 510, 0, 0).gain()), 0);
+    n = tally(n, refused(state(7, 1, 511, 0, 0).gain()), 14);
+    n = tally(n, refused(state(7, 1, 511, 0, 8).gain()), 14);
+    n = tally(n, refused(state(7, 1, 510, 0, 8).gain()), 15);
+    n = tally(n, fitted(state(1, 1, 0, 0, 0).fit(0)), 17);
+    n = tally(n, fitted(state(1, 1, 0, 0, 0).fit(32)), 1);
+    n = tally(n, fitted(state(1, 1, 0, 0, 0).fit(33)), 17);
+    n = tally(n, fitted(state(3, 1, 4, 0, 0).fit(25)), 0);
+    n
+}
+
+fn stepped(s: Cic) -> u32 {
+    let t = s.decimate(1);
+    let out = t.out;
+    match out {
+        Out::Given(_, _) => 0,
+        Out::Nothing => 0,
+        Out::Refused(k) => k,
+    }
+}
+
+fn lifted(s: Cic, x: Sample) -> u32 {
+    let t = s.interpolate(x);
+    let out = t.out;
+    match out {
+        Interpolated::Value(_) => 0,
+        Interpolated::Refused(k) => k,
+    }
+}
+
+fn single_steps() -> u64 {
+    let mut n: u64 = 0;
+    n = tally(n, stepped(state(8, 8, 65535, 65535, 64)), 0);
+    n = tally(n, stepped(state(9, 1, 0, 0, 0)), 10);
+    n = tally(n, lifted(state(1, 1, 1, 0, 0), Sample::Given(1)), 0);
+    n = tally(n, lifted(state(1, 1, 1, 1, 0), Sample::Given(1)), 21);
+    n = tally(n, lifted(state(1, 1, 1, 1, 0), Sample::Missing), 0);
+    n = tally(n, lifted(state(1, 1, 1, 0, 0), Sample::Missing), 22);
+    n
+}
+
+fn down(s: Cic, input: &[i32], out: &mut [i32]) -> u32 {
+    let r = s.decimate_block(input, out);
+    let wrote = r.wrote;
+    match wrote {
+        Wrote::Outputs(_, _) => 0,
+        Wrote::Refused(k) => k,
+    }
+}
+
+fn up(s: Cic, input: &[i32], out: &mut [i32]) -> u32 {
+    let r = s.interpolate_block(input, out);
+    let read = r.read;
+    match read {
+        Read::Inputs(_) => 0,
+        Read::Refused(k) => k,
+    }
+}
+
+fn lent_slices() -> u64 {
+    let two = [1i32; 2];
+    let one = [1i32; 1];
+    let mut out = [0i32; 1];
+    let mut three = [0i32; 3];
+    let a = down(state(1, 1, 0, 0, 0), &one, &mut out);
+    let b = down(state(1, 1, 0, 0, 0), &two, &mut out);
+    let c = up(state(1, 1, 1, 0, 0), &one, &mut out);
+    let d = up(state(1, 1, 1, 0, 0), &one, &mut three);
+    let mut n: u64 = 0;
+    n = tally(n, a, 0);
+    n = tally(n, b, 20);
+    n = tally(n, c, 0);
+    n = tally(n, d, 23);
+    n = tally(n, settled_number(&one, 1), 0);
+    n = tally(n, settled_number(&one, 2), 20);
+    n
+}
+
 fn main() {
     let mut space = [0u8; 200000];
     let n = io::read_full(0, &mut space);
@@ -470,4 +652,13 @@ fn main() {
     compare(text, 5, b"tick, outputs, gain, gain_log2, response_length");
     compare(text, 6, b"settle_interpolate");
     compare(text, 7, b"clear");
+    report(b"refusals of the makers", 9, makers());
+    report(b"refusals of state calls", 8, state_calls());
+    report(b"refusals of questions", 8, asked());
+    report(b"refusals of steps", 6, single_steps());
+    report(
+        b"refusals of blocks and of the settled part",
+        6,
+        lent_slices(),
+    );
 }
