@@ -3,14 +3,15 @@
 use mathlib.Core.Path.{_≡_, refl, sym, ap, _∙_}
 use mathlib.Core.List.{List, [], _∷_}
 use Prim.Native.Nat.{ℕ, _+_, _-_, _*_, _/_, _^_, _<_}
-use native.Mathlib.Nat.{mul-div-left, mul-lt-mul-of-pos-right, eq-of-mul-eq-mul-right}
+use native.Mathlib.Nat.{mul-div-left, eq-of-mul-eq-mul-right}
 use native.Mathlib.Omega.{arith}
 use lib.Pow.{pow-pos, pow-add}
 use lib.IntN.{ℤ, pos, _+ℤ_, _*ℤ_}
 use mir.Syntax.{w32, w64}
 use Rattle.words.specs.Words as W
 use Rattle.words.specs.Words.{modℤ, word, wrap, floorDiv}
-use Rattle.words.proofs.Remainders.{rep-mod, rep-is, rep-scaled}
+use Rattle.words.proofs.Products.{spread, group}
+use Rattle.words.proofs.Floors.{halves, mod-scaled}
 use Rattle.words.proofs.Reading.{mod-below, word-narrow, word-wrap}
 use Rattle.blocks.specs.Scan.{ends}
 use Rattle.fixed.specs.declared.biquad.Biquad.{Biquad}
@@ -19,16 +20,8 @@ use Rattle.fixed.specs.declared.wide.DirectForm1Wide.{DirectForm1Wide}
 use Rattle.fixed.specs.declared.dither.DirectForm1Dither.{DirectForm1Dither}
 use Rattle.fixed.specs.Forms.{raised, errorOf, wideSum, wideOut, wideNext, wideHeld, wideOnward, ditherSum, ditherOut, ditherNext, ditherOnward}
 use Rattle.fixed.specs.Answers.{fractionNumber}
-use Rattle.fixed.proofs.Spreading.{spread, group}
-use Rattle.fixed.proofs.Halves.{halves, high-is, low-stays}
+use Rattle.fixed.proofs.Halves.{high-is, low-stays}
 use Rattle.fixed.proofs.Numbers.{in-range}
-
--- a number scaled by k leaves its remainder scaled by k
-mod-scaled : (z : ℤ) (m k : ℕ) → 0 < m → 0 < k → modℤ (z *ℤ pos k) (m * k) ≡ modℤ z m * k
-mod-scaled z m k hm hk =
-    let l : modℤ z m * k < m * k = mul-lt-mul-of-pos-right (mod-below z m hm) hk in
-    let h : 0 < m * k = omega arith in
-    sym (rep-is (m * k) h (z *ℤ pos k) (modℤ z m * k) l (rep-scaled m k h z (modℤ z m) (rep-mod m hm z)))
 
 -- the low word of a wrapped number
 low-word : (z : ℤ) → word w32 (wrap w64 z) ≡ word w32 z

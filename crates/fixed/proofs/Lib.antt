@@ -1,4 +1,3 @@
-pub mod Spreading
 pub mod Wraps
 pub mod Halves
 pub mod Numbers

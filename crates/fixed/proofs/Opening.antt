@@ -16,7 +16,7 @@ use Rattle.fixed.specs.declared.biquad.BiquadClamp.{BiquadClamp}
 use Rattle.fixed.specs.declared.wide.DirectForm1Wide.{DirectForm1Wide}
 use Rattle.fixed.specs.declared.dither.DirectForm1Dither.{DirectForm1Dither}
 use Rattle.fixed.specs.Forms.{limited, overwritten, raised, errorOf, wideSum, wideOut, wideNext, wideHeld, wideOnward, ditherSum, ditherOut, ditherNext, ditherHeld, ditherOnward}
-use Rattle.fixed.proofs.Halves.{halves}
+use Rattle.words.proofs.Floors.{halves}
 
 -- the crate's default
 abbrev pub openOf : Biquad → BiquadClamp

@@ -1,5 +1,5 @@
 -- Sums that are wrapped in turn are wrapped once; tests on words are tests on their numbers.
-use mathlib.Core.Path.{_≡_, refl, ap, _∙_}
+use mathlib.Core.Path.{_≡_, ap, _∙_}
 use mathlib.Core.Bool.{Bool}
 use lib.IntN.{ℤ, _+ℤ_}
 use lib.Signed.{ltZ}
@@ -7,14 +7,7 @@ use mir.Syntax.{Width, w32}
 use mir.Val.{SFits, toZ, ofZ}
 use mir.ValLaws.{toZ-ofZ}
 use Rattle.words.specs.Words.{wrap}
-use Rattle.words.proofs.Sums.{equal, wrapped, wrap-same, same-add}
-
-module _ (w : Width) (a b : ℤ) where
-  pub wrap-left : wrap w (wrap w a +ℤ b) ≡ wrap w (a +ℤ b)
-  wrap-left = wrap-same (same-add (wrapped w a) (equal refl))
-
-  pub wrap-right : wrap w (a +ℤ wrap w b) ≡ wrap w (a +ℤ b)
-  wrap-right = wrap-same (same-add {a = a} (equal refl) (wrapped w b))
+use Rattle.words.proofs.Sums.{wrap-left}
 
 pub wrap-inner : (w : Width) (a b d : ℤ) → wrap w (wrap w (wrap w a +ℤ b) +ℤ d) ≡ wrap w (a +ℤ b +ℤ d)
 wrap-inner w a b d = ap (λ (z : ℤ). wrap w (z +ℤ d)) (wrap-left w a b) ∙ wrap-left w (a +ℤ b) d

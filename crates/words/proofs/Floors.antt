@@ -5,15 +5,17 @@ use native.Mathlib.Nat.{div-add-mod', mod-lt, mul-div-left, mul-lt-mul-of-pos-ri
 use lib.Arith.{digits-div}
 use native.Mathlib.Omega.{arith}
 use lib.Pow.{pow-pos, pow-add}
-use lib.IntN.{ℤ, pos, negsuc, _+ℤ_, _-ℤ_, _*ℤ_}
+use lib.IntN.{ℤ, pos, negsuc, _+ℤ_, _-ℤ_, _*ℤ_, +ℤ-assoc, +ℤ-comm}
 use borrow.Author.Tests.{lt-ltb, le-ltb}
-use mir.Syntax.{Width}
+use mir.Syntax.{Width, w32}
 use mir.Val.{bits, hbits}
 use mir.ValLaws.{toZ-pos}
+use Rattle.words.specs.Words as W
 use Rattle.words.specs.Words.{modℤ, word, wrap, floorDiv}
 use Rattle.words.proofs.Remainders.{rep-mod, rep-is, rep-scaled}
 use Rattle.words.proofs.Reading.{mod-below, word-fits}
 use Rattle.words.proofs.Sums.{Same}
+use Rattle.words.proofs.Products.{spread, regroup}
 
 -- whole turns below a number, and what is left
 pub floor-rest : (z : ℤ) (m : ℕ) → 0 < m → floorDiv z m *ℤ pos m +ℤ pos (modℤ z m) ≡ z
@@ -38,6 +40,39 @@ floor-exact (negsuc n) (suc m) h =
     lt-suc : (k : ℕ) → k < suc k
     lt-suc k = omega arith
 
+-- k turns of m and less than one are k turns
+pub floor-is : (k : ℤ) (r m : ℕ) → r < m → floorDiv (k *ℤ pos m +ℤ pos r) m ≡ k
+floor-is (pos n) r m h = ap pos (digits-div n h)
+floor-is (negsuc n) r zero h = absurd (omega arith)
+floor-is (negsuc n) r (suc m) h =
+    let e : suc n * suc m ≡ suc (m + n * suc m) = omega arith in
+    let l : r < suc (m + n * suc m) = omega arith in
+    let f : suc (m + n * suc m) - suc r ≡ n * suc m + (m - r) = omega arith in
+    rw (e, lt-ltb r (suc (m + n * suc m)) l, f) (ap negsuc (digits-div n (omega arith)))
+
+pub floor-turns : (q z : ℤ) (m : ℕ) → 0 < m → floorDiv (q *ℤ pos m +ℤ z) m ≡ q +ℤ floorDiv z m
+floor-turns q z m h =
+    let k = floorDiv z m in
+    ap (λ (y : ℤ). floorDiv y m)
+    (ap (λ (y : ℤ). q *ℤ pos m +ℤ y) (sym (floor-rest z m h)) ∙ sym (+ℤ-assoc (q *ℤ pos m) (k *ℤ pos m) (pos (modℤ z m)))
+    ∙ ap (λ (y : ℤ). y +ℤ pos (modℤ z m)) (sym (spread k (pos m) q)))
+    ∙ floor-is (q +ℤ k) (modℤ z m) m (mod-below z m h)
+
+-- y is its high word's turns and its low word
+pub halves : (y : ℤ) → floorDiv y (2 ^ 32) *ℤ pos (2 ^ 32) +ℤ pos (word w32 y) ≡ y
+unfolding W.word
+halves y = floor-rest y (2 ^ 32) (omega arith)
+
+-- the product by the low word, divided by 2 ^ 32, and by the high word make up the whole product divided by 2 ^ 32
+pub parts : (y a : ℤ) → floorDiv (pos (word w32 y) *ℤ a) (2 ^ 32) +ℤ floorDiv y (2 ^ 32) *ℤ a ≡ floorDiv (y *ℤ a) (2 ^ 32)
+parts y a =
+    let H = floorDiv y (2 ^ 32) in
+    let L = pos (word w32 y) in
+    +ℤ-comm (floorDiv (L *ℤ a) (2 ^ 32)) (H *ℤ a)
+    ∙ sym (floor-turns (H *ℤ a) (L *ℤ a) (2 ^ 32) (omega arith))
+    ∙ ap (λ (z : ℤ). floorDiv z (2 ^ 32))
+    (ap (λ (z : ℤ). z +ℤ L *ℤ a) (regroup H a (pos (2 ^ 32))) ∙ sym (spread L a (H *ℤ pos (2 ^ 32))) ∙ ap (λ (z : ℤ). z *ℤ a) (halves y))
+
 -- the two readings of a word lie a turn apart in the upper half
 pub wrap-low : (w : Width) (z : ℤ) → word w z < 2 ^ hbits w → wrap w z ≡ pos (word w z)
 unfolding wrap
@@ -54,16 +89,19 @@ wrap-high w z h =
     below zero n l = absurd (omega arith)
     below (suc m) n l = rw (lt-ltb n (suc m) l)
 
+-- a number scaled by k leaves its remainder scaled by k
+pub mod-scaled : (z : ℤ) (m k : ℕ) → 0 < m → 0 < k → modℤ (z *ℤ pos k) (m * k) ≡ modℤ z m * k
+mod-scaled z m k hm hk =
+    let l : modℤ z m * k < m * k = mul-lt-mul-of-pos-right (mod-below z m hm) hk in
+    let h : 0 < m * k = omega arith in
+    sym (rep-is (m * k) h (z *ℤ pos k) (modℤ z m * k) l (rep-scaled m k h z (modℤ z m) (rep-mod m hm z)))
+
 -- a number scaled by 2 ^ k in a word that is k bits wider
 pub word-scaled : (v w : Width) (k : ℕ) (z : ℤ) → bits w ≡ bits v + k → word w (z *ℤ pos (2 ^ k)) ≡ word v z * 2 ^ k
 unfolding word
 word-scaled v w k z e =
     let f : 2 ^ bits w ≡ 2 ^ bits v * 2 ^ k = ap (λ (n : ℕ). 2 ^ n) e ∙ pow-add 2 (bits v) k in
-    let h : 0 < 2 ^ bits v * 2 ^ k = rw f at (pow-pos (bits w)) in
-    let l : modℤ z (2 ^ bits v) * 2 ^ k < 2 ^ bits v * 2 ^ k = mul-lt-mul-of-pos-right (mod-below z (2 ^ bits v) (pow-pos (bits v))) (pow-pos k) in
-    rw f
-    (sym (rep-is (2 ^ bits v * 2 ^ k) h (z *ℤ pos (2 ^ k)) (modℤ z (2 ^ bits v) * 2 ^ k) l
-    (rep-scaled (2 ^ bits v) (2 ^ k) h z (modℤ z (2 ^ bits v)) (rep-mod (2 ^ bits v) (pow-pos (bits v)) z))))
+    rw f (mod-scaled z (2 ^ bits v) (2 ^ k) (pow-pos (bits v)) (pow-pos k))
 
 pub same-scaled : (v w : Width) (k : ℕ) {a b : ℤ} → bits w ≡ bits v + k → Same v a b → Same w (a *ℤ pos (2 ^ k)) (b *ℤ pos (2 ^ k))
 same-scaled v w k {a} {b} e s = record {

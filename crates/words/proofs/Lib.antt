@@ -2,4 +2,5 @@ pub mod Remainders
 pub mod Reading
 pub mod Sums
 pub mod Sizes
+pub mod Products
 pub mod Floors

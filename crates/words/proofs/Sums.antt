@@ -105,6 +105,12 @@ module _ (w : Width) (a b : ℤ) where
   pub wrap-mul : wrap w (wrap w a *ℤ wrap w b) ≡ wrap w (a *ℤ b)
   wrap-mul = wrap-same (same-mul (wrapped w a) (wrapped w b))
 
+  pub wrap-left : wrap w (wrap w a +ℤ b) ≡ wrap w (a +ℤ b)
+  wrap-left = wrap-same (same-add (wrapped w a) (equal refl))
+
+  pub wrap-right : wrap w (a +ℤ wrap w b) ≡ wrap w (a +ℤ b)
+  wrap-right = wrap-same (same-add {a = a} (equal refl) (wrapped w b))
+
 -- the machine's sums of bits x and y, read as signed
 module _ (w : Width) (a b : ℤ) (x y : ℕ) (e : x ≡ word w a) (f : y ≡ word w b) where
   x-is : Same w (pos x) a

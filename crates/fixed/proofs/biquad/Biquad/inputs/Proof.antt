@@ -3,7 +3,7 @@ use lib.IntN.{_+ℤ_, _*ℤ_}
 use mir.Syntax.{w32, w64}
 use mir.ValLaws.{toZ-ofZ}
 use Rattle.words.proofs.Reading.{read}
-use Rattle.fixed.proofs.Wraps.{wrap-left}
+use Rattle.words.proofs.Sums.{wrap-left}
 use Rattle.fixed.proofs.biquad.Biquad.inputs.Statement.{statement}
 use Rattle.fixed.proofs.biquad.Biquad.inputs.Tie as tie
 

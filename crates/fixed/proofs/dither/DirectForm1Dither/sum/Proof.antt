@@ -7,7 +7,7 @@ use Rattle.words.specs.Words.{wrap}
 use Rattle.words.proofs.Reading.{read}
 use Rattle.words.proofs.Sums.{wrap-add}
 use Rattle.fixed.specs.Forms.{forward, ditherSum}
-use Rattle.fixed.proofs.Wraps.{wrap-right}
+use Rattle.words.proofs.Sums.{wrap-right}
 use Rattle.fixed.proofs.dither.DirectForm1Dither.sum.Statement.{statement}
 use Rattle.fixed.proofs.dither.DirectForm1Dither.sum.Tie as tie
 

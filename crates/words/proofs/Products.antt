@@ -1,4 +1,4 @@
--- Whole numbers: products spread over sums, and group either way.
+-- Products of whole numbers: they spread over sums, and group either way.
 use mathlib.Core.Path.{_≡_, refl, sym, ap, _∙_}
 use Prim.Native.Nat.{zero, suc, _*_}
 use lib.IntN.{ℤ, pos, negsuc, sucℤ, predℤ, negℤ, _+ℤ_, _-ℤ_, _*ℤ_, +ℤ-idl, +ℤ-assoc, +ℤ-comm, negℤ-negℤ, sucℤ-+ℤ, predℤ-+ℤ, zero-*ℤ, sucℤ-*ℤ, predℤ-*ℤ, *ℤ-comm}
