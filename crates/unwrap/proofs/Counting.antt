@@ -14,13 +14,8 @@ use Rattle.words.specs.Words.{word, wrap, floorDiv}
 use Rattle.words.proofs.Reading.{wrap-is}
 use Rattle.words.proofs.Sums.{Same, equal, _and_, wrapped, same-add}
 use Rattle.words.proofs.Sizes.{high-fits}
-use Rattle.words.proofs.Floors.{floor-rest, floor-exact, wrap-low, wrap-high, same-scaled}
+use Rattle.words.proofs.Floors.{halves, floor-exact, wrap-low, wrap-high, same-scaled}
 use Rattle.unwrap.specs.Phases.{phaseOf, turnsOf}
-
--- y is its high word's turns and its low word
-parts : (y : ℤ) → floorDiv y (2 ^ 32) *ℤ pos (2 ^ 32) +ℤ pos (word w32 y) ≡ y
-unfolding W.word
-parts y = floor-rest y (2 ^ 32) (omega arith)
 
 -- the whole turns of y less its phase: one more where the phase lies below zero
 abbrev onward : Bool → ℤ → ℤ
@@ -39,13 +34,13 @@ apart y b t = pick (ltb (word w32 y) (2 ^ 31)) refl b t
 
     low : word w32 y < 2 ^ 31 → y -ℤ phaseOf y ≡ F *ℤ pos (2 ^ 32)
     low l =
-        ap (λ (z : ℤ). z -ℤ phaseOf y) (sym (parts y) ∙ ap (λ (z : ℤ). F *ℤ pos (2 ^ 32) +ℤ z) (sym (wrap-low w32 y l)))
+        ap (λ (z : ℤ). z -ℤ phaseOf y) (sym (halves y) ∙ ap (λ (z : ℤ). F *ℤ pos (2 ^ 32) +ℤ z) (sym (wrap-low w32 y l)))
         ∙ +ℤ-negℤ-cancel (F *ℤ pos (2 ^ 32)) (phaseOf y)
 
     high : 2 ^ 31 ≤ word w32 y → y -ℤ phaseOf y ≡ (F +ℤ pos 1) *ℤ pos (2 ^ 32)
     high l =
         ap (λ (z : ℤ). z -ℤ phaseOf y)
-        (sym (parts y)
+        (sym (halves y)
         ∙ ap (λ (z : ℤ). F *ℤ pos (2 ^ 32) +ℤ z) (sym (-ℤ-+ℤ-cancel (pos (word w32 y)) (pos (2 ^ 32))) ∙ +ℤ-comm (pos (word w32 y) -ℤ pos (2 ^ 32)) (pos (2 ^ 32)))
         ∙ sym (+ℤ-assoc (F *ℤ pos (2 ^ 32)) (pos (2 ^ 32)) (pos (word w32 y) -ℤ pos (2 ^ 32)))
         ∙ ap (λ (z : ℤ). F *ℤ pos (2 ^ 32) +ℤ pos (2 ^ 32) +ℤ z) (sym (wrap-high w32 y l)))
