@@ -1,4 +1,5 @@
 pub mod Ops
+pub mod Signed
 pub mod Machine
 pub mod Moving
 pub mod State

@@ -1,0 +1,6 @@
+pub mod Ways
+pub mod Numbers
+pub mod Lines
+pub mod Turning
+pub mod Running
+pub mod Blocks

@@ -1,0 +1,41 @@
+use borrow.Author.Needs.{needs}
+use mathlib.Core.Path.{_≡_, refl, sym, _∙_}
+use Prim.Native.Nat.{max}
+use Rattle.sums.specs.Calls.{rateNumber, rateState}
+use Rattle.cic.specs.Reading.{stateOf}
+use Rattle.sums.proofs.Refusals.{sound}
+use Rattle.cic.proofs.Numbers.{small}
+use Rattle.cic.proofs.Ways.{refuses, takes}
+use Rattle.cic.proofs.state.Cic.set_rate.Statement.{statement}
+use Rattle.cic.proofs.state.Cic.set_rate.Tie as tie
+
+number : (c : tie.After-refusal-of) → c .refusal-of .result ≡ rateNumber (stateOf (c .before .before .args .self)) (c .before .before .args .rate)
+number c = rw (c .before .greater .ensures) at (c .refusal-of .ensures)
+
+greater-requires : tie.Need-greater-requires
+greater-requires c κs = search needs
+
+refusal-of-requires : tie.Need-refusal-of-requires
+refusal-of-requires c κs = search needs
+
+returns : tie.Need-returns
+unfolding rateState
+returns c =
+    let a = c .before .before .before .args in let f = c .before .refusal-of in
+    refuses (f .result) (rateNumber (stateOf (a .self)) (a .rate)) (number (c .before)) (stateOf (a .self)) _ (a .self) (c .if1 .taken) refl
+
+mul-state : tie.Need-mul-state
+mul-state c =
+    let a = c .before .before .before .args in let s = a .self in
+    let ok = sound (s .order) (s .delay) (max (s .rate) (a .rate)) (s .countdown) (s .unsettled) (sym (number (c .before)) ∙ c .if1 .left) in
+    small (s .order) (s .delay) (ok .few) (ok .short)
+
+returns-2 : tie.Need-returns-2
+unfolding rateState
+returns-2 c =
+    let a = c .before .before .before .args in let f = c .before .refusal-of in
+    takes (f .result) (rateNumber (stateOf (a .self)) (a .rate)) (number (c .before)) (stateOf (a .self)) _ _ (c .if1 .left) refl
+
+pub set-rate-spec : {M : Type 1} → statement M
+set-rate-spec =
+    tie.close (tie.spec greater-requires refusal-of-requires returns mul-state returns-2)

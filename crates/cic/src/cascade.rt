@@ -1,0 +1,55 @@
+// The cascade's two halves on lent arrays: N integrators, and N combs over their delay lines.
+use words::signed::add_i32;
+use words::signed::sub_i32;
+ghost use mathlib.Core.Path.{_≡_};
+ghost use Prim.Native.Nat.{_+_, _≤_};
+ghost use lib.ListN.{length};
+ghost use Rattle.cic.specs.Cascade.{Integrates, Pushes, Combs};
+
+// The first n integrators run in order from x, each adding its predecessor's new value. Gives the last one's; other cells stay.
+pub(crate) fn integrate(cells: &mut [i32; 8], n: usize, x: i32) -> i32
+    requires { ⌜ (n ≤ 8) × (length (now cells) ≡ 8) ⌝ }
+    ensures { λ r. ⌜ Integrates n (now (cells .entry)) x (now (cells .exit)) r ⌝ }
+{
+    let mut acc = x;
+    let mut i: usize = 0;
+    while i < n {
+        acc = add_i32(cells[i], acc);
+        cells[i] = acc;
+        i += 1;
+    }
+    acc
+}
+
+// The comb whose line of m cells starts at base: it gives x less its oldest cell, drops that and stores x last. Other cells stay.
+fn comb(cells: &mut [i32; 64], base: usize, m: usize, x: i32) -> i32
+    requires { ⌜ (1 ≤ m) × (base + m ≤ 64) × (length (now cells) ≡ 64) ⌝ }
+    ensures { λ r. ⌜ Pushes base m (now (cells .entry)) x (now (cells .exit)) r ⌝ }
+{
+    let oldest = cells[base];
+    let last = m - 1;
+    let mut i: usize = 0;
+    while i < last {
+        let at = base + i;
+        let cell = cells[at + 1];
+        cells[at] = cell;
+        i += 1;
+    }
+    let end = base + last;
+    cells[end] = x;
+    sub_i32(x, oldest)
+}
+
+// The first n combs, of m cells each, run in order from x. Gives what the last gives; cells beyond n and m stay.
+pub(crate) fn difference(cells: &mut [i32; 64], n: usize, m: usize, x: i32) -> i32
+    requires { ⌜ (n ≤ 8) × (1 ≤ m) × (m ≤ 8) × (length (now cells) ≡ 64) ⌝ }
+    ensures { λ r. ⌜ Combs n m (now (cells .entry)) x (now (cells .exit)) r ⌝ }
+{
+    let mut acc = x;
+    let mut j: usize = 0;
+    while j < n {
+        acc = comb(cells, j * 8, m, acc);
+        j += 1;
+    }
+    acc
+}

@@ -1,0 +1,8 @@
+// Document 01's decimator and interpolator on i32: `Cic`, every entry point refusing what it must and promising the rest.
+// The promises cite the rules of the crate sums (specs/State, Calls and Runs there) through specs/Reading and specs/Answers here:
+// `stateOf` reads a `Cic` as the rules' state, `cicOf` goes back, and each answer has one definition by number and value.
+mod cascade;
+pub mod questions;
+pub mod runs;
+pub mod state;
+pub mod steps;

@@ -1,0 +1,310 @@
+// Blocks of steps, and the settled part of what a decimator's block wrote.
+use crate::state::Cic;
+use crate::steps::Out;
+use crate::steps::lift;
+use crate::steps::turn;
+ghost use mathlib.Core.Path.{_≡_};
+ghost use Prim.Native.Nat.{_≤_, _<_};
+ghost use lib.ListN.{length};
+ghost use Rattle.sums.specs.Runs.{needed, blockOut, fillOut, settledPart};
+ghost use Rattle.cic.specs.Reading.{i32Ops, stateOf};
+ghost use Rattle.cic.specs.Answers.{decimatedOf, filledOf};
+ghost use Rattle.cic.specs.Turns.{apart, Ready, Drives, Picks, Fills};
+
+// What a decimator's block wrote: the count of its outputs, and the unsettled count found before it, so that output i of the
+// block is settled exactly where that count is at most i. Or the number of a refusal.
+pub enum Wrote {
+    Outputs(usize, usize),
+    Refused(u32),
+}
+
+// A decimator's block: the state after it, and what it wrote.
+pub struct Decimated {
+    pub state: Cic,
+    pub wrote: Wrote,
+}
+
+// How many inputs an interpolator's block read, or the number of a refusal.
+pub enum Read {
+    Inputs(usize),
+    Refused(u32),
+}
+
+// An interpolator's block: the state after it, and what it read.
+pub struct Filled {
+    pub state: Cic,
+    pub read: Read,
+}
+
+// What a decimator's block makes of a state that is taken apart, besides its arrays.
+pub struct Driven {
+    pub countdown: u32,
+    pub unsettled: usize,
+    pub hold: i32,
+    pub count: usize,
+}
+
+// What an interpolator's block makes of a state that is taken apart, besides its arrays.
+pub struct Raised {
+    pub countdown: u32,
+    pub hold: i32,
+    pub count: usize,
+}
+
+// A sample, and where the next one is.
+pub struct Picked {
+    pub x: i32,
+    pub next: usize,
+}
+
+// The low-rate samples of a block of len at the high rate: 0 if len is at most the countdown, else 1 + floor((len - 1 - countdown) / R).
+fn low_rate(len: usize, countdown: u32, rate: u32) -> usize
+    ensures { λ r. ⌜ r ≡ needed len countdown rate ⌝ }
+{
+    let c = countdown as usize;
+    if len <= c {
+        return 0;
+    }
+    let r = rate as usize + 1;
+    let n = (len - 1 - c) / r;
+    n + 1
+}
+
+// The steps of a decimator's block in turn, on an accepted state whose arrays are lent. Outputs go to the front of out; the rest stays.
+fn drive(
+    integrators: &mut [i32; 8],
+    combs: &mut [i32; 64],
+    order: usize,
+    delay: usize,
+    rate: u32,
+    first: u32,
+    pending: usize,
+    held: i32,
+    input: &[i32],
+    out: &mut [i32],
+) -> Driven
+    requires { ⌜ Ready (apart order delay rate first pending held (now integrators) (now combs)) × (needed (length (now input)) first rate ≤ length (now out)) ⌝ }
+    ensures { λ r. ⌜ Drives (apart order delay rate first pending held (now (integrators .entry)) (now (combs .entry))) (now (input .entry)) (now (out .entry))
+        (apart order delay rate (r .countdown) (r .unsettled) (r .hold) (now (integrators .exit)) (now (combs .exit))) (r .count) (now (out .exit)) ⌝ }
+{
+    let mut countdown = first;
+    let mut unsettled = pending;
+    let mut hold = held;
+    let mut k: usize = 0;
+    let mut i: usize = 0;
+    while i < input.len() {
+        let x = input[i];
+        let t = turn(
+            integrators,
+            combs,
+            order,
+            delay,
+            rate,
+            countdown,
+            unsettled,
+            hold,
+            x,
+        );
+        countdown = t.countdown;
+        unsettled = t.unsettled;
+        hold = t.hold;
+        let given = t.out;
+        if let Out::Given(y, _) = given {
+            out[k] = y;
+            k += 1;
+        }
+        i += 1;
+    }
+    Driven {
+        countdown,
+        unsettled,
+        hold,
+        count: k,
+    }
+}
+
+// The sample at k where one is due, at countdown 0; else none is read.
+fn pick(input: &[i32], k: usize, countdown: u32) -> Picked
+    requires { ⌜ (countdown ≡ 0 → k < length (now input)) ⌝ }
+    ensures { λ r. ⌜ Picks countdown k (now (input .entry)) (r .x) (r .next) ⌝ }
+{
+    if 0 < countdown {
+        return Picked { x: 0, next: k };
+    }
+    let x = input[k];
+    Picked { x, next: k + 1 }
+}
+
+// The steps of an interpolator's block in turn, on an accepted state whose arrays are lent. Every element of out is written.
+fn raise(
+    integrators: &mut [i32; 8],
+    combs: &mut [i32; 64],
+    order: usize,
+    delay: usize,
+    rate: u32,
+    first: u32,
+    unsettled: usize,
+    held: i32,
+    input: &[i32],
+    out: &mut [i32],
+) -> Raised
+    requires { ⌜ Ready (apart order delay rate first unsettled held (now integrators) (now combs)) × (needed (length (now out)) first rate ≤ length (now input)) ⌝ }
+    ensures { λ r. ⌜ Fills (apart order delay rate first unsettled held (now (integrators .entry)) (now (combs .entry))) (now (input .entry)) (now (out .entry))
+        (apart order delay rate (r .countdown) unsettled (r .hold) (now (integrators .exit)) (now (combs .exit))) (r .count) (now (out .exit)) ⌝ }
+{
+    let mut countdown = first;
+    let mut hold = held;
+    let mut k: usize = 0;
+    let mut i: usize = 0;
+    while i < out.len() {
+        let p = pick(input, k, countdown);
+        let t = lift(
+            integrators,
+            combs,
+            order,
+            delay,
+            rate,
+            countdown,
+            unsettled,
+            hold,
+            p.x,
+        );
+        countdown = t.countdown;
+        hold = t.hold;
+        k = p.next;
+        let y = t.value;
+        out[i] = y;
+        i += 1;
+    }
+    Raised {
+        countdown,
+        hold,
+        count: k,
+    }
+}
+
+impl Cic {
+    // A block of inputs in, its outputs to the front of out. The rest of out stays. Refused with 20 where out is shorter than
+    // the block needs; a refused block changes nothing.
+    pub fn decimate_block(self, input: &[i32], out: &mut [i32]) -> Decimated
+        ensures { λ r. ⌜ (r ≡ decimatedOf self (now (input .entry)) (now (out .entry))) × (now (out .exit) ≡ blockOut i32Ops (stateOf self) (now (input .entry)) (now (out .entry))) ⌝ }
+    {
+        let number = self.refusal();
+        if number != 0 {
+            return Decimated {
+                state: self,
+                wrote: Wrote::Refused(number),
+            };
+        }
+        let order = self.order;
+        let delay = self.delay;
+        let rate = self.rate;
+        let countdown = self.countdown;
+        let unsettled = self.unsettled;
+        let need = low_rate(input.len(), countdown, rate);
+        if out.len() < need {
+            return Decimated {
+                state: self,
+                wrote: Wrote::Refused(20),
+            };
+        }
+        let mut integrators = self.integrators;
+        let mut combs = self.combs;
+        let hold = self.hold;
+        let d = drive(
+            &mut integrators,
+            &mut combs,
+            order,
+            delay,
+            rate,
+            countdown,
+            unsettled,
+            hold,
+            input,
+            out,
+        );
+        let state = Cic {
+            order,
+            delay,
+            rate,
+            countdown: d.countdown,
+            unsettled: d.unsettled,
+            hold: d.hold,
+            integrators,
+            combs,
+        };
+        Decimated {
+            state,
+            wrote: Wrote::Outputs(d.count, unsettled),
+        }
+    }
+
+    // Every element of out is written, from as many inputs as are due; later ones stay unread. Refused with 23 where input is
+    // shorter than needed; a refused block changes nothing.
+    pub fn interpolate_block(self, input: &[i32], out: &mut [i32]) -> Filled
+        ensures { λ r. ⌜ (r ≡ filledOf self (now (input .entry)) (now (out .entry))) × (now (out .exit) ≡ fillOut i32Ops (stateOf self) (now (input .entry)) (now (out .entry))) ⌝ }
+    {
+        let number = self.refusal();
+        if number != 0 {
+            return Filled {
+                state: self,
+                read: Read::Refused(number),
+            };
+        }
+        let order = self.order;
+        let delay = self.delay;
+        let rate = self.rate;
+        let countdown = self.countdown;
+        let unsettled = self.unsettled;
+        let need = low_rate(out.len(), countdown, rate);
+        if input.len() < need {
+            return Filled {
+                state: self,
+                read: Read::Refused(23),
+            };
+        }
+        let mut integrators = self.integrators;
+        let mut combs = self.combs;
+        let hold = self.hold;
+        let d = raise(
+            &mut integrators,
+            &mut combs,
+            order,
+            delay,
+            rate,
+            countdown,
+            unsettled,
+            hold,
+            input,
+            out,
+        );
+        let state = Cic {
+            order,
+            delay,
+            rate,
+            countdown: d.countdown,
+            unsettled,
+            hold: d.hold,
+            integrators,
+            combs,
+        };
+        Filled {
+            state,
+            read: Read::Inputs(d.count),
+        }
+    }
+}
+
+// The settled part of what a decimator's block wrote: the written outputs less the leading unsettled ones. Empty where too few
+// are written to settle, and where more are said to be written than out holds.
+pub fn settled_part(out: &[i32], written: usize, unsettled: usize) -> &[i32]
+    ensures { λ r. ⌜ now r ≡ settledPart (now (out .entry)) written unsettled ⌝ }
+{
+    if out.len() < written {
+        return &out[0..0];
+    }
+    if written < unsettled {
+        return &out[0..0];
+    }
+    &out[unsettled..written]
+}

@@ -1,0 +1,236 @@
+// The state of a decimator or interpolator, the calls that make one or put it in order, and its fields.
+use blocks::Verdict;
+ghost use mathlib.Core.Path.{_≡_};
+ghost use Prim.Native.Nat.{max};
+ghost use lib.Dec.{eqb};
+ghost use Rattle.sums.specs.State.{refusalOf, refusal, zeroed};
+ghost use Rattle.sums.specs.Calls.{newNumber, resumeNumber, rateNumber, newState, resumeState, rateState, clearState};
+ghost use Rattle.cic.specs.Reading.{i32Ops, stateOf, cicOf};
+ghost use Rattle.cic.specs.Answers.{madeOf};
+
+// N = order integrators, N delay lines of M = delay cells, line j at 8 j .. 8 j + M of combs, the oldest cell first.
+// Rate is R - 1. Outputs are unsettled while `unsettled` is above 0. Cells beyond N and M never matter.
+pub struct Cic {
+    pub order: usize,
+    pub delay: usize,
+    pub rate: u32,
+    pub countdown: u32,
+    pub unsettled: usize,
+    pub hold: i32,
+    pub integrators: [i32; 8],
+    pub combs: [i32; 64],
+}
+
+// A state, and whether the call that gives it was done.
+pub struct Made {
+    pub state: Cic,
+    pub verdict: Verdict,
+}
+
+// The number of the first test that fails, or 0 (01, refusal numbers 10 to 13 and 15).
+pub(crate) fn refusal_of(
+    order: usize,
+    delay: usize,
+    rate: u32,
+    countdown: u32,
+    unsettled: usize,
+) -> u32
+    ensures { λ r. ⌜ r ≡ refusalOf order delay rate countdown unsettled ⌝ }
+{
+    if 8 < order {
+        return 10;
+    }
+    if delay == 0 {
+        return 11;
+    }
+    if 8 < delay {
+        return 11;
+    }
+    if 65535 < rate {
+        return 12;
+    }
+    if 65535 < countdown {
+        return 13;
+    }
+    if order * delay < unsettled {
+        return 15;
+    }
+    0
+}
+
+// All cells, hold, countdown and unsettled count zero.
+fn zeros(order: usize, delay: usize, rate: u32) -> Cic
+    ensures { λ r. ⌜ r ≡ cicOf (zeroed i32Ops order delay rate) ⌝ }
+{
+    let integrators = [0i32; 8];
+    let combs = [0i32; 64];
+    Cic {
+        order,
+        delay,
+        rate,
+        countdown: 0,
+        unsettled: 0,
+        hold: 0,
+        integrators,
+        combs,
+    }
+}
+
+fn greater(a: u32, b: u32) -> u32
+    ensures { λ r. ⌜ r ≡ max a b ⌝ }
+{
+    if a < b { b } else { a }
+}
+
+impl Cic {
+    // A state of zeros, settled, whose first step gives an output. Refused: the number, and the blank state.
+    pub fn new(order: usize, delay: usize, rate: u32) -> Made
+        ensures { λ r. ⌜ r ≡ madeOf (newNumber order delay rate) (newState i32Ops order delay rate) ⌝ }
+    {
+        let number = refusal_of(order, delay, rate, 0, 0);
+        if number != 0 {
+            let blank = zeros(0, 1, 0);
+            return Made {
+                state: blank,
+                verdict: Verdict::Refused(number),
+            };
+        }
+        let state = zeros(order, delay, rate);
+        Made {
+            state,
+            verdict: Verdict::Done,
+        }
+    }
+
+    // A state with these numbers and all these cells; its first N·M outputs are unsettled. Refused: the number, and the blank state.
+    pub fn resume(
+        order: usize,
+        delay: usize,
+        rate: u32,
+        integrators: [i32; 8],
+        combs: [i32; 64],
+        hold: i32,
+        countdown: u32,
+    ) -> Made
+        ensures { λ r. ⌜ r ≡ madeOf (resumeNumber order delay rate countdown) (resumeState i32Ops order delay rate integrators combs hold countdown) ⌝ }
+    {
+        let number = refusal_of(order, delay, rate, countdown, 0);
+        if number != 0 {
+            let blank = zeros(0, 1, 0);
+            return Made {
+                state: blank,
+                verdict: Verdict::Refused(number),
+            };
+        }
+        let state = Cic {
+            order,
+            delay,
+            rate,
+            countdown,
+            unsettled: order * delay,
+            hold,
+            integrators,
+            combs,
+        };
+        Made {
+            state,
+            verdict: Verdict::Done,
+        }
+    }
+
+    // The number of the first test that this state fails, or 0.
+    pub(crate) fn refusal(self) -> u32
+        ensures { λ r. ⌜ r ≡ refusal (stateOf self) ⌝ }
+    {
+        refusal_of(
+            self.order,
+            self.delay,
+            self.rate,
+            self.countdown,
+            self.unsettled,
+        )
+    }
+
+    // The state at another rate: cells, hold and countdown stay, and the next N·M outputs are unsettled, also at the same rate.
+    pub fn set_rate(self, rate: u32) -> Made
+        ensures { λ r. ⌜ r ≡ madeOf (rateNumber (stateOf self) rate) (rateState i32Ops (stateOf self) rate) ⌝ }
+    {
+        let order = self.order;
+        let delay = self.delay;
+        let either = greater(self.rate, rate);
+        let number = refusal_of(order, delay, either, self.countdown, self.unsettled);
+        if number != 0 {
+            return Made {
+                state: self,
+                verdict: Verdict::Refused(number),
+            };
+        }
+        let mut state = self;
+        state.rate = rate;
+        state.unsettled = order * delay;
+        Made {
+            state,
+            verdict: Verdict::Done,
+        }
+    }
+
+    // The state of zeros, settled, at the same order, delay and rate.
+    pub fn clear(self) -> Made
+        ensures { λ r. ⌜ r ≡ madeOf (refusal (stateOf self)) (clearState i32Ops (stateOf self)) ⌝ }
+    {
+        let number = self.refusal();
+        if number != 0 {
+            return Made {
+                state: self,
+                verdict: Verdict::Refused(number),
+            };
+        }
+        let state = zeros(self.order, self.delay, self.rate);
+        Made {
+            state,
+            verdict: Verdict::Done,
+        }
+    }
+
+    // N.
+    pub fn order(self) -> usize
+        ensures { λ r. ⌜ r ≡ self .order ⌝ }
+    {
+        self.order
+    }
+
+    // M.
+    pub fn comb_delay(self) -> usize
+        ensures { λ r. ⌜ r ≡ self .delay ⌝ }
+    {
+        self.delay
+    }
+
+    // R - 1.
+    pub fn rate(self) -> u32
+        ensures { λ r. ⌜ r ≡ self .rate ⌝ }
+    {
+        self.rate
+    }
+
+    // How many outputs from now on are unsettled.
+    pub fn unsettled(self) -> usize
+        ensures { λ r. ⌜ r ≡ self .unsettled ⌝ }
+    {
+        self.unsettled
+    }
+
+    // The decimator's last output.
+    pub fn get_decimate(self) -> i32
+        ensures { λ r. ⌜ r ≡ self .hold ⌝ }
+    {
+        self.hold
+    }
+
+    // Whether the next step gives an output or takes a sample.
+    pub fn tick(self) -> bool
+        ensures { λ r. ⌜ r ≡ eqb (self .countdown) 0 ⌝ }
+    {
+        self.countdown == 0
+    }
+}
