@@ -4,3 +4,5 @@ pub mod Lines
 pub mod Turning
 pub mod Running
 pub mod Blocks
+pub mod Levels
+pub mod InTurn

@@ -11,7 +11,7 @@ use Rattle.sums.specs.Ops.{Ops}
 use Rattle.sums.specs.State.{State, refusal}
 use Rattle.sums.specs.Calls.{stepState, riseNumber, riseState}
 use Rattle.sums.specs.Runs.{dueSample}
-use Rattle.sums.proofs.Steps.{Fit, fitted, turn-waits, turn-gives, rise-on, rise-due}
+use Rattle.sums.proofs.Steps.{Fit, fitted, accepted, packed, turn-waits, turn-gives, rise-on, rise-due}
 use Rattle.cic.specs.declared.steps.Out.{Out}
 use Rattle.cic.specs.declared.steps.Out.the-variants.{Given, Nothing, Refused}
 use Rattle.cic.specs.declared.steps.Stepped.{Stepped}
@@ -22,20 +22,23 @@ use Rattle.cic.specs.declared.questions.Interpolated.the-variants as Int
 use Rattle.cic.specs.Reading.{i32Ops, stateOf, cicOf}
 use Rattle.cic.specs.Answers.{outOf, steppedOf, interpolatedOf, sampleOf, liftedOf, risenOf}
 use Rattle.cic.specs.Cascade.{Integrates, Combs}
-use Rattle.cic.specs.Turns.{apart, Ready, Turns, Rises}
+use Rattle.cic.specs.Turns.{Ready, Turns, Rises}
 
 pub fit : (s : State ℤ) → Ready s → Fit s
 fit s r = fitted s (r .accepted) (r .long8) (r .long64)
 
+pub ready : (s : State ℤ) → Fit s → Ready s
+ready s f = record { accepted = accepted s f; long8 = f .long8; long64 = f .long64 }
+
 -- the decimator's two ways
 module _ (s : State ℤ) (r : Ready s) (x : ℤ) (is : List ℤ) (v : ℤ) (run : Integrates (s .order) (s .integrators) x is v) where
   pub waits : 0 < s .countdown → (h : ℤ) → h ≡ s .hold
-      → Turns s x (apart (s .order) (s .delay) (s .rate) (s .countdown - 1) (s .unsettled) h is (s .combs)) Nothing
+      → Turns s x (packed (s .order) (s .delay) (s .rate) (s .countdown - 1) (s .unsettled) h is (s .combs)) Nothing
   unfolding outOf
   waits c h eh = let t = turn-waits i32Ops s (fit s r) x is (run .cells) c h eh in record { state = t .state; gives = rw (← t .out) }
 
   pub gives : s .countdown ≤ 0 → (y : ℤ) (u : ℕ) (ks : List ℤ) → Combs (s .order) (s .delay) (s .combs) v ks y → u ≡ s .unsettled - 1
-      → Turns s x (apart (s .order) (s .delay) (s .rate) (s .rate) u y is ks) (Given y (eqb (s .unsettled) 0))
+      → Turns s x (packed (s .order) (s .delay) (s .rate) (s .rate) u y is ks) (Given y (eqb (s .unsettled) 0))
   unfolding outOf
   gives c y u ks runs eu =
       let t = turn-gives i32Ops s (fit s r) x is (run .cells) (omega arith) v y u ks (run .last) (runs .last) (runs .cells) eu in
@@ -53,13 +56,13 @@ is-due (suc c) x h = absurd (omega arith)
 -- the interpolator's two ways
 module _ (s : State ℤ) (r : Ready s) (x : ℤ) where
   pub lifts : 0 < s .countdown → (h y : ℤ) (is : List ℤ) → h ≡ s .hold → Integrates (s .order) (s .integrators) h is y
-      → Rises s (dueSample i32Ops (s .countdown) (x ∷ [])) (apart (s .order) (s .delay) (s .rate) (s .countdown - 1) (s .unsettled) h is (s .combs)) y
+      → Rises s (dueSample i32Ops (s .countdown) (x ∷ [])) (packed (s .order) (s .delay) (s .rate) (s .countdown - 1) (s .unsettled) h is (s .combs)) y
   lifts c h y is eh run =
       let t = rise-on i32Ops s (fit s r) c h y is eh (run .cells) (run .last) in
       rw (not-due (s .countdown) (x ∷ []) c) (record { state = t .state; gives = t .out })
 
   pub takes : s .countdown ≤ 0 → (h y : ℤ) (is ks : List ℤ) → Combs (s .order) (s .delay) (s .combs) x ks h → Integrates (s .order) (s .integrators) h is y
-      → Rises s (dueSample i32Ops (s .countdown) (x ∷ [])) (apart (s .order) (s .delay) (s .rate) (s .rate) (s .unsettled) h is ks) y
+      → Rises s (dueSample i32Ops (s .countdown) (x ∷ [])) (packed (s .order) (s .delay) (s .rate) (s .rate) (s .unsettled) h is ks) y
   takes c h y is ks runs run =
       let t = rise-due i32Ops s (fit s r) (omega arith) x h y is ks (runs .last) (runs .cells) (run .cells) (run .last) in
       rw (is-due (s .countdown) x c) (record { state = t .state; gives = t .out })

@@ -2,3 +2,4 @@ pub mod Reading
 pub mod Answers
 pub mod Cascade
 pub mod Turns
+pub mod InTurn

@@ -8,18 +8,30 @@ use lib.ListN.{length, getD}
 use Rattle.sums.specs.State.{State, refusal}
 use Rattle.sums.specs.Calls.{stepState, stepGiven, riseState, risenOf}
 use Rattle.sums.specs.Runs.{needed, values, over, outputs, after, risings, risenAfter}
+use Rattle.cic.specs.declared.state.Cic.{Cic}
+use Rattle.cic.specs.declared.steps.Numbers.{Numbers}
 use Rattle.cic.specs.declared.steps.Out.{Out}
 use Rattle.cic.specs.Reading.{i32Ops}
 use Rattle.cic.specs.Answers.{outOf}
 
-abbrev pub apart : ℕ → ℕ → ℕ → ℕ → ℕ → ℤ → List ℤ → List ℤ → State ℤ
-apart order delay rate countdown unsettled hold integrators combs = record {
-  order = order;
-  delay = delay;
-  rate = rate;
-  countdown = countdown;
-  unsettled = unsettled;
-  hold = hold;
+abbrev pub numbersOf : Cic → Numbers
+numbersOf s = record {
+  order = s .order;
+  delay = s .delay;
+  rate = s .rate;
+  countdown = s .countdown;
+  unsettled = s .unsettled;
+  hold = s .hold;
+}
+
+abbrev pub apart : Numbers → List ℤ → List ℤ → State ℤ
+apart n integrators combs = record {
+  order = n .order;
+  delay = n .delay;
+  rate = n .rate;
+  countdown = n .countdown;
+  unsettled = n .unsettled;
+  hold = n .hold;
   integrators = integrators;
   combs = combs;
 }

@@ -4,5 +4,6 @@
 mod cascade;
 pub mod questions;
 pub mod runs;
+pub mod settling;
 pub mod state;
 pub mod steps;

@@ -1,6 +1,8 @@
 // Blocks of steps, and the settled part of what a decimator's block wrote.
 use crate::state::Cic;
+use crate::steps::Numbers;
 use crate::steps::Out;
+use crate::steps::joined;
 use crate::steps::lift;
 use crate::steps::turn;
 ghost use mathlib.Core.Path.{_≡_};
@@ -36,23 +38,14 @@ pub struct Filled {
     pub read: Read,
 }
 
-// What a decimator's block makes of a state that is taken apart, besides its arrays.
-pub struct Driven {
-    pub countdown: u32,
-    pub unsettled: usize,
-    pub hold: i32,
-    pub count: usize,
-}
-
-// What an interpolator's block makes of a state that is taken apart, besides its arrays.
-pub struct Raised {
-    pub countdown: u32,
-    pub hold: i32,
+// A block on lent arrays: the numbers after it, and how many low-rate samples it wrote or read.
+pub(crate) struct Ran {
+    pub numbers: Numbers,
     pub count: usize,
 }
 
 // A sample, and where the next one is.
-pub struct Picked {
+pub(crate) struct Picked {
     pub x: i32,
     pub next: usize,
 }
@@ -70,44 +63,27 @@ fn low_rate(len: usize, countdown: u32, rate: u32) -> usize
     n + 1
 }
 
-// The steps of a decimator's block in turn, on an accepted state whose arrays are lent. Outputs go to the front of out; the rest stays.
+// The steps of a decimator's block in turn, on an accepted state whose arrays are lent. The outputs go to the front of
+// out; the rest of it stays.
 fn drive(
     integrators: &mut [i32; 8],
     combs: &mut [i32; 64],
-    order: usize,
-    delay: usize,
-    rate: u32,
-    first: u32,
-    pending: usize,
-    held: i32,
+    first: Numbers,
     input: &[i32],
     out: &mut [i32],
-) -> Driven
-    requires { ⌜ Ready (apart order delay rate first pending held (now integrators) (now combs)) × (needed (length (now input)) first rate ≤ length (now out)) ⌝ }
-    ensures { λ r. ⌜ Drives (apart order delay rate first pending held (now (integrators .entry)) (now (combs .entry))) (now (input .entry)) (now (out .entry))
-        (apart order delay rate (r .countdown) (r .unsettled) (r .hold) (now (integrators .exit)) (now (combs .exit))) (r .count) (now (out .exit)) ⌝ }
+) -> Ran
+    requires { ⌜ Ready (apart first (now integrators) (now combs)) × (needed (length (now input)) (first .countdown) (first .rate) ≤ length (now out)) ⌝ }
+    ensures { λ r. ⌜ Drives (apart first (now (integrators .entry)) (now (combs .entry))) (now (input .entry)) (now (out .entry))
+        (apart (r .numbers) (now (integrators .exit)) (now (combs .exit))) (r .count) (now (out .exit)) ⌝ }
 {
-    let mut countdown = first;
-    let mut unsettled = pending;
-    let mut hold = held;
+    let mut numbers = first;
     let mut k: usize = 0;
     let mut i: usize = 0;
     while i < input.len() {
         let x = input[i];
-        let t = turn(
-            integrators,
-            combs,
-            order,
-            delay,
-            rate,
-            countdown,
-            unsettled,
-            hold,
-            x,
-        );
-        countdown = t.countdown;
-        unsettled = t.unsettled;
-        hold = t.hold;
+        let t = turn(integrators, combs, numbers, x);
+        let next = t.numbers;
+        numbers = next;
         let given = t.out;
         if let Out::Given(y, _) = given {
             out[k] = y;
@@ -115,12 +91,7 @@ fn drive(
         }
         i += 1;
     }
-    Driven {
-        countdown,
-        unsettled,
-        hold,
-        count: k,
-    }
+    Ran { numbers, count: k }
 }
 
 // The sample at k where one is due, at countdown 0; else none is read.
@@ -139,48 +110,28 @@ fn pick(input: &[i32], k: usize, countdown: u32) -> Picked
 fn raise(
     integrators: &mut [i32; 8],
     combs: &mut [i32; 64],
-    order: usize,
-    delay: usize,
-    rate: u32,
-    first: u32,
-    unsettled: usize,
-    held: i32,
+    first: Numbers,
     input: &[i32],
     out: &mut [i32],
-) -> Raised
-    requires { ⌜ Ready (apart order delay rate first unsettled held (now integrators) (now combs)) × (needed (length (now out)) first rate ≤ length (now input)) ⌝ }
-    ensures { λ r. ⌜ Fills (apart order delay rate first unsettled held (now (integrators .entry)) (now (combs .entry))) (now (input .entry)) (now (out .entry))
-        (apart order delay rate (r .countdown) unsettled (r .hold) (now (integrators .exit)) (now (combs .exit))) (r .count) (now (out .exit)) ⌝ }
+) -> Ran
+    requires { ⌜ Ready (apart first (now integrators) (now combs)) × (needed (length (now out)) (first .countdown) (first .rate) ≤ length (now input)) ⌝ }
+    ensures { λ r. ⌜ Fills (apart first (now (integrators .entry)) (now (combs .entry))) (now (input .entry)) (now (out .entry))
+        (apart (r .numbers) (now (integrators .exit)) (now (combs .exit))) (r .count) (now (out .exit)) ⌝ }
 {
-    let mut countdown = first;
-    let mut hold = held;
+    let mut numbers = first;
     let mut k: usize = 0;
     let mut i: usize = 0;
     while i < out.len() {
-        let p = pick(input, k, countdown);
-        let t = lift(
-            integrators,
-            combs,
-            order,
-            delay,
-            rate,
-            countdown,
-            unsettled,
-            hold,
-            p.x,
-        );
-        countdown = t.countdown;
-        hold = t.hold;
+        let p = pick(input, k, numbers.countdown);
+        let t = lift(integrators, combs, numbers, p.x);
+        let next = t.numbers;
+        numbers = next;
         k = p.next;
         let y = t.value;
         out[i] = y;
         i += 1;
     }
-    Raised {
-        countdown,
-        hold,
-        count: k,
-    }
+    Ran { numbers, count: k }
 }
 
 impl Cic {
@@ -196,12 +147,8 @@ impl Cic {
                 wrote: Wrote::Refused(number),
             };
         }
-        let order = self.order;
-        let delay = self.delay;
-        let rate = self.rate;
-        let countdown = self.countdown;
         let unsettled = self.unsettled;
-        let need = low_rate(input.len(), countdown, rate);
+        let need = low_rate(input.len(), self.countdown, self.rate);
         if out.len() < need {
             return Decimated {
                 state: self,
@@ -210,32 +157,12 @@ impl Cic {
         }
         let mut integrators = self.integrators;
         let mut combs = self.combs;
-        let hold = self.hold;
-        let d = drive(
-            &mut integrators,
-            &mut combs,
-            order,
-            delay,
-            rate,
-            countdown,
-            unsettled,
-            hold,
-            input,
-            out,
-        );
-        let state = Cic {
-            order,
-            delay,
-            rate,
-            countdown: d.countdown,
-            unsettled: d.unsettled,
-            hold: d.hold,
-            integrators,
-            combs,
-        };
+        let r = drive(&mut integrators, &mut combs, self.numbers(), input, out);
+        let numbers = r.numbers;
+        let state = joined(numbers, integrators, combs);
         Decimated {
             state,
-            wrote: Wrote::Outputs(d.count, unsettled),
+            wrote: Wrote::Outputs(r.count, unsettled),
         }
     }
 
@@ -251,12 +178,7 @@ impl Cic {
                 read: Read::Refused(number),
             };
         }
-        let order = self.order;
-        let delay = self.delay;
-        let rate = self.rate;
-        let countdown = self.countdown;
-        let unsettled = self.unsettled;
-        let need = low_rate(out.len(), countdown, rate);
+        let need = low_rate(out.len(), self.countdown, self.rate);
         if input.len() < need {
             return Filled {
                 state: self,
@@ -265,32 +187,12 @@ impl Cic {
         }
         let mut integrators = self.integrators;
         let mut combs = self.combs;
-        let hold = self.hold;
-        let d = raise(
-            &mut integrators,
-            &mut combs,
-            order,
-            delay,
-            rate,
-            countdown,
-            unsettled,
-            hold,
-            input,
-            out,
-        );
-        let state = Cic {
-            order,
-            delay,
-            rate,
-            countdown: d.countdown,
-            unsettled,
-            hold: d.hold,
-            integrators,
-            combs,
-        };
+        let r = raise(&mut integrators, &mut combs, self.numbers(), input, out);
+        let numbers = r.numbers;
+        let state = joined(numbers, integrators, combs);
         Filled {
             state,
-            read: Read::Inputs(d.count),
+            read: Read::Inputs(r.count),
         }
     }
 }

@@ -59,7 +59,7 @@ pub(crate) fn refusal_of(
 }
 
 // All cells, hold, countdown and unsettled count zero.
-fn zeros(order: usize, delay: usize, rate: u32) -> Cic
+pub(crate) fn zeros(order: usize, delay: usize, rate: u32) -> Cic
     ensures { λ r. ⌜ r ≡ cicOf (zeroed i32Ops order delay rate) ⌝ }
 {
     let integrators = [0i32; 8];

@@ -8,9 +8,9 @@ ghost use mathlib.Core.List.{_∷_, []};
 ghost use Prim.Native.Nat.{_-_};
 ghost use Rattle.sums.specs.Runs.{dueSample};
 ghost use Rattle.sums.specs.State.{refusal};
-ghost use Rattle.cic.specs.Reading.{i32Ops, stateOf};
+ghost use Rattle.cic.specs.Reading.{i32Ops, stateOf, cicOf};
 ghost use Rattle.cic.specs.Answers.{steppedOf, liftedOf, risenOf};
-ghost use Rattle.cic.specs.Turns.{apart, Ready, Turns, Rises};
+ghost use Rattle.cic.specs.Turns.{numbersOf, apart, Ready, Turns, Rises};
 
 // What a decimator's step gives: an output and whether it is settled, nothing, or the number of a refusal.
 pub enum Out {
@@ -37,19 +37,42 @@ pub struct Risen {
     pub out: Interpolated,
 }
 
-// What a decimator's step makes of a state that is taken apart, besides its arrays.
-pub struct Turned {
+// A state's numbers: all of it but its arrays, which are lent beside them.
+pub(crate) struct Numbers {
+    pub order: usize,
+    pub delay: usize,
+    pub rate: u32,
     pub countdown: u32,
     pub unsettled: usize,
     pub hold: i32,
+}
+
+// A decimator's step on lent arrays: the numbers after it, and what it gives.
+pub(crate) struct Turned {
+    pub numbers: Numbers,
     pub out: Out,
 }
 
-// What an interpolator's step makes of a state that is taken apart, besides its arrays.
-pub struct Lifted {
-    pub countdown: u32,
-    pub hold: i32,
+// An interpolator's step on lent arrays: the numbers after it, and its output.
+pub(crate) struct Lifted {
+    pub numbers: Numbers,
     pub value: i32,
+}
+
+// A state put together.
+pub(crate) fn joined(n: Numbers, integrators: [i32; 8], combs: [i32; 64]) -> Cic
+    ensures { λ r. ⌜ r ≡ cicOf (apart n integrators combs) ⌝ }
+{
+    Cic {
+        order: n.order,
+        delay: n.delay,
+        rate: n.rate,
+        countdown: n.countdown,
+        unsettled: n.unsettled,
+        hold: n.hold,
+        integrators,
+        combs,
+    }
 }
 
 fn lowered(n: usize) -> usize
@@ -59,108 +82,77 @@ fn lowered(n: usize) -> usize
 }
 
 // The decimator's step of an accepted state whose arrays are lent.
-pub(crate) fn turn(
-    integrators: &mut [i32; 8],
-    combs: &mut [i32; 64],
-    order: usize,
-    delay: usize,
-    rate: u32,
-    countdown: u32,
-    unsettled: usize,
-    hold: i32,
-    x: i32,
-) -> Turned
-    requires { ⌜ Ready (apart order delay rate countdown unsettled hold (now integrators) (now combs)) ⌝ }
-    ensures { λ r. ⌜ Turns (apart order delay rate countdown unsettled hold (now (integrators .entry)) (now (combs .entry))) x
-        (apart order delay rate (r .countdown) (r .unsettled) (r .hold) (now (integrators .exit)) (now (combs .exit))) (r .out) ⌝ }
+pub(crate) fn turn(integrators: &mut [i32; 8], combs: &mut [i32; 64], n: Numbers, x: i32) -> Turned
+    requires { ⌜ Ready (apart n (now integrators) (now combs)) ⌝ }
+    ensures { λ r. ⌜ Turns (apart n (now (integrators .entry)) (now (combs .entry))) x (apart (r .numbers) (now (integrators .exit)) (now (combs .exit))) (r .out) ⌝ }
 {
-    let sum = integrate(integrators, order, x);
-    if 0 < countdown {
+    let mut numbers = n;
+    let unsettled = n.unsettled;
+    let sum = integrate(integrators, n.order, x);
+    if 0 < n.countdown {
+        numbers.countdown = n.countdown - 1;
         return Turned {
-            countdown: countdown - 1,
-            unsettled,
-            hold,
+            numbers,
             out: Out::Nothing,
         };
     }
-    let y = difference(combs, order, delay, sum);
-    let left = lowered(unsettled);
+    let y = difference(combs, n.order, n.delay, sum);
+    numbers.countdown = n.rate;
+    numbers.unsettled = lowered(unsettled);
+    numbers.hold = y;
     Turned {
-        countdown: rate,
-        unsettled: left,
-        hold: y,
+        numbers,
         out: Out::Given(y, unsettled == 0),
     }
 }
 
 // The interpolator's step of an accepted state whose arrays are lent. Above countdown 0, x isn't looked at.
-pub(crate) fn lift(
-    integrators: &mut [i32; 8],
-    combs: &mut [i32; 64],
-    order: usize,
-    delay: usize,
-    rate: u32,
-    countdown: u32,
-    unsettled: usize,
-    hold: i32,
-    x: i32,
-) -> Lifted
-    requires { ⌜ Ready (apart order delay rate countdown unsettled hold (now integrators) (now combs)) ⌝ }
-    ensures { λ r. ⌜ Rises (apart order delay rate countdown unsettled hold (now (integrators .entry)) (now (combs .entry))) (dueSample i32Ops countdown (x ∷ []))
-        (apart order delay rate (r .countdown) unsettled (r .hold) (now (integrators .exit)) (now (combs .exit))) (r .value) ⌝ }
+pub(crate) fn lift(integrators: &mut [i32; 8], combs: &mut [i32; 64], n: Numbers, x: i32) -> Lifted
+    requires { ⌜ Ready (apart n (now integrators) (now combs)) ⌝ }
+    ensures { λ r. ⌜ Rises (apart n (now (integrators .entry)) (now (combs .entry))) (dueSample i32Ops (n .countdown) (x ∷ [])) (apart (r .numbers) (now (integrators .exit)) (now (combs .exit))) (r .value) ⌝ }
 {
-    if 0 < countdown {
-        let value = integrate(integrators, order, hold);
-        return Lifted {
-            countdown: countdown - 1,
-            hold,
-            value,
-        };
+    let mut numbers = n;
+    if 0 < n.countdown {
+        numbers.countdown = n.countdown - 1;
+        let value = integrate(integrators, n.order, n.hold);
+        return Lifted { numbers, value };
     }
-    let held = difference(combs, order, delay, x);
-    let value = integrate(integrators, order, held);
-    Lifted {
-        countdown: rate,
-        hold: held,
-        value,
-    }
+    let hold = difference(combs, n.order, n.delay, x);
+    numbers.countdown = n.rate;
+    numbers.hold = hold;
+    let value = integrate(integrators, n.order, hold);
+    Lifted { numbers, value }
 }
 
 impl Cic {
+    // All but the arrays.
+    pub(crate) fn numbers(self) -> Numbers
+        ensures { λ r. ⌜ r ≡ numbersOf self ⌝ }
+    {
+        Numbers {
+            order: self.order,
+            delay: self.delay,
+            rate: self.rate,
+            countdown: self.countdown,
+            unsettled: self.unsettled,
+            hold: self.hold,
+        }
+    }
+
     // The interpolator's step of an accepted state.
     fn lifted(self, x: i32) -> Risen
         requires { ⌜ refusal (stateOf self) ≡ 0 ⌝ }
         ensures { λ r. ⌜ r ≡ liftedOf self (dueSample i32Ops (self .countdown) (x ∷ [])) ⌝ }
     {
-        let order = self.order;
-        let delay = self.delay;
-        let rate = self.rate;
-        let unsettled = self.unsettled;
         let mut integrators = self.integrators;
         let mut combs = self.combs;
-        let t = lift(
-            &mut integrators,
-            &mut combs,
-            order,
-            delay,
-            rate,
-            self.countdown,
-            unsettled,
-            self.hold,
-            x,
-        );
-        let state = Cic {
-            order,
-            delay,
-            rate,
-            countdown: t.countdown,
-            unsettled,
-            hold: t.hold,
-            integrators,
-            combs,
-        };
-        let out = Interpolated::Value(t.value);
-        Risen { state, out }
+        let t = lift(&mut integrators, &mut combs, self.numbers(), x);
+        let numbers = t.numbers;
+        let state = joined(numbers, integrators, combs);
+        Risen {
+            state,
+            out: Interpolated::Value(t.value),
+        }
     }
 
     // One input in: every R-th step gives an output, held too, and lowers an unsettled count above 0 by 1.
@@ -175,32 +167,11 @@ impl Cic {
                 out: Out::Refused(number),
             };
         }
-        let order = self.order;
-        let delay = self.delay;
-        let rate = self.rate;
         let mut integrators = self.integrators;
         let mut combs = self.combs;
-        let t = turn(
-            &mut integrators,
-            &mut combs,
-            order,
-            delay,
-            rate,
-            self.countdown,
-            self.unsettled,
-            self.hold,
-            x,
-        );
-        let state = Cic {
-            order,
-            delay,
-            rate,
-            countdown: t.countdown,
-            unsettled: t.unsettled,
-            hold: t.hold,
-            integrators,
-            combs,
-        };
+        let t = turn(&mut integrators, &mut combs, self.numbers(), x);
+        let numbers = t.numbers;
+        let state = joined(numbers, integrators, combs);
         let out = t.out;
         Stepped { state, out }
     }

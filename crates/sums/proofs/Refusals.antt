@@ -19,7 +19,7 @@ abbrev pub Good : {A : Type 0} → State A → Type 0
 Good s = Sound (s .order) (s .delay) (s .rate) (s .countdown) (s .unsettled)
 
 -- a test that gave none was false, and the rest gave none
-passed : (b : Bool) (k n : ℕ) → cond b (suc k) n ≡ 0 → b ≡ false
+pub passed : (b : Bool) (k n : ℕ) → cond b (suc k) n ≡ 0 → b ≡ false
 passed true k n e = absurd (omega arith)
 passed false k n e = refl
 
@@ -27,7 +27,7 @@ rest : (b : Bool) (k n : ℕ) → cond b (suc k) n ≡ 0 → n ≡ 0
 rest true k n e = absurd (omega arith)
 rest false k n e = e
 
-first : (a b : Bool) → a || b ≡ false → a ≡ false
+pub first : (a b : Bool) → a || b ≡ false → a ≡ false
 first true b e = e
 first false b e = refl
 

@@ -5,3 +5,5 @@ pub mod Moving
 pub mod State
 pub mod Calls
 pub mod Runs
+pub mod Demands
+pub mod Figures

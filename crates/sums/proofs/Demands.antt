@@ -1,0 +1,72 @@
+-- The statements of specs/Demands, each proved from the room that holds it.
+use mathlib.Core.Path.{_≡_, refl, sym, subst}
+use Prim.Native.Nat.{ℕ, zero, suc, _*_, _^_, _≤_}
+use native.Mathlib.Omega.{arith}
+use lib.IntN.{ℤ, pos, _*ℤ_}
+use mir.Syntax.{Width, w32}
+use Rattle.words.specs.Words.{wrap}
+use Rattle.sums.specs.Signed.{signedOps}
+use Rattle.sums.specs.State.{State, refusalOf, zeroed}
+use Rattle.sums.specs.Calls.{newState, gain, bitLength, gainLog2, fits}
+use Rattle.sums.specs.Demands.{Contents, Decimator, Interpolator, Stream, Demand2, Demand2Cleared, Demand2Interpolated, Demand3, Demand3Rate, Demand3Tight, GainBound, FitSound, FitNotExact, Settled}
+use Rattle.sums.proofs.Refusals.{Sound, sound, good}
+use Rattle.sums.proofs.Steps.{packed, Fit}
+use Rattle.sums.proofs.Makers.{new-is, clear-is, resume-is, rate-is, settle-is, resume-sound, rate-sound, zero-sound, zeroed-fit, decimates-zero}
+use Rattle.sums.proofs.Settling.{decimates-settled}
+use Rattle.sums.proofs.Alone.{decimator}
+use Rattle.sums.proofs.Interpolating.{interpolates-zero}
+use Rattle.sums.proofs.Constant.{settled-stream}
+use Rattle.sums.proofs.Tight.{misleads}
+use Rattle.sums.proofs.Sizes.{gain-bound, exact, fit-sound}
+
+from-zero : (w : Width) (N M r : ℕ) → Sound N M r 0 0 → Decimator w N M r 0 0 (zeroed (signedOps w) N M r)
+from-zero w N M r q = decimator w N M r 0 0 (zeroed (signedOps w) N M r) (zeroed-fit (signedOps w) N M r q) (decimates-zero w N M r q)
+
+pub demand2 : Demand2
+demand2 w N M r e = subst (Decimator w N M r 0 0) (sym (new-is (signedOps w) N M r e)) (from-zero w N M r (sound N M r 0 0 e))
+
+pub demand2-cleared : Demand2Cleared
+demand2-cleared w s e =
+    subst (Decimator w (s .order) (s .delay) (s .rate) 0 0) (sym (clear-is (signedOps w) s e))
+    (from-zero w (s .order) (s .delay) (s .rate) (zero-sound s e))
+
+-- any contents, N M outputs unsettled
+from-any : (w : Width) (s : State ℤ) → Fit s → Contents w (s .integrators) (s .combs) → s .order * s .delay ≤ s .unsettled
+    → Decimator w (s .order) (s .delay) (s .rate) (s .countdown) (s .unsettled) s
+from-any w s f h l =
+    decimator w (s .order) (s .delay) (s .rate) (s .countdown) (s .unsettled) s f (λ xs b. decimates-settled w s f h xs b l)
+
+pub demand3 : Demand3
+demand3 w N M r c is ks hold e h =
+    subst (Decimator w N M r c (N * M)) (sym (resume-is (signedOps w) N M r c is ks hold e))
+    (from-any w (packed N M r c (N * M) hold is ks) (record { good = resume-sound N M r c e; long8 = h .long8; long64 = h .long64 }) h (omega arith))
+
+pub demand3-rate : Demand3Rate
+demand3-rate w s r e h =
+    subst (Decimator w (s .order) (s .delay) r (s .countdown) (s .order * s .delay)) (sym (rate-is (signedOps w) s r e))
+    (from-any w (packed (s .order) (s .delay) r (s .countdown) (s .order * s .delay) (s .hold) (s .integrators) (s .combs))
+    (record { good = rate-sound s r e; long8 = h .long8; long64 = h .long64 }) h (omega arith))
+
+pub demand2-interpolated : Demand2Interpolated
+demand2-interpolated w N M r e =
+    subst (Interpolator w N M r) (sym (new-is (signedOps w) N M r e)) (interpolates-zero w N M r (sound N M r 0 0 e))
+
+pub settled : Settled
+settled w s x e h =
+    subst (λ q. Stream w q x (wrap w (pos (gain s) *ℤ x))) (sym (settle-is (signedOps w) s x e))
+    (settled-stream w s x h (s .order) refl (zero-sound s e))
+
+pub demand3-tight : Demand3Tight
+demand3-tight w zero M r c e h = absurd (omega arith)
+demand3-tight w (suc n) zero r c e h = absurd (omega (arith, sound (suc n) 0 r c 0 e .some))
+demand3-tight w (suc n) (suc m) r c e h = misleads w n m r c e
+
+pub gain-bounded : GainBound
+gain-bounded s e = gain-bound s (good s e)
+
+pub fit-is-sound : FitSound
+fit-is-sound w s b e y x h t = fit-sound w s b e y x h t
+
+pub fit-is-not-exact : FitNotExact
+unfolding newState zeroed refusalOf fits gainLog2 bitLength
+fit-is-not-exact = (refl, λ x h t. exact w32 3 3 (2 ^ 26) x (omega arith) h (omega arith) t)

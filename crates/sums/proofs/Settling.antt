@@ -1,0 +1,94 @@
+-- Demands 2 and 3 of an accepted state over words: when its outputs fall, which are marked settled, and that those are the moving sum;
+-- first from any contents with N M outputs unsettled, then from zero.
+use mathlib.Core.Path.{_≡_, refl, sym, ap, ap₂, subst, _∙_}
+use mathlib.Core.Bool.{true}
+use mathlib.Core.List.{List, [], _∷_, map}
+use mathlib.Core.Option.{Option, none, some, Option·some-injective}
+use Prim.Native.Nat.{ℕ, zero, suc, _+_, _*_, _≤_, _<_}
+use native.Mathlib.Omega.{arith}
+use native.Mathlib.Nat.{zero-add}
+use lib.Dec.{ltb, leb, leb·zero, leb·suc-zero, leb·suc-suc}
+use lib.IntN.{ℤ, pos}
+use lib.ListN.{length, getD, getElem?, take, replicate}
+use borrow.Author.Tests.{leb-true}
+use mir.Syntax.{Width}
+use Rattle.words.specs.Words.{wrap}
+use Rattle.sums.specs.Ops.{Ops}
+use Rattle.sums.specs.Signed.{signedOps, exactOps}
+use Rattle.sums.specs.Machine.{Machine, Output}
+use Rattle.sums.specs.Moving.{moving}
+use Rattle.sums.specs.State.{State, rows, view}
+use Rattle.sums.specs.Runs.{needed, outputs}
+use Rattle.sums.specs.Demands.{input, InWord, Contents, Decimates}
+use Rattle.sums.proofs.Arrays.{view-shaped}
+use Rattle.sums.proofs.Steps.{Fit, room}
+use Rattle.sums.proofs.Counts.{needed-none, needed-wait, needed-give, outputs-length, outputs-mark}
+use Rattle.sums.proofs.Cascade.{seg}
+use Rattle.sums.proofs.Traces.{output, outcome, outputs-are, output-settled}
+use Rattle.sums.proofs.Carried.{exactLaws, list-in, take-in, rows-in, output-wraps}
+
+-- the count, read backwards: output k is there exactly when input c + k R is
+pub needed-falls : (L c r k : ℕ) → ltb k (needed L c r) ≡ ltb (c + k * suc r) L
+needed-falls zero c r k = rw needed-none (leb·suc-zero k ∙ sym (leb·suc-zero (c + k * suc r)))
+needed-falls (suc L) (suc c) r k =
+    let e : needed (suc L) (suc c) r ≡ needed L c r = needed-wait L (suc c) r (omega arith) ∙ ap (λ n. needed L n r) (omega arith) in
+    let f : suc c + k * suc r ≡ suc (c + k * suc r) = omega arith in
+    rw (e, f) (needed-falls L c r k ∙ sym (leb·suc-suc (suc (c + k * suc r)) L))
+needed-falls (suc L) zero r zero =
+    let f : 0 + 0 * suc r ≡ 0 = omega arith in
+    rw (needed-give L 0 r refl, f) (leb·suc-suc 0 (needed L r r) ∙ leb·zero (needed L r r) ∙ sym (leb·suc-suc 0 L ∙ leb·zero L))
+needed-falls (suc L) zero r (suc k) =
+    let f : 0 + suc k * suc r ≡ suc (r + k * suc r) = omega arith in
+    rw (needed-give L 0 r refl, f) (leb·suc-suc (suc k) (needed L r r) ∙ needed-falls L r r k ∙ sym (leb·suc-suc (suc (r + k * suc r)) L))
+
+-- an element of a list
+elem-below : {A : Type 0} (l : List A) (k : ℕ) (y : A) → getElem? l k ≡ some y → k < length l
+elem-below [] k y e = let z : _≡_ {A = ℕ} 0 1 = cc in absurd (omega arith)
+elem-below (a ∷ l) zero y e = omega arith
+elem-below (a ∷ l) (suc k) y e = let h = elem-below l k y e in omega arith
+
+elem-getD : {A : Type 0} (l : List A) (k : ℕ) (y d : A) → getElem? l k ≡ some y → getD l k d ≡ y
+elem-getD [] k y d e = let z : _≡_ {A = ℕ} 0 1 = cc in absurd (omega arith)
+elem-getD (a ∷ l) zero y d e = Option·some-injective a y e
+elem-getD (a ∷ l) (suc k) y d e = elem-getD l k y d e
+
+pub elem-seg : {A : Type 0} (f : ℕ → A) (n m k : ℕ) (y : A) → getElem? (seg f n m) k ≡ some y → y ≡ f (n + k)
+unfolding seg
+elem-seg f n zero k y e = let z : _≡_ {A = ℕ} 0 1 = cc in absurd (omega arith)
+elem-seg f n (suc m) zero y e = sym (Option·some-injective (f n) y e) ∙ ap f (omega arith)
+elem-seg f n (suc m) (suc k) y e = elem-seg f (suc n) m k y e ∙ ap f (omega arith)
+
+module _ (w : Width) (s : State ℤ) (f : Fit s) (h : Contents w (s .integrators) (s .combs)) (xs : List ℤ) (b : InWord w xs) where
+  -- output k over words is the wrapped output k over the whole numbers
+  pub value-is : (k : ℕ) (y : Output ℤ) → getElem? (outputs (signedOps w) s xs) k ≡ some y → y .value ≡ wrap w (output exactOps (view s) (input xs) k)
+  unfolding outcome view
+  value-is k y e =
+      let is : y ≡ outcome (signedOps w) (view s) (input xs) (0 + k) =
+      elem-seg (outcome (signedOps w) (view s) (input xs)) 0 (needed (length xs) (s .countdown) (s .rate)) k y
+      (ap (λ l. getElem? l k) (sym (outputs-are (signedOps w) s f xs)) ∙ e) in
+      ap (λ q. q .value) is
+      ∙ ap (output (signedOps w) (view s) (input xs)) (zero-add k)
+      ∙ output-wraps w (view s) (input xs)
+      (list-in w (take (s .order) (s .integrators)) (take-in w (s .order) (s .integrators) (h .integrators-in)))
+      (rows-in w (s .delay) (s .order) (s .combs) (h .combs-in)) b k
+
+  -- what is left to show is that settled outputs over the whole numbers are the moving sum
+  pub decimates : ((k : ℕ) → s .unsettled ≤ k
+      → output exactOps (view s) (input xs) k ≡ moving exactOps (suc (s .rate) * s .delay) (s .order) (input xs) (s .countdown + k * suc (s .rate)))
+      → Decimates w (s .order) (s .delay) (s .rate) (s .countdown) (s .unsettled) xs (outputs (signedOps w) s xs)
+  decimates settled =
+      let marks : (k : ℕ) (y : Output ℤ) → getElem? (outputs (signedOps w) s xs) k ≡ some y → y .settled ≡ leb (s .unsettled) k =
+      λ k y e. ap (λ q. q .settled) (sym (elem-getD (outputs (signedOps w) s xs) k y y e))
+      ∙ outputs-mark (signedOps w) s f xs k y (elem-below (outputs (signedOps w) s xs) k y e) in
+      record {
+        falls = λ k. ap (ltb k) (outputs-length (signedOps w) s f xs) ∙ needed-falls (length xs) (s .countdown) (s .rate) k;
+        marks = marks;
+        sums = λ k y e t. value-is k y e ∙ ap (wrap w) (settled k (leb-true (s .unsettled) k (sym (marks k y e) ∙ t)));
+      }
+
+  -- from any contents, where N M outputs or more are unsettled
+  pub decimates-settled : s .order * s .delay ≤ s .unsettled
+      → Decimates w (s .order) (s .delay) (s .rate) (s .countdown) (s .unsettled) xs (outputs (signedOps w) s xs)
+  unfolding view
+  decimates-settled enough =
+      decimates (λ k l. output-settled exactOps exactLaws (s .order) (s .delay) (view s) (view-shaped s (room s f)) (input xs) k (omega arith))

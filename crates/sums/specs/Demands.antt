@@ -1,0 +1,186 @@
+-- What is guaranteed of the decimator and the interpolator, in document 01's words: a few definitions, then the statements, nothing else.
+-- Each holds for every width w of word, order N, delay M and rate that is accepted, and is proved in proofs/Demands.antt. R is rate + 1.
+use mathlib.Core.Path.{_≡_}
+use mathlib.Core.Bool.{true, false}
+use mathlib.Core.List.{List, [], _∷_, _++_}
+use mathlib.Core.Option.{Option, none, some}
+use Prim.Native.Nat.{ℕ, suc, _+_, _-_, _*_, _^_, _≤_, _<_}
+use lib.Dec.{ltb, leb}
+use lib.IntN.{ℤ, pos, negsuc, _*ℤ_}
+use lib.Signed.{mag}
+use lib.ListN.{length, getD, getElem?, take, replicate}
+use mir.Syntax.{Width, w32}
+use mir.Val.{SFits, bits}
+use Rattle.words.specs.Words.{wrap}
+use Rattle.sums.specs.Ops.{Ops}
+use Rattle.sums.specs.Signed.{signedOps, exactOps}
+use Rattle.sums.specs.Machine.{Output}
+use Rattle.sums.specs.Moving.{moving, held}
+use Rattle.sums.specs.State.{State, refusal}
+use Rattle.sums.specs.Calls.{unless, newNumber, resumeNumber, rateNumber, riseNumber, newState, resumeState, rateState, clearState, settleState, stepState, stepGiven, riseState, risenOf, gain, gainLog2, fitNumber, fits}
+use Rattle.sums.specs.Runs.{needed, join, blockNumber, fillNumber, outputs, blockState, risings, fillState}
+
+-- A list as a sequence, number 0 first and zeros behind it; and whole numbers that all fit the word.
+abbrev pub input : List ℤ → ℕ → ℤ
+input xs t = getD xs t (pos 0)
+
+abbrev pub InWord : Width → List ℤ → Type 0
+InWord w xs = (t : ℕ) → SFits w (input xs t)
+
+-- Calls in turn, each from the state that the one before leaves: what f tells of each, in order.
+unfoldable pub along : {S C X : Type 0} → (S → C → S) → (S → C → List X) → S → List C → List X
+along leaves f s [] = []
+along leaves f s (c ∷ cs) = f s c ++ along leaves f (leaves s c) cs
+
+-- A decimator's call: a step on one input, or a block of inputs with the slice that is lent for its outputs.
+pub data Call : Type 0 where
+  step : ℤ → Call
+  block : List ℤ → List ℤ → Call
+
+-- An interpolator's call: a step with a sample or with none, or a block: samples, and the slice that is to be filled.
+pub data Rise : Type 0 where
+  rise : Option ℤ → Rise
+  fill : List ℤ → List ℤ → Rise
+
+-- What a call reads. A refused call is no step: it reads and gives nothing and leaves the state.
+unfoldable pub reads : State ℤ → Call → List ℤ
+reads s (step x) = unless (refusal s) [] (x ∷ [])
+reads s (block xs out) = unless (blockNumber s xs out) [] xs
+
+unfoldable pub samples : State ℤ → Rise → List ℤ
+samples s (rise x) = unless (riseNumber s x) [] (join x [])
+samples s (fill xs out) = unless (fillNumber s xs out) [] (take (needed (length out) (s .countdown) (s .rate)) xs)
+
+module _ (o : Ops ℤ) where
+  -- What it leaves, and what it gives.
+  unfoldable pub leaves : State ℤ → Call → State ℤ
+  leaves s (step x) = stepState o s x
+  leaves s (block xs out) = blockState o s xs out
+
+  unfoldable pub gives : State ℤ → Call → List (Output ℤ)
+  gives s (step x) = join (stepGiven o s x) []
+  gives s (block xs out) = unless (blockNumber s xs out) [] (outputs o s xs)
+
+  unfoldable pub lifts : State ℤ → Rise → State ℤ
+  lifts s (rise x) = riseState o s x
+  lifts s (fill xs out) = fillState o s xs out
+
+  unfoldable pub yields : State ℤ → Rise → List ℤ
+  yields s (rise x) = unless (riseNumber s x) [] (risenOf o s x ∷ [])
+  yields s (fill xs out) = unless (fillNumber s xs out) [] (risings o s (length out) xs)
+
+-- What the outputs ys are to the inputs xs, where the first output is due after c inputs and the first u aren't to be believed.
+pub record Decimates (w : Width) (N M rate c u : ℕ) (xs : List ℤ) (ys : List (Output ℤ)) : Type 0 where
+  -- Output number k, from 0, falls on input number c + k · R + 1, counted from 1: it is there exactly when that input is.
+  -- There are no other outputs.
+  pub falls : (k : ℕ) → ltb k (length ys) ≡ ltb (c + k * suc rate) (length xs)
+  -- It is marked settled exactly when u are before it.
+  pub marks : (k : ℕ) (y : Output ℤ) → getElem? ys k ≡ some y → y .settled ≡ leb u k
+  -- Where it is settled, it is the N-fold moving sum of the inputs, modulo 2 ^ w, read as signed.
+  pub sums : (k : ℕ) (y : Output ℤ) → getElem? ys k ≡ some y → y .settled ≡ true
+      → y .value ≡ wrap w (moving exactOps (suc rate * M) N (input xs) (c + k * suc rate))
+
+-- Decimator steps and blocks alone, in any mixture, from the state s on.
+abbrev pub Decimator : (w : Width) (N M rate c u : ℕ) → State ℤ → Type 0
+Decimator w N M rate c u s =
+    (calls : List Call)
+    → InWord w (along (leaves (signedOps w)) reads s calls)
+    → Decimates w N M rate c u (along (leaves (signedOps w)) reads s calls) (along (leaves (signedOps w)) (gives (signedOps w)) s calls)
+
+-- Interpolator steps and blocks alone, in any mixture, from the state s on: one sample is read for each R outputs, and each output is
+-- the moving sum of the held input.
+pub record Interpolates (w : Width) (N M rate : ℕ) (xs ys : List ℤ) : Type 0 where
+  pub counts : length xs ≡ needed (length ys) 0 rate
+  pub sums : (t : ℕ) (y : ℤ) → getElem? ys t ≡ some y → y ≡ wrap w (moving exactOps (suc rate * M) N (held (suc rate) (input xs)) t)
+
+abbrev pub Interpolator : (w : Width) (N M rate : ℕ) → State ℤ → Type 0
+Interpolator w N M rate s =
+    (calls : List Rise)
+    → InWord w (along (lifts (signedOps w)) samples s calls)
+    → Interpolates w N M rate (along (lifts (signedOps w)) samples s calls) (along (lifts (signedOps w)) (yields (signedOps w)) s calls)
+
+-- Contents: 8 integrators and 64 comb cells that fit the word, whatever they are.
+pub record Contents (w : Width) (integrators combs : List ℤ) : Type 0 where
+  pub long8 : length integrators ≡ 8
+  pub long64 : length combs ≡ 64
+  pub integrators-in : InWord w integrators
+  pub combs-in : InWord w combs
+
+-- Demand 2, the moving sum. From a new state, and from a cleared one, every output is settled, and output k falls on input k · R + 1.
+abbrev pub Demand2 : Type 0
+Demand2 = (w : Width) (N M rate : ℕ) → newNumber N M rate ≡ 0 → Decimator w N M rate 0 0 (newState (signedOps w) N M rate)
+
+abbrev pub Demand2Cleared : Type 0
+Demand2Cleared = (w : Width) (s : State ℤ) → refusal s ≡ 0 → Decimator w (s .order) (s .delay) (s .rate) 0 0 (clearState (signedOps w) s)
+
+abbrev pub Demand2Interpolated : Type 0
+Demand2Interpolated = (w : Width) (N M rate : ℕ) → newNumber N M rate ≡ 0 → Interpolator w N M rate (newState (signedOps w) N M rate)
+
+-- Demand 3, settling. After a resume from any contents the first output falls on input countdown + 1, the first N · M outputs are
+-- marked unsettled, and every later one is settled and the moving sum of the inputs since the resume alone.
+abbrev pub Demand3 : Type 0
+Demand3 =
+    (w : Width) (N M rate countdown : ℕ) (integrators combs : List ℤ) (hold : ℤ)
+    → resumeNumber N M rate countdown ≡ 0 → Contents w integrators combs
+    → Decimator w N M rate countdown (N * M) (resumeState (signedOps w) N M rate integrators combs hold countdown)
+
+-- The same after an accepted set_rate, with the countdown that it found.
+abbrev pub Demand3Rate : Type 0
+Demand3Rate =
+    (w : Width) (s : State ℤ) (rate : ℕ) → rateNumber s rate ≡ 0 → Contents w (s .integrators) (s .combs)
+    → Decimator w (s .order) (s .delay) rate (s .countdown) (s .order * s .delay) (rateState (signedOps w) s rate)
+
+-- N · M can't be lowered: for every order above 0 there are contents and inputs for which output number N · M, counted from 1, is not the
+-- moving sum.
+pub record Misleads (w : Width) (N M rate countdown : ℕ) : Type 0 where
+  pub integrators : List ℤ
+  pub combs : List ℤ
+  pub contents : Contents w integrators combs
+  pub inputs : List ℤ
+  pub inputs-in : InWord w inputs
+  pub given : Output ℤ
+  pub is-given : getElem? (outputs (signedOps w) (resumeState (signedOps w) N M rate integrators combs (pos 0) countdown) inputs) (N * M - 1) ≡ some given
+  pub differs : given .value ≡ wrap w (moving exactOps (suc rate * M) N (input inputs) (countdown + (N * M - 1) * suc rate)) → ⊥
+
+abbrev pub Demand3Tight : Type 0
+Demand3Tight = (w : Width) (N M rate countdown : ℕ) → resumeNumber N M rate countdown ≡ 0 → 1 ≤ N → Misleads w N M rate countdown
+
+-- The demands are of decimator calls alone: an interpolator's step leaves the unsettled count, and a decimator's output after it can be
+-- marked settled without being the moving sum. From new, N 1, M 2, rate 0: an interpolator's step on 1 and a decimator's step on 0 give 1,
+-- where the moving sum is 0; and so after decimator's steps on 1 and 0, an interpolator's step on 0 and a decimator's step on 0 there comes -1.
+abbrev pub Between : Type 0
+Between =
+    let o : Ops ℤ = signedOps w32 in
+    let new : State ℤ = newState o 1 2 0 in
+    (stepGiven o (riseState o new (some (pos 1))) (pos 0) ≡ some (record { value = pos 1; settled = true }))
+    × (moving exactOps 2 1 (input (pos 0 ∷ [])) 0 ≡ pos 0)
+    × (stepGiven o (riseState o (stepState o (stepState o new (pos 1)) (pos 0)) (some (pos 0))) (pos 0) ≡ some (record { value = negsuc 0; settled = true }))
+    × (moving exactOps 2 1 (input (pos 1 ∷ pos 0 ∷ pos 0 ∷ [])) 2 ≡ pos 0)
+    × (moving exactOps 2 1 (input (pos 1 ∷ pos 0 ∷ pos 0 ∷ pos 0 ∷ [])) 3 ≡ pos 0)
+
+-- gain_log2 bounds the gain.
+abbrev pub GainBound : Type 0
+GainBound = (s : State ℤ) → refusal s ≡ 0 → gain s ≤ 2 ^ gainLog2 s
+
+-- Where the fit answer for b is yes, no output from zero wraps for inputs of b signed bits, - 2 ^ (b - 1) .. 2 ^ (b - 1) - 1: the moving
+-- sum is its own word. The held input of the interpolator is such an input, too.
+abbrev pub FitSound : Type 0
+FitSound =
+    (w : Width) (s : State ℤ) (b : ℕ) → fitNumber s (bits w) b ≡ 0 → fits s (bits w) b ≡ true
+    → (x : ℕ → ℤ) → ((t : ℕ) → mag (x t) < 2 ^ (b - 1))
+    → (t : ℕ) → wrap w (moving exactOps (suc (s .rate) * s .delay) (s .order) x t) ≡ moving exactOps (suc (s .rate) * s .delay) (s .order) x t
+
+-- The answer no doesn't say that some input wraps: N 3, M 1, rate 2, so R · M = 3, and b = 27.
+abbrev pub FitNotExact : Type 0
+FitNotExact =
+    (fits (newState (signedOps w32) 3 1 2) 32 27 ≡ false)
+    × ((x : ℕ → ℤ) → ((t : ℕ) → mag (x t) < 2 ^ 26) → (t : ℕ) → wrap w32 (moving exactOps 3 3 x t) ≡ moving exactOps 3 3 x t)
+
+-- After settle_interpolate on x, interpolator calls whose samples are all x give x times gain, modulo 2 ^ w, at every step.
+abbrev pub Stream : Width → State ℤ → ℤ → ℤ → Type 0
+Stream w s x v =
+    (calls : List Rise) (n : ℕ) → along (lifts (signedOps w)) samples s calls ≡ replicate n x
+    → (t : ℕ) (y : ℤ) → getElem? (along (lifts (signedOps w)) (yields (signedOps w)) s calls) t ≡ some y → y ≡ v
+
+abbrev pub Settled : Type 0
+Settled = (w : Width) (s : State ℤ) (x : ℤ) → refusal s ≡ 0 → SFits w x → Stream w (settleState (signedOps w) s x) x (wrap w (pos (gain s) *ℤ x))
