@@ -9,7 +9,7 @@ use lib.Dec.{eqb}
 use lib.ListN.{length, take, drop, getD, drop-of-length-le, length-drop}
 use lib.Seq.{drop-cons, drop-drop}
 use borrow.Author.Tests.{eq-eqb, ne-eqb}
-use Rattle.text.specs.Parts.{onto, parted, before, count, endOf}
+use Rattle.text.specs.Parts.{onto, parted, before, behind, count, endOf}
 
 module _ (sep : ℕ) where
   -- a loop that looks for the separator
@@ -57,18 +57,13 @@ module _ (sep : ℕ) where
       by true h = refl
       by false h = ap (λ (k : List ℕ). b ∷ k) h
 
-  -- what the first part's end leaves: nothing, or the separator and the rest
-  abbrev pub behind : List ℕ → List (List ℕ)
-  behind [] = []
-  behind (b ∷ l) = parted sep l
-
-  pub parted-first : (l : List ℕ) → parted sep l ≡ before sep l ∷ behind (drop (length (before sep l)) l)
+  pub parted-first : (l : List ℕ) → parted sep l ≡ before sep l ∷ behind sep (drop (length (before sep l)) l)
   unfolding before parted
   parted-first [] = refl
   parted-first (b ∷ l) = by (eqb b sep) (parted-first l)
     where
-      by : (t : Bool) → parted sep l ≡ before sep l ∷ behind (drop (length (before sep l)) l)
-          → cond t ([] ∷ parted sep l) (onto b (parted sep l)) ≡ cond t [] (b ∷ before sep l) ∷ behind (drop (length (cond t [] (b ∷ before sep l))) (b ∷ l))
+      by : (t : Bool) → parted sep l ≡ before sep l ∷ behind sep (drop (length (before sep l)) l)
+          → cond t ([] ∷ parted sep l) (onto b (parted sep l)) ≡ cond t [] (b ∷ before sep l) ∷ behind sep (drop (length (cond t [] (b ∷ before sep l))) (b ∷ l))
       by true h = refl
       by false h = ap (onto b) h
 

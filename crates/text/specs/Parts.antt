@@ -20,6 +20,11 @@ unfoldable pub before : ℕ → List ℕ → List ℕ
 before sep [] = []
 before sep (b ∷ bs) = cond (eqb b sep) [] (b ∷ before sep bs)
 
+-- the parts after the first, from where that ends
+abbrev pub behind : ℕ → List ℕ → List (List ℕ)
+behind sep [] = []
+behind sep (b ∷ bs) = parted sep bs
+
 -- how many bytes `sep` a text has
 unfoldable pub count : ℕ → List ℕ → ℕ
 count sep [] = 0
