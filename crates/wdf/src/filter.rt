@@ -99,7 +99,8 @@ fn run_block(
     requires { ⌜ (sections ≤ 8) × (length (now z) ≡ 8) × (length (now xs) ≡ length (now ys)) ⌝ }
     ensures { λ r. ⌜ (filter sections architecture (now (a .entry)) (now (z .exit))
         ≡ ends answer next (filter sections architecture (now (a .entry)) (now (z .entry))) (now (xs .entry)))
-        × (now (ys .exit) ≡ scan answer next (filter sections architecture (now (a .entry)) (now (z .entry))) (now (xs .entry))) ⌝ }
+        × (now (ys .exit)
+        ≡ scan answer next (filter sections architecture (now (a .entry)) (now (z .entry))) (now (xs .entry))) ⌝ }
 {
     let mut i: usize = 0;
     while i < xs.len() {

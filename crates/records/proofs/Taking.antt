@@ -1,0 +1,88 @@
+-- What a line does, case by case.
+use mathlib.Core.Path.{_≡_, refl, sym, ap, _∙_}
+use mathlib.Core.Bool.{Bool, true, false, cond}
+use mathlib.Core.List.{List}
+use mathlib.Core.Option.{Option, none, some}
+use Prim.Native.Nat.{ℕ, zero, suc, _≤_, _<_}
+use lib.IntN.{ℤ}
+use lib.ListN.{length}
+use borrow.Author.Tests.{lt-ltb, le-ltb}
+use Rattle.blocks.specs.declared.Verdict.{Verdict}
+use Rattle.sums.specs.Machine.{Output}
+use Rattle.sums.specs.State.{State, refusal}
+use Rattle.sums.specs.Calls.{stepState, stepGiven}
+use Rattle.cic.specs.Reading.{i32Ops, stateOf, cicOf}
+use Rattle.cic.specs.Answers.{outOf, steppedOf, madeOf}
+use Rattle.cic.specs.declared.state.Cic.{Cic}
+use Rattle.cic.specs.declared.state.Made.{Made}
+use Rattle.cic.specs.declared.steps.Out.{Out}
+use Rattle.cic.specs.declared.steps.Out.the-variants as Out
+use Rattle.cic.specs.declared.steps.Stepped.{Stepped}
+use Rattle.records.specs.Lines.{recordOf}
+use Rattle.records.specs.Sessions.{refuse, kept, toldBy, ordered, sampled, takeOf, lineOf}
+use Rattle.records.specs.declared.parse.Record.{Record}
+use Rattle.records.specs.declared.session.Session.{Session}
+use Rattle.records.specs.declared.session.Reply.{Reply}
+use Rattle.records.specs.declared.session.Reply.the-variants as Reply
+use Rattle.records.specs.declared.session.Taken.{Taken}
+
+pub ordered-is : (s : Session) (number : ℕ) (t : State ℤ) (m : Made) (r : Taken) → m ≡ madeOf number t → r ≡ toldBy s (m .state) (m .verdict) → r ≡ ordered s number t
+ordered-is s number t m r e w = w ∙ ap (λ (x : Made). toldBy s (x .state) (x .verdict)) e
+
+pub told-as : (s : Session) (f : Cic) (v w : Verdict) (r : Taken) → v ≡ w → r ≡ toldBy s f w → r ≡ toldBy s f v
+told-as s f v w r e h = h ∙ ap (toldBy s f) (sym e)
+
+sampled-given : (s : Session) (t : State ℤ) (y : ℤ) (b : Bool) (number : ℕ) (g : Option (Output ℤ)) → outOf number g ≡ Out.Given y b → kept (cicOf t) (Reply.Output y b) ≡ sampled s number t g
+unfolding outOf
+sampled-given s t y b zero (some o) e = let p : o .value ≡ y = cc in let q : o .settled ≡ b = cc in rw (p, q)
+sampled-given s t y b zero none e = cc
+sampled-given s t y b (suc k) g e = cc
+
+sampled-none : (s : Session) (t : State ℤ) (number : ℕ) (g : Option (Output ℤ)) → outOf number g ≡ Out.Nothing → kept (cicOf t) Reply.Silent ≡ sampled s number t g
+unfolding outOf
+sampled-none s t zero (some o) e = cc
+sampled-none s t zero none e = refl
+sampled-none s t (suc k) g e = cc
+
+sampled-refused : (s : Session) (t : State ℤ) (k number : ℕ) (g : Option (Output ℤ)) → outOf number g ≡ Out.Refused k → refuse s k ≡ sampled s number t g
+unfolding outOf
+sampled-refused s t k zero (some o) e = cc
+sampled-refused s t k zero none e = cc
+sampled-refused s t k (suc n) g e = let p : suc n ≡ k = cc in ap (refuse s) (sym p)
+
+-- a step of the filter, by what it answered
+module _ (s : Session) (x : ℤ) (d : Stepped) (e : d ≡ steppedOf (s .filter) x) where
+  abbrev of-step : Taken
+  of-step = sampled s (refusal (stateOf (s .filter))) (stepState i32Ops (stateOf (s .filter)) x) (stepGiven i32Ops (stateOf (s .filter)) x)
+
+  out-is : (o : Out) → d .out ≡ o → outOf (refusal (stateOf (s .filter))) (stepGiven i32Ops (stateOf (s .filter)) x) ≡ o
+  out-is o h = sym (ap (λ (r : Stepped). r .out) e) ∙ h
+
+  state-is : (reply : Reply) → kept (d .state) reply ≡ kept (cicOf (stepState i32Ops (stateOf (s .filter)) x)) reply
+  state-is reply = ap (λ (r : Stepped). kept (r .state) reply) e
+
+  pub step-given : (y : ℤ) (b : Bool) → d .out ≡ Out.Given y b → kept (d .state) (Reply.Output y b) ≡ of-step
+  step-given y b h = state-is (Reply.Output y b) ∙ sampled-given s _ y b _ _ (out-is (Out.Given y b) h)
+
+  pub step-none : d .out ≡ Out.Nothing → kept (d .state) Reply.Silent ≡ of-step
+  step-none h = state-is Reply.Silent ∙ sampled-none s _ _ _ (out-is Out.Nothing h)
+
+  pub step-refused : (k : ℕ) → d .out ≡ Out.Refused k → refuse s k ≡ of-step
+  step-refused k h = sampled-refused s _ k _ _ (out-is (Out.Refused k) h)
+
+pub takes : (s : Session) (r x : Record) (t : Taken) → r ≡ x → t ≡ takeOf s x → t ≡ takeOf s r
+takes s r x t e w = w ∙ ap (takeOf s) (sym e)
+
+pub is-true : {A : Type 0} (b : Bool) (x y : A) → b ≡ true → x ≡ cond b x y
+is-true b x y e = sym (rw e)
+
+pub is-false : {A : Type 0} (b : Bool) (x y : A) → b ≡ false → y ≡ cond b x y
+is-false b x y e = sym (rw e)
+
+pub line-long : (s : Session) (l : List ℕ) (t : Taken) → 64 < length l → t ≡ refuse s 72 → t ≡ lineOf s l
+unfolding lineOf
+line-long s l t h w = w ∙ sym (rw (lt-ltb _ _ h))
+
+pub line-short : (s : Session) (l : List ℕ) (r : Record) (t : Taken) → length l ≤ 64 → r ≡ recordOf l → t ≡ takeOf s r → t ≡ lineOf s l
+unfolding lineOf
+line-short s l r t h p w = w ∙ ap (takeOf s) p ∙ sym (rw (le-ltb _ _ h))

@@ -1,0 +1,4 @@
+pub mod Lines
+pub mod Fields
+pub mod Sessions
+pub mod Replays

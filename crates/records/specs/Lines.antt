@@ -1,0 +1,86 @@
+-- 01, 'The replay program', a line read as a record: `cic N M rate`, `rate r`, `x v`, `clear`.
+use mathlib.Core.Bool.{Bool, true, false, cond}
+use mathlib.Core.List.{List, [], _∷_}
+use Prim.Native.Nat.{ℕ, _-_}
+use lib.Dec.{leb, eqb}
+use lib.IntN.{ℤ, pos, negsuc}
+use lib.ListN.{length, getD}
+use Rattle.text.specs.Numbers.{numberOf}
+use Rattle.text.specs.Parts.{parted}
+use Rattle.text.specs.declared.numbers.Number.{Number}
+use Rattle.text.specs.declared.numbers.Number.the-variants.{Plus, Minus, Wrong}
+use Rattle.records.specs.declared.parse.Name.{Name}
+use Rattle.records.specs.declared.parse.Name.the-variants as Name
+use Rattle.records.specs.declared.parse.Natural.{Natural}
+use Rattle.records.specs.declared.parse.Natural.the-variants as Natural
+use Rattle.records.specs.declared.parse.Integer.{Integer}
+use Rattle.records.specs.declared.parse.Integer.the-variants as Integer
+use Rattle.records.specs.declared.parse.Record.{Record}
+use Rattle.records.specs.declared.parse.Record.the-variants.{Open, Rate, Sample, Clear, Malformed}
+
+-- the same bytes
+unfoldable pub same : List ℕ → List ℕ → Bool
+same [] [] = true
+same [] (b ∷ bs) = false
+same (a ∷ xs) [] = false
+same (a ∷ xs) (b ∷ bs) = cond (eqb a b) (same xs bs) false
+
+-- the first field is the record's name: the bytes of `cic`, `rate`, `x`, `clear`
+unfoldable pub nameOf : List ℕ → Name
+nameOf field =
+    cond (same field (99 ∷ 105 ∷ 99 ∷ [])) Name.Cic
+    (cond (same field (114 ∷ 97 ∷ 116 ∷ 101 ∷ [])) Name.Rate
+    (cond (same field (120 ∷ [])) Name.X
+    (cond (same field (99 ∷ 108 ∷ 101 ∷ 97 ∷ 114 ∷ [])) Name.Clear Name.Unknown)))
+
+-- how many fields follow it
+abbrev pub wantedOf : Name → ℕ
+wantedOf Name.Cic = 3
+wantedOf Name.Rate = 1
+wantedOf Name.X = 1
+wantedOf Name.Clear = 0
+wantedOf Name.Unknown = 0
+
+-- N, M and rate within u32
+abbrev pub naturalOf : Number → Natural
+naturalOf (Plus v) = cond (leb v 4294967295) (Natural.Within v) Natural.Outside
+naturalOf (Minus v) = Natural.Outside
+naturalOf Wrong = Natural.Outside
+
+-- v within i32; no number is minus 0
+abbrev pub integerOf : Number → Integer
+integerOf (Plus v) = cond (leb v 2147483647) (Integer.Within (pos v)) Integer.Outside
+integerOf (Minus v) = cond (eqb v 0) Integer.Outside (cond (leb v 2147483648) (Integer.Within (negsuc (v - 1))) Integer.Outside)
+integerOf Wrong = Integer.Outside
+
+-- else 70
+abbrev pub withNatural : Natural → (ℕ → Record) → Record
+withNatural (Natural.Within n) make = make n
+withNatural Natural.Outside make = Malformed
+
+abbrev pub withInteger : Integer → (ℤ → Record) → Record
+withInteger (Integer.Within v) make = make v
+withInteger Integer.Outside make = Malformed
+
+-- the number in field i after the name
+abbrev pub fieldAt : List (List ℕ) → ℕ → Number
+fieldAt fields i = numberOf (getD fields i [])
+
+abbrev pub filledOf : Name → List (List ℕ) → Record
+filledOf Name.Cic fields =
+    withNatural (naturalOf (fieldAt fields 0)) (λ n. withNatural (naturalOf (fieldAt fields 1)) (λ m. withNatural (naturalOf (fieldAt fields 2)) (λ rate. Open n m rate)))
+filledOf Name.Rate fields = withNatural (naturalOf (fieldAt fields 0)) (λ rate. Rate rate)
+filledOf Name.X fields = withInteger (integerOf (fieldAt fields 0)) (λ v. Sample v)
+filledOf Name.Clear fields = Clear
+filledOf Name.Unknown fields = Malformed
+
+abbrev pub shapedOf : Name → List (List ℕ) → Record
+shapedOf name fields = cond (eqb (length fields) (wantedOf name)) (filledOf name fields) Malformed
+
+abbrev pub fieldsRecord : List (List ℕ) → Record
+fieldsRecord [] = Malformed
+fieldsRecord (name ∷ fields) = shapedOf (nameOf name) fields
+
+-- fields parted by one tab (byte 9)
+unfoldable pub recordOf : List ℕ → Record
+recordOf line = fieldsRecord (parted 9 line)

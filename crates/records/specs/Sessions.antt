@@ -1,0 +1,62 @@
+-- 01, 'The replay program', what a line does and what it is answered. A line is tested for 72, 70, 71, and then the filter tests.
+use mathlib.Core.Bool.{Bool, true, false, cond}
+use mathlib.Core.List.{List}
+use mathlib.Core.Option.{Option, none, some}
+use Prim.Native.Nat.{ℕ, zero, suc}
+use lib.Dec.{ltb}
+use lib.IntN.{ℤ}
+use lib.ListN.{length}
+use Rattle.sums.specs.Machine.{Output}
+use Rattle.sums.specs.State.{State, refusal}
+use Rattle.sums.specs.Calls.{newNumber, newState, rateNumber, rateState, clearState, stepState, stepGiven}
+use Rattle.blocks.specs.Verdicts.{verdictOf}
+use Rattle.blocks.specs.declared.Verdict.{Verdict}
+use Rattle.blocks.specs.declared.Verdict.the-variants as Verdict
+use Rattle.cic.specs.Reading.{i32Ops, stateOf, cicOf}
+use Rattle.cic.specs.declared.state.Cic.{Cic}
+use Rattle.records.specs.Lines.{recordOf}
+use Rattle.records.specs.declared.parse.Record.{Record}
+use Rattle.records.specs.declared.parse.Record.the-variants.{Open, Rate, Sample, Clear, Malformed}
+use Rattle.records.specs.declared.session.Session.{Session}
+use Rattle.records.specs.declared.session.Reply.{Reply}
+use Rattle.records.specs.declared.session.Reply.the-variants as Reply
+use Rattle.records.specs.declared.session.Taken.{Taken}
+
+-- a refused line leaves the session as it was
+abbrev pub refuse : Session → ℕ → Taken
+refuse s number = record { session = s; reply = Reply.Bad number }
+
+-- the filter is there, and is now f
+abbrev pub kept : Cic → Reply → Taken
+kept f reply = record { session = record { opened = true; filter = f }; reply = reply }
+
+-- a call that makes the filter, or puts it in order, and its verdict
+abbrev pub toldBy : Session → Cic → Verdict → Taken
+toldBy s f Verdict.Done = kept f Reply.Silent
+toldBy s f (Verdict.Refused number) = refuse s number
+
+-- the same by the call's number (0: accepted) and its state
+abbrev pub ordered : Session → ℕ → State ℤ → Taken
+ordered s number t = toldBy s (cicOf t) (verdictOf number)
+
+-- a step: its number, its state, and one output with its mark or nothing at all
+abbrev pub replied : Option (Output ℤ) → Reply
+replied (some y) = Reply.Output (y .value) (y .settled)
+replied none = Reply.Silent
+
+abbrev pub sampled : Session → ℕ → State ℤ → Option (Output ℤ) → Taken
+sampled s zero t given = kept (cicOf t) (replied given)
+sampled s (suc k) t given = refuse s (suc k)
+
+-- 70: malformed line; 71: no `cic` line yet, or a second one; then the filter's own numbers
+unfoldable pub takeOf : Session → Record → Taken
+takeOf s Malformed = refuse s 70
+takeOf s (Open n m rate) = cond (s .opened) (refuse s 71) (ordered s (newNumber n m rate) (newState i32Ops n m rate))
+takeOf s (Rate rate) = cond (s .opened) (ordered s (rateNumber (stateOf (s .filter)) rate) (rateState i32Ops (stateOf (s .filter)) rate)) (refuse s 71)
+takeOf s (Sample v) =
+    cond (s .opened) (sampled s (refusal (stateOf (s .filter))) (stepState i32Ops (stateOf (s .filter)) v) (stepGiven i32Ops (stateOf (s .filter)) v)) (refuse s 71)
+takeOf s Clear = cond (s .opened) (ordered s (refusal (stateOf (s .filter))) (clearState i32Ops (stateOf (s .filter)))) (refuse s 71)
+
+-- a line that its newline ends. 72: line over 64 bytes before its newline
+unfoldable pub lineOf : Session → List ℕ → Taken
+lineOf s line = cond (ltb 64 (length line)) (refuse s 72) (takeOf s (recordOf line))
