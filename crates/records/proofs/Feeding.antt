@@ -1,13 +1,13 @@
 -- A part of the input, and a whole input: how each call ends.
 use native.Mathlib.Omega.{arith}
 use mathlib.Core.Path.{_≡_, sym, ap, _∙_}
-use mathlib.Core.Bool.{Bool, true, false}
+use mathlib.Core.Bool.{Bool, true, false, cond}
 use mathlib.Core.List.{List, [], _++_}
 use Prim.Native.Nat.{ℕ, _+_, _*_, _^_, _≤_, _<_}
-use lib.Dec.{ltb}
-use lib.ListN.{length, drop, length-take}
+use lib.Dec.{ltb, eqb}
+use lib.ListN.{length, drop, length-take, length-append}
 use lib.Seq.{drop-length}
-use borrow.Author.Tests.{ltb-false}
+use borrow.Author.Tests.{ltb-false, le-ltb}
 use Rattle.text.specs.Writing.{Wrote}
 use Rattle.text.proofs.Putting.{then, same}
 use Rattle.records.specs.Replays.{replay}
@@ -64,3 +64,17 @@ module _ (r : Replay) (input out : List ℕ) where
         let a : bytesOf (placeOf r) input ++ finishBytes (placeOf last) ≡ wholly start input =
         ap (λ (p : Place). bytesOf (placeOf r) input ++ finishBytes p) (sym (ran-all .0)) ∙ ap (λ (p : Place). wholly p input) s in
         same (a ∙ whole input h) (then (omega arith) (ran-all .1) f)
+
+-- for callers: what was written is within the slice, and a part for which there is room is taken
+pub count-fits : (number : ℕ) (bs o o' : List ℕ) (w : Written) → w ≡ written number bs → o' ≡ over number bs o → w .count ≤ length o'
+count-fits number bs o o' w e q = by (eqb number 0) (ap (λ (x : Written). x .count) e) q
+  where
+    by : (t : Bool) → w .count ≡ cond t (length bs) 0 → o' ≡ cond t (bs ++ drop (length bs) o) o → w .count ≤ length o'
+    by true p r = omega (arith, ap length r, length-append bs (drop (length bs) o))
+    by false p r = omega arith
+
+pub feed-takes : (r : Replay) (input out : List ℕ) (f : Fed) → 4 * length input + 292 ≤ length out → f ≡ fed r input out
+    → (f .replay ≡ replayOf (fedOf (placeOf r) input)) × (f .wrote .count ≡ length (bytesOf (placeOf r) input))
+feed-takes r input out f h e =
+    let n : feedNumber input out ≡ 0 = rw (le-ltb (length out) (4 * length input + 292) h) in
+    (ap (λ (x : Fed). x .replay) e ∙ rw n, ap (λ (x : Fed). x .wrote .count) e ∙ rw n)
