@@ -9,3 +9,4 @@ pub mod Turning
 pub mod Blocks
 pub mod Wholes
 pub mod Feeding
+pub mod Figures
