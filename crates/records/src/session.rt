@@ -29,7 +29,7 @@ pub struct Taken {
     pub reply: Reply,
 }
 
-fn refused(s: Session, number: u32) -> Taken
+pub(crate) fn refused(s: Session, number: u32) -> Taken
     ensures { λ r. ⌜ r ≡ refuse s number ⌝ }
 {
     Taken {

@@ -5,9 +5,11 @@ use mathlib.Core.Path.{_≡_, refl, sym, ap, _∙_}
 use mathlib.Core.Bool.{Bool, true, false, cond}
 use mathlib.Core.List.{List, [], _∷_}
 use Prim.Native.Nat.{ℕ, _+_, _-_, _*_, _≤_, _<_, min}
+use lib.Dec.{eqb}
 use lib.ListN.{length, drop, getD, drop-of-length-le}
 use lib.Seq.{drop-cons}
-use borrow.Author.Tests.{ne-eqb, le-leb, lt-leb}
+use borrow.Author.Tests.{ne-eqb, eqb-true, le-leb, lt-leb}
+use Rattle.text.specs.Parts.{count}
 use Rattle.text.specs.Numbers.{isDigit, digitsFrom, turned, leadingOf, plainOf, numberOf, cap, capped}
 use Rattle.text.specs.declared.numbers.Number.{Number}
 use Rattle.text.specs.declared.numbers.Number.the-variants.{Plus, Minus, Wrong}
@@ -97,3 +99,51 @@ unfolding plainOf
 number-other [] s h n = absurd (omega arith)
 number-other (b ∷ []) s h n = number-plain (b ∷ []) s h ∙ rw (ne-eqb b 48 n)
 number-other (b ∷ d ∷ l) s h n = number-plain (b ∷ d ∷ l) s h
+
+-- a number has no byte but digits and a minus
+module _ (sep : ℕ) (no-digit : isDigit sep ≡ false) (no-minus : sep ≡ 45 → ⊥) where
+  count-digit : (b : ℕ) (l : List ℕ) → isDigit b ≡ true → count sep (b ∷ l) ≡ count sep l
+  unfolding count
+  count-digit b l h =
+      let n : b ≡ sep → ⊥ = λ e. let z : _≡_ {A = Bool} true false = sym h ∙ ap isDigit e ∙ no-digit in let k : _≡_ {A = ℕ} 0 1 = cc in omega arith in
+      rw (ne-eqb b sep n)
+
+  digits-count : (l : List ℕ) (v : ℕ) → (digitsFrom v l ≡ Wrong → ⊥) → count sep l ≡ 0
+  unfolding digitsFrom count
+  digits-count [] v h = refl
+  digits-count (b ∷ l) v h = by (isDigit b) refl (digits-count l (v * 10 + (b - 48))) h
+    where
+      by : (t : Bool) → isDigit b ≡ t → ((digitsFrom (v * 10 + (b - 48)) l ≡ Wrong → ⊥) → count sep l ≡ 0)
+          → (cond t (digitsFrom (v * 10 + (b - 48)) l) Wrong ≡ Wrong → ⊥) → count sep (b ∷ l) ≡ 0
+      by true e f k = count-digit b l e ∙ f k
+      by false e f k = absurd (k refl)
+
+  leading-count : (l : List ℕ) → (leadingOf l ≡ Wrong → ⊥) → count sep l ≡ 0
+  unfolding leadingOf
+  leading-count [] h = absurd (h refl)
+  leading-count (b ∷ l) h = by (eqb b 48) h
+    where
+      by : (t : Bool) → (cond t Wrong (digitsFrom 0 (b ∷ l)) ≡ Wrong → ⊥) → count sep (b ∷ l) ≡ 0
+      by true k = absurd (k refl)
+      by false k = digits-count (b ∷ l) 0 k
+
+  plain-count : (l : List ℕ) → (plainOf l ≡ Wrong → ⊥) → count sep l ≡ 0
+  unfolding plainOf count
+  plain-count [] h = refl
+  plain-count (b ∷ []) h = by (eqb b 48) refl h
+    where
+      by : (t : Bool) → eqb b 48 ≡ t → (cond t (Plus 0) (leadingOf (b ∷ [])) ≡ Wrong → ⊥) → count sep (b ∷ []) ≡ 0
+      by true e k = count-digit b [] (ap isDigit (eqb-true b 48 e))
+      by false e k = leading-count (b ∷ []) k
+  plain-count (b ∷ d ∷ l) h = leading-count (b ∷ d ∷ l) h
+
+  pub number-count : (l : List ℕ) → (numberOf l ≡ Wrong → ⊥) → count sep l ≡ 0
+  unfolding numberOf count
+  number-count [] h = refl
+  number-count (b ∷ l) h = by (eqb b 45) refl h
+    where
+      by : (t : Bool) → eqb b 45 ≡ t → (cond t (turned (leadingOf l)) (plainOf (b ∷ l)) ≡ Wrong → ⊥) → count sep (b ∷ l) ≡ 0
+      by true e k =
+          let n : b ≡ sep → ⊥ = λ q. no-minus (sym q ∙ eqb-true b 45 e) in
+          rw (ne-eqb b sep n) (leading-count l (λ z. k (ap turned z)))
+      by false e k = plain-count (b ∷ l) k

@@ -1,14 +1,14 @@
 -- Parts between separators: the first part ends where `endOf` says, and the rest is parted again.
 use native.Mathlib.Omega.{arith}
 use native.Mathlib.Numerals.{add-one}
-use mathlib.Core.Path.{_≡_, refl, ap, _∙_}
+use mathlib.Core.Path.{_≡_, refl, sym, ap, _∙_}
 use mathlib.Core.Bool.{Bool, true, false, cond}
-use mathlib.Core.List.{List, [], _∷_}
+use mathlib.Core.List.{List, [], _∷_, _++_}
 use Prim.Native.Nat.{ℕ, suc, _+_, _-_, _≤_, _<_}
 use lib.Dec.{eqb}
 use lib.ListN.{length, take, drop, getD, drop-of-length-le, length-drop}
-use lib.Seq.{drop-cons, drop-drop}
-use borrow.Author.Tests.{eq-eqb, ne-eqb}
+use lib.Seq.{drop-cons, drop-drop, getD-drop}
+use borrow.Author.Tests.{eq-eqb, ne-eqb, eqb-true}
 use Rattle.text.specs.Parts.{onto, parted, before, behind, count, endOf}
 
 module _ (sep : ℕ) where
@@ -94,3 +94,62 @@ module _ (sep : ℕ) (l : List ℕ) (from : ℕ) (within : from ≤ length l) wh
   pub end-parted : parted sep (drop from l) ≡ take (endOf sep l from - from) (drop from l) ∷ behind sep (drop (endOf sep l from) l)
   end-parted =
       rw end-part (parted-first sep (drop from l) ∙ ap (λ (k : List ℕ). before sep (drop from l) ∷ behind sep k) (drop-drop (length (before sep (drop from l))) from l))
+
+module _ (sep : ℕ) where
+  pub count-append : (k l : List ℕ) → count sep (k ++ l) ≡ count sep k + count sep l
+  unfolding count
+  count-append [] l = omega arith
+  count-append (b ∷ k) l = by (eqb b sep) (count-append k l)
+    where
+      by : (t : Bool) → count sep (k ++ l) ≡ count sep k + count sep l → cond t (suc (count sep (k ++ l))) (count sep (k ++ l)) ≡ cond t (suc (count sep k)) (count sep k) + count sep l
+      by true h = omega arith
+      by false h = h
+
+  -- the first part has no separator, and where it ends before the text does, one stands there
+  pub before-plain : (l : List ℕ) → count sep (before sep l) ≡ 0
+  unfolding before count
+  before-plain [] = refl
+  before-plain (b ∷ l) = by (eqb b sep) refl (before-plain l)
+    where
+      by : (t : Bool) → eqb b sep ≡ t → count sep (before sep l) ≡ 0 → count sep (cond t [] (b ∷ before sep l)) ≡ 0
+      by true e h = refl
+      by false e h = rw e h
+
+  before-at : (l : List ℕ) → length (before sep l) < length l → getD l (length (before sep l)) 0 ≡ sep
+  unfolding before
+  before-at [] h = absurd (omega arith)
+  before-at (b ∷ l) h = by (eqb b sep) refl (before-at l) h
+    where
+      by : (t : Bool) → eqb b sep ≡ t → (length (before sep l) < length l → getD l (length (before sep l)) 0 ≡ sep)
+          → length (cond t [] (b ∷ before sep l)) < suc (length l) → getD (b ∷ l) (length (cond t [] (b ∷ before sep l))) 0 ≡ sep
+      by true e f h = eqb-true b sep e
+      by false e f h = f (omega arith)
+
+  pub end-at : (l : List ℕ) (from : ℕ) → from ≤ length l → endOf sep l from < length l → getD l (endOf sep l from) 0 ≡ sep
+  end-at l from w h =
+      sym (getD-drop from l (length (before sep (drop from l))) 0) ∙ before-at (drop from l) (omega (arith, length-drop from l))
+
+  -- a text without a separator is one part
+  pub parted-plain : (l : List ℕ) → count sep l ≡ 0 → parted sep l ≡ l ∷ []
+  unfolding parted count
+  parted-plain [] h = refl
+  parted-plain (b ∷ l) h = by (eqb b sep) (parted-plain l) h
+    where
+      by : (t : Bool) → (count sep l ≡ 0 → parted sep l ≡ l ∷ []) → cond t (suc (count sep l)) (count sep l) ≡ 0 → cond t ([] ∷ parted sep l) (onto b (parted sep l)) ≡ (b ∷ l) ∷ []
+      by true f k = absurd (omega arith)
+      by false f k = ap (onto b) (f k)
+
+  -- the parts and the separators between them make up the text
+  unfoldable pub total : List (List ℕ) → ℕ
+  total [] = 0
+  total (p ∷ ps) = suc (length p + total ps)
+
+  pub parted-total : (l : List ℕ) → total (parted sep l) ≡ suc (length l)
+  unfolding parted total
+  parted-total [] = refl
+  parted-total (b ∷ l) = by (eqb b sep) (parted sep l) (parted-total l)
+    where
+      by : (t : Bool) (ps : List (List ℕ)) → total ps ≡ suc (length l) → total (cond t ([] ∷ ps) (onto b ps)) ≡ suc (suc (length l))
+      by true ps h = omega arith
+      by false [] h = absurd (omega arith)
+      by false (p ∷ ps) h = omega arith

@@ -34,6 +34,17 @@ spelt-short (suc k) n = by (ltb n 10) (spelt-short k (n / 10))
     by true h = omega arith
     by false h = simp length-append (omega arith)
 
+-- below 10 ^ (w + 1) there are at most w + 1 digits
+pub spelt-most : (w k n : ℕ) → n < 10 ^ suc w → length (spelt k n) ≤ suc w
+unfolding spelt
+spelt-most w zero n high = omega arith
+spelt-most zero (suc k) n high = let e = ap length (one-digit k n (omega arith)) in omega arith
+spelt-most (suc w) (suc k) n high = by (ltb n 10) (spelt-most w k (n / 10) (let q = pow-suc 10 (suc w) in omega arith))
+  where
+    by : (t : Bool) → length (spelt k (n / 10)) ≤ suc w → length (cond t ((48 + n) ∷ []) (spelt k (n / 10) ++ ((48 + n % 10) ∷ []))) ≤ suc (suc w)
+    by true h = omega arith
+    by false h = simp length-append (omega arith)
+
 -- from 10 ^ w up to 10 ^ (w + 1) there are w + 1 digits; below 10 there is one
 pub spelt-length : (w k n : ℕ) → w < k → (0 < w → 10 ^ w ≤ n) → n < 10 ^ suc w → length (spelt k n) ≡ suc w
 spelt-length w zero n room low high = absurd (omega arith)
@@ -171,3 +182,11 @@ below-zero (pos n) u f e h = absurd (omega (arith, f .sfits))
 below-zero (negsuc n) u f e h =
     let m : 4294967296 - u ≡ suc n = omega (arith, f .sfits) in
     ap (λ (k : ℕ). 45 ∷ decimalOf k) m
+
+-- a number of 32 bits has at most 10 digits, and with its sign at most 11 bytes
+pub decimal-most : (n : ℕ) → n < 2 ^ 32 → length (decimalOf n) ≤ 10
+decimal-most n h = spelt-most 9 20 n (omega arith)
+
+pub signed-most : (v : ℤ) → SFits w32 v → length (signedOf v) ≤ 11
+signed-most (pos n) f = omega (arith, decimal-most n (omega (arith, f .sfits)))
+signed-most (negsuc n) f = omega (arith, decimal-most (suc n) (omega (arith, f .sfits)))

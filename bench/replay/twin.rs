@@ -1,0 +1,224 @@
+// A plain Rust twin of the replay program: the same language, parsed by hand, one pass over each line.
+// It is what bench.py holds the proved program's cost against.
+use std::io::{Read, Write};
+
+struct Cic {
+    order: usize,
+    delay: usize,
+    rate: u32,
+    countdown: u32,
+    unsettled: usize,
+    integrators: [i32; 8],
+    combs: [[i32; 8]; 8],
+}
+
+impl Cic {
+    fn new(order: u32, delay: u32, rate: u32) -> Result<Cic, u32> {
+        if order > 8 {
+            return Err(10);
+        }
+        if delay == 0 || delay > 8 {
+            return Err(11);
+        }
+        if rate > 65535 {
+            return Err(12);
+        }
+        Ok(Cic {
+            order: order as usize,
+            delay: delay as usize,
+            rate,
+            countdown: 0,
+            unsettled: 0,
+            integrators: [0; 8],
+            combs: [[0; 8]; 8],
+        })
+    }
+
+    fn set_rate(&mut self, rate: u32) -> Result<(), u32> {
+        if rate > 65535 {
+            return Err(12);
+        }
+        self.rate = rate;
+        self.unsettled = self.order * self.delay;
+        Ok(())
+    }
+
+    fn clear(&mut self) {
+        self.countdown = 0;
+        self.unsettled = 0;
+        self.integrators = [0; 8];
+        self.combs = [[0; 8]; 8];
+    }
+
+    fn decimate(&mut self, x: i32) -> Option<(i32, bool)> {
+        let mut acc = x;
+        for cell in self.integrators[..self.order].iter_mut() {
+            *cell = cell.wrapping_add(acc);
+            acc = *cell;
+        }
+        if self.countdown > 0 {
+            self.countdown -= 1;
+            return None;
+        }
+        self.countdown = self.rate;
+        for line in self.combs[..self.order].iter_mut() {
+            let oldest = line[0];
+            line.copy_within(1..self.delay, 0);
+            line[self.delay - 1] = acc;
+            acc = acc.wrapping_sub(oldest);
+        }
+        let settled = self.unsettled == 0;
+        self.unsettled = self.unsettled.saturating_sub(1);
+        Some((acc, settled))
+    }
+}
+
+fn digits(field: &[u8]) -> Option<u64> {
+    if field.is_empty() || (field[0] == b'0' && field.len() > 1) {
+        return None;
+    }
+    let mut v: u64 = 0;
+    for &b in field {
+        if !b.is_ascii_digit() {
+            return None;
+        }
+        v = v.saturating_mul(10).saturating_add((b - b'0') as u64);
+    }
+    Some(v)
+}
+
+fn natural(field: &[u8]) -> Option<u32> {
+    u32::try_from(digits(field)?).ok()
+}
+
+fn integer(field: &[u8]) -> Option<i32> {
+    if field.first() == Some(&b'-') {
+        let v = digits(&field[1..])?;
+        if v == 0 || v > 2147483648 {
+            return None;
+        }
+        return Some((v as u32).wrapping_neg() as i32);
+    }
+    i32::try_from(digits(field)?).ok()
+}
+
+fn put_decimal(out: &mut Vec<u8>, n: u64) {
+    let mut text = [0u8; 20];
+    let mut i = 20;
+    let mut left = n;
+    loop {
+        i -= 1;
+        text[i] = b'0' + (left % 10) as u8;
+        left /= 10;
+        if left == 0 {
+            break;
+        }
+    }
+    out.extend_from_slice(&text[i..]);
+}
+
+fn put_output(out: &mut Vec<u8>, value: i32, settled: bool) {
+    out.extend_from_slice(b"y\t");
+    if value < 0 {
+        out.push(b'-');
+    }
+    put_decimal(out, value.unsigned_abs() as u64);
+    out.extend_from_slice(if settled { b"\t1\n" } else { b"\t0\n" });
+}
+
+struct Replay {
+    filter: Option<Cic>,
+    outputs: u64,
+}
+
+impl Replay {
+    fn line(&mut self, line: &[u8], out: &mut Vec<u8>) -> Result<(), u32> {
+        if line.len() > 64 {
+            return Err(72);
+        }
+        let mut fields = line.split(|&b| b == b'\t');
+        let name = fields.next().unwrap_or(b"");
+        match name {
+            b"x" => {
+                let (Some(v), None) = (fields.next(), fields.next()) else { return Err(70) };
+                let v = integer(v).ok_or(70u32)?;
+                let filter = self.filter.as_mut().ok_or(71u32)?;
+                if let Some((value, settled)) = filter.decimate(v) {
+                    self.outputs += 1;
+                    put_output(out, value, settled);
+                }
+            }
+            b"rate" => {
+                let (Some(r), None) = (fields.next(), fields.next()) else { return Err(70) };
+                let r = natural(r).ok_or(70u32)?;
+                self.filter.as_mut().ok_or(71u32)?.set_rate(r)?;
+            }
+            b"cic" => {
+                let (Some(n), Some(m), Some(r), None) = (fields.next(), fields.next(), fields.next(), fields.next()) else { return Err(70) };
+                let (n, m, r) = (natural(n).ok_or(70u32)?, natural(m).ok_or(70u32)?, natural(r).ok_or(70u32)?);
+                if self.filter.is_some() {
+                    return Err(71);
+                }
+                self.filter = Some(Cic::new(n, m, r)?);
+            }
+            b"clear" => {
+                if fields.next().is_some() {
+                    return Err(70);
+                }
+                self.filter.as_mut().ok_or(71u32)?.clear();
+            }
+            _ => return Err(70),
+        }
+        Ok(())
+    }
+}
+
+fn bad(out: &mut Vec<u8>, line: u64, number: u32) {
+    out.extend_from_slice(b"bad\t");
+    put_decimal(out, line);
+    out.push(b'\t');
+    put_decimal(out, number as u64);
+    out.push(b'\n');
+}
+
+fn main() -> std::io::Result<()> {
+    let mut input = std::io::stdin().lock();
+    let mut output = std::io::stdout().lock();
+    let mut buffer = vec![0u8; 65536];
+    let mut held = 0;
+    let mut out = Vec::with_capacity(1 << 18);
+    let mut replay = Replay { filter: None, outputs: 0 };
+    let mut lines = 0u64;
+    loop {
+        let got = input.read(&mut buffer[held..])?;
+        if got == 0 {
+            break;
+        }
+        let end = held + got;
+        let mut from = 0;
+        while let Some(n) = buffer[from..end].iter().position(|&b| b == b'\n') {
+            lines += 1;
+            if let Err(number) = replay.line(&buffer[from..from + n], &mut out) {
+                bad(&mut out, lines, number);
+                return output.write_all(&out);
+            }
+            from += n + 1;
+        }
+        if end - from > 64 {
+            bad(&mut out, lines + 1, 72);
+            return output.write_all(&out);
+        }
+        buffer.copy_within(from..end, 0);
+        held = end - from;
+        output.write_all(&out)?;
+        out.clear();
+    }
+    if held > 0 {
+        bad(&mut out, lines + 1, 70);
+    } else {
+        out.extend_from_slice(b"end\t");
+        put_decimal(&mut out, replay.outputs);
+        out.push(b'\n');
+    }
+    output.write_all(&out)
+}

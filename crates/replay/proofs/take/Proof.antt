@@ -1,0 +1,24 @@
+use mathlib.Core.Path.{ap}
+use native.Mathlib.Omega.{arith}
+use borrow.Author.Needs.{needs}
+use Rattle.records.specs.Places.{placeOf, bytesOf, feedNumber}
+use Rattle.records.specs.declared.driver.Fed.{Fed}
+use Rattle.records.proofs.Feeding.{count-fits, feed-takes}
+use Rattle.replay.proofs.take.Statement.{statement}
+use Rattle.replay.proofs.take.Tie as tie
+
+feed-requires : tie.Need-feed-requires
+feed-requires c κs = search needs
+
+same-length : tie.Need-same-length
+same-length c = search needs
+
+returns : tie.Need-returns
+returns c =
+    let a = c .before .before .before .before .before .before .args in
+    let f = c .before .before .feed in
+    let t = feed-takes (a .r) (a .part .now) (a .out .now) (f .result) (omega (arith, c .before .before .before .before .before .before .pre .0, c .before .before .before .before .before .before .pre .1)) (f .ensures .0) in
+    (t .0, t .1, count-fits (feedNumber (a .part .now) (a .out .now)) (bytesOf (placeOf (a .r)) (a .part .now)) (a .out .now) (f .last .1 .1 .0) (f .result .wrote) (ap (λ (x : Fed). x .wrote) (f .ensures .0)) (f .ensures .1))
+
+pub take-spec : {M : Type 1} → statement M
+take-spec = tie.close (tie.spec feed-requires same-length returns)
