@@ -1,0 +1,118 @@
+"""The replay program in plain Python, written from document 01 alone: a model to hold the proved program against.
+
+replay(input) takes and gives bytes.
+"""
+WORD = 1 << 32
+
+
+def signed(n):
+    n %= WORD
+    return n - WORD if n >= WORD // 2 else n
+
+
+class Refused(Exception):
+    pass
+
+
+class Cic:
+    """The decimator: N integrators, N delay lines of M cells, the oldest first."""
+
+    def __init__(self, order, delay, rate):
+        if order > 8:
+            raise Refused(10)
+        if not 1 <= delay <= 8:
+            raise Refused(11)
+        if rate > 65535:
+            raise Refused(12)
+        self.order, self.delay, self.rate = order, delay, rate
+        self.clear()
+
+    def clear(self):
+        self.sums = [0] * self.order
+        self.lines = [[0] * self.delay for _ in range(self.order)]
+        self.countdown = self.unsettled = 0
+
+    def set_rate(self, rate):
+        if rate > 65535:
+            raise Refused(12)
+        self.rate = rate
+        self.unsettled = self.order * self.delay
+
+    def step(self, x):
+        for i in range(self.order):
+            x = self.sums[i] = signed(self.sums[i] + x)
+        if self.countdown > 0:
+            self.countdown -= 1
+            return None
+        self.countdown = self.rate
+        for line in self.lines:
+            line.append(x)
+            x = signed(x - line.pop(0))
+        settled = self.unsettled == 0
+        self.unsettled = max(0, self.unsettled - 1)
+        return x, settled
+
+
+def number(field, low, high):
+    """Decimal, no plus, no leading zero, no -0, within low..high; else 70."""
+    digits = field[1:] if field[:1] == b"-" else field
+    if not digits or any(b not in b"0123456789" for b in digits):
+        raise Refused(70)
+    if digits[:1] == b"0" and (len(digits) > 1 or field != digits):
+        raise Refused(70)
+    if not low <= int(field) <= high:
+        raise Refused(70)
+    return int(field)
+
+
+def natural(field):
+    return number(field, 0, WORD - 1)
+
+
+def record(line):
+    """A line's name and numbers; 70 where it is none."""
+    name, *fields = line.split(b"\t")
+    wanted = {b"cic": 3, b"rate": 1, b"x": 1, b"clear": 0}
+    if name not in wanted or len(fields) != wanted[name]:
+        raise Refused(70)
+    if name == b"x":
+        return name, [number(fields[0], -(WORD // 2), WORD // 2 - 1)]
+    return name, [natural(f) for f in fields]
+
+
+def taken(cic, line, out):
+    """What a line does: the filter after it. Its output goes to out."""
+    if len(line) > 64:
+        raise Refused(72)
+    name, numbers = record(line)
+    if (name == b"cic") == (cic is not None):
+        raise Refused(71)
+    if name == b"cic":
+        return Cic(*numbers)
+    if name == b"rate":
+        cic.set_rate(*numbers)
+    elif name == b"clear":
+        cic.clear()
+    else:
+        given = cic.step(*numbers)
+        if given is not None:
+            out.append(b"y\t%d\t%d\n" % (given[0], given[1]))
+    return cic
+
+
+def replay(data):
+    out = []
+    cic = None
+    *lines, last = data.split(b"\n")
+    number_of = 0
+    try:
+        for number_of, line in enumerate(lines, 1):
+            cic = taken(cic, line, out)
+        if last:
+            number_of += 1
+            raise Refused(72 if len(last) > 64 else 70)
+    except Refused as refusal:
+        out.append(b"bad\t%d\t%d\n" % (number_of, refusal.args[0]))
+    else:
+        out.append(b"end\t%d\n" % len(out))
+    return b"".join(out)
