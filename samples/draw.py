@@ -1,60 +1,60 @@
 #!/usr/bin/env python3
-"""Draws what the replay program wrote: samples/run <samples/plug.in | samples/draw.py >plug.svg
+"""Draws what a replay gave out as a picture (SVG): the trace, unsettled outputs on a shaded ground, a refusal as a message.
 
-The trace is a line; outputs that are not to be believed stand on grey; a refusal is told in words.
+    samples/replay < samples/pulled_plug.txt | python3 samples/draw.py > plug.svg
 """
-import html
 import sys
 
-WIDTH, HEIGHT, EDGE = 960, 320, 40
+WIDTH, HEIGHT, EDGE = 900, 320, 46
 
 
-def parse(lines):
-    """The outputs (value, settled) and what the last line says."""
-    outputs, said = [], "the output is cut off: no end, no refusal"
-    for line in lines:
-        name, *fields = line.rstrip("\n").split("\t")
-        if name == "y":
-            outputs.append((int(fields[0]), fields[1] == "1"))
-        elif name == "bad":
-            said = "line %s refused with %s after %d outputs" % (fields[0], fields[1], len(outputs))
-        elif name == "end":
-            said = "whole: %s outputs" % fields[0]
-    return outputs, said
+def read(text):
+    """The outputs as (value, settled), and the last line's message."""
+    outputs, message = [], "cut short: neither `end` nor `bad`"
+    for line in text.split("\n"):
+        fields = line.split("\t")
+        if fields[0] == "y":
+            outputs.append((int(fields[1]), fields[2] == "1"))
+        elif fields[0] == "bad":
+            message = "refused: line %s, number %s" % (fields[1], fields[2])
+        elif fields[0] == "end":
+            message = "%s outputs" % fields[1]
+    return outputs, message
 
 
-def stretches(outputs):
-    """From and to of each run of unsettled outputs."""
-    runs = []
+def scales(values):
+    """Functions from an output's place and value to a point of the picture."""
+    low, high = (min(values), max(values)) if values else (0, 1)
+    span = high - low or 1
+    step = (WIDTH - 2 * EDGE) / max(1, len(values))
+    return (lambda i: EDGE + step * (i + 0.5)), (lambda v: HEIGHT - EDGE - (HEIGHT - 2 * EDGE) * (v - low) / span), step, low, high
+
+
+def text(x, y, words, anchor="start", size=13):
+    return '<text x="%.1f" y="%.1f" font-family="sans-serif" font-size="%d" text-anchor="%s">%s</text>' % (x, y, size, anchor, words)
+
+
+def draw(outputs, message):
+    at, level, step, low, high = scales([v for v, _ in outputs])
+    parts = ['<svg xmlns="http://www.w3.org/2000/svg" width="%d" height="%d">' % (WIDTH, HEIGHT)]
+    parts.append('<rect width="%d" height="%d" fill="white"/>' % (WIDTH, HEIGHT))
     for i, (_, settled) in enumerate(outputs):
-        if settled:
-            continue
-        if runs and runs[-1][1] == i:
-            runs[-1][1] = i + 1
-        else:
-            runs.append([i, i + 1])
-    return runs
-
-
-def drawing(outputs, said):
-    values = [v for v, _ in outputs] or [0]
-    low, high = min(values), max(values)
-    across = (WIDTH - 2 * EDGE) / max(len(outputs), 1)
-    up = (HEIGHT - 2 * EDGE) / max(high - low, 1)
-    x = lambda i: EDGE + i * across
-    y = lambda v: HEIGHT - EDGE - (v - low) * up
-    yield '<svg xmlns="http://www.w3.org/2000/svg" width="%d" height="%d" font-family="sans-serif" font-size="12">' % (WIDTH, HEIGHT)
-    yield '<rect width="100%" height="100%" fill="white"/>'
-    for a, b in stretches(outputs):
-        yield '<rect x="%.2f" y="%d" width="%.2f" height="%d" fill="#ccc"/>' % (x(a), EDGE, x(b) - x(a), HEIGHT - 2 * EDGE)
-        yield '<text x="%.2f" y="%d">not settled: outputs %d to %d</text>' % (x(a), EDGE - 6, a + 1, b)
-    points = " ".join("%.2f,%.2f" % (x(i + 0.5), y(v)) for i, (v, _) in enumerate(outputs))
-    yield '<polyline points="%s" fill="none" stroke="#036" stroke-width="1"/>' % points
-    yield '<text x="4" y="%d">%d</text><text x="4" y="%d">%d</text>' % (EDGE, high, HEIGHT - EDGE, low)
-    color = "#036" if said.startswith("whole") else "#c00"
-    yield '<text x="%d" y="%d" fill="%s">%s</text>' % (EDGE, HEIGHT - 12, color, html.escape(said))
-    yield "</svg>"
+        if not settled:
+            parts.append(
+                '<rect x="%.1f" y="%d" width="%.1f" height="%d" fill="#f3c9a5"/>' % (at(i) - step / 2, EDGE, step, HEIGHT - 2 * EDGE)
+            )
+    parts.append('<rect x="%d" y="%d" width="%d" height="%d" fill="none" stroke="#888"/>' % (EDGE, EDGE, WIDTH - 2 * EDGE, HEIGHT - 2 * EDGE))
+    if outputs:
+        points = " ".join("%.1f,%.1f" % (at(i), level(v)) for i, (v, _) in enumerate(outputs))
+        parts.append('<polyline points="%s" fill="none" stroke="#1f4e79" stroke-width="1.4"/>' % points)
+        parts.append(text(EDGE, EDGE - 6, str(high), size=11))
+        parts.append(text(EDGE, HEIGHT - EDGE + 14, str(low), size=11))
+    unsettled = sum(not settled for _, settled in outputs)
+    parts.append(text(WIDTH - EDGE, HEIGHT - 12, message, "end"))
+    if unsettled:
+        parts.append(text(WIDTH - EDGE, EDGE - 6, "shaded: %d outputs not to be believed" % unsettled, "end", 11))
+    return "\n".join(parts + ["</svg>", ""])
 
 
 if __name__ == "__main__":
-    print("\n".join(drawing(*parse(sys.stdin))))
+    sys.stdout.write(draw(*read(sys.stdin.read())))

@@ -1,95 +1,134 @@
 #!/usr/bin/env python3
-"""Holds the program to model.py: samples/fuzz.py [COUNT [SEED [slow]]]
+"""Holds the replay program against model.py on generated inputs, good and damaged: read whole, in random parts, byte by byte.
 
-Each input is drawn, perhaps damaged, and written to the program in parts cut at random; with `slow` one byte at a time.
+    python3 samples/fuzz.py [COUNT] [PROGRAM]     (20000 inputs; samples/replay)
+
+A pipe in packet mode gives each write to one read, so the cuts are where they are drawn. Tests of a live pipe, and of a read and
+a write that fail, come first.
 """
-import fcntl
 import os
-import pathlib
 import random
 import subprocess
 import sys
-import termios
 
 from model import replay
 
-RUN = pathlib.Path(__file__).parent / "run"
-PROGRAM = subprocess.check_output([RUN, "--command"], text=True).splitlines()
-EDGES = [0, 1, 7, 8, 9, 63, 65535, 65536, 2**31 - 1, 2**31, 2**32 - 1, 2**32, 2**63, 2**64]
-STRANGE = [b"", b"\t", b"\r", b" ", b"\0", b"+", b"-", b"0", b"x", b"-0", b"\n", b"\n\n", b"\xff", b"9" * 60]
+HERE = os.path.dirname(os.path.abspath(__file__))
+EDGES = [0, 1, 2, 9, 10, 2**31 - 1, 2**31, 2**32 - 1, 2**32, 2**63, 2**64, 65535, 65536]
 
 
-def natural(draw):
-    return draw.choice(EDGES) if draw.random() < 0.05 else draw.choice([0, 1, 2, 3, 5])
+def number(rng):
+    kind = rng.random()
+    if kind < 0.75:
+        return str(rng.randint(-(2 ** rng.randint(0, 31)), 2 ** rng.randint(0, 31) - 1))
+    if kind < 0.97:
+        return str(rng.choice([1, 1, -1]) * rng.choice(EDGES) + rng.choice([0, 0, 1, -1]))
+    return rng.choice(["", "-", "+1", "01", "-0", "00", "1e3", " 1", "1 ", "0x1", "9" * rng.randint(1, 60)])
 
 
-def sample(draw):
-    return draw.choice([1, -1]) * draw.choice(EDGES) if draw.random() < 0.03 else draw.randint(-(2**31), 2**31 - 1)
+def line(rng):
+    kind = rng.random()
+    if kind < 0.86:
+        return "x\t" + str(rng.randint(-(2 ** rng.randint(0, 31)), 2 ** rng.randint(0, 31) - 1))
+    if kind < 0.90:
+        return "rate\t%d" % rng.choice([0, 0, 1, 2, 3, 7, rng.randint(0, 70000)])
+    if kind < 0.92:
+        return "clear"
+    if kind < 0.97:
+        return "x\t" + number(rng)
+    fields = [number(rng) for _ in range(rng.randint(0, 4))]
+    return "\t".join([rng.choice(["cic", "rate", "x", "clear", "", "X", "cicc"])] + fields)
 
 
-def line(draw):
-    kind = draw.random()
-    if kind < 0.02:
-        return b"clear"
-    if kind < 0.06:
-        return b"rate\t%d" % natural(draw)
-    if kind < 0.07:
-        return b"cic\t1\t1\t1"
-    return b"x\t%d" % sample(draw)
+def damaged(rng, data):
+    """A byte changed, put in or taken out, a stretch repeated, or the end cut off."""
+    at = rng.randint(0, len(data))
+    byte = bytes([rng.choice([0, 9, 10, 13, 32, 43, 45, 48, 49, 120, 255, rng.randint(0, 255)])])
+    return rng.choice([
+        data[:at] + byte + data[at + 1:],
+        data[:at] + byte + data[at:],
+        data[:at] + data[at + 1:],
+        data[:at] + byte * rng.randint(2, 80) + data[at:],
+        data[:at],
+    ])
 
 
-def drawn(draw):
-    """A recording; a third of them damaged at a place or two."""
-    lines = [b"cic\t%d\t%d\t%d" % (draw.randint(0, 8), draw.randint(1, 8), natural(draw))]
-    lines += [line(draw) for _ in range(draw.randint(0, 60))]
-    data = b"\n".join(lines) + b"\n"
-    for _ in range(draw.choice([0, 0, 0, 0, 1, 2])):
-        at = draw.randint(0, len(data))
-        data = data[:at] + draw.choice(STRANGE) + data[at + draw.randint(0, 2) :]
+def generated(rng):
+    order, delay = rng.choice([0, 1, 1, 2, 3, 3, 5, 8, 9]), rng.choice([1, 1, 1, 2, 3, 8, 0])
+    head = ["cic\t%d\t%d\t%d" % (order, delay, rng.choice([0, 0, 1, 2, 3, 15, 63]))] if rng.random() < 0.95 else []
+    lines = head + [line(rng) for _ in range(rng.choice([0, 1, 3, 10, 40, 200]))]
+    data = "".join(l + "\n" for l in lines).encode()
+    for _ in range(rng.choice([0, 0, 0, 0, 0, 1, 1, 2])):
+        data = damaged(rng, data)
     return data
 
 
-def cuts(draw, data, slow):
-    places = range(1, len(data)) if slow else sorted(draw.sample(range(len(data) + 1), min(3, len(data))))
-    edges = [0, *places, len(data)]
-    return [data[a:b] for a, b in zip(edges, edges[1:]) if a < b]
+def cuts(rng, data):
+    """The parts in which the program is to read the data."""
+    kind = rng.random()
+    if kind < 0.4:
+        return None
+    if kind < 0.6:
+        return [data[i:i + 1] for i in range(len(data))]
+    parts, at = [], 0
+    while at < len(data):
+        size = rng.choice([1, 2, 5, 64, 65, 66, 500, 4000])
+        parts.append(data[at:at + size])
+        at += size
+    return parts
 
 
-def waiting(pipe):
-    """How many bytes of a pipe have not been read."""
-    return int.from_bytes(fcntl.ioctl(pipe, termios.FIONREAD, bytes(4)), sys.byteorder)
-
-
-def fed(parts):
-    """What the program writes. Each part is written once the one before it has been read, so that a read brings one part."""
-    program = subprocess.Popen(PROGRAM, stdin=subprocess.PIPE, stdout=subprocess.PIPE)
-    pipe = program.stdin.fileno()
+def answered(program, data, parts):
+    if parts is None:
+        return subprocess.run([program], input=data, stdout=subprocess.PIPE).stdout
+    into, out_of = os.pipe2(os.O_DIRECT | os.O_CLOEXEC)
+    run = subprocess.Popen([program], stdin=into, stdout=subprocess.PIPE)
+    os.close(into)
     try:
         for part in parts:
-            while waiting(pipe) and program.poll() is None:
-                os.sched_yield()
-            os.write(pipe, part)
+            os.write(out_of, part)
     except BrokenPipeError:
         pass
-    program.stdin.close()
-    out = program.stdout.read()
-    program.wait()
-    return out
+    os.close(out_of)
+    return run.communicate()[0]
 
 
-def main(count=20000, seed=1, slow=""):
-    draw = random.Random(int(seed))
-    differ = refused = 0
-    for i in range(int(count)):
-        data = drawn(draw)
-        want, got = replay(data), fed(cuts(draw, data, slow == "slow"))
-        refused += want.startswith(b"bad") or b"\nbad" in want
+def live(program):
+    """What has been answered is there before more is asked for; a line is refused at its 65th byte, the pipe still open."""
+    run = subprocess.Popen([program], stdin=subprocess.PIPE, stdout=subprocess.PIPE, bufsize=0)
+    run.stdin.write(b"cic\t0\t1\t0\nx\t5\nx")
+    assert run.stdout.readline() == b"y\t5\t1\n"
+    run.stdin.write(b"\t6\n")
+    assert run.stdout.readline() == b"y\t6\t1\n"
+    run.stdin.write(b"a" * 65)
+    assert run.stdout.readline() == b"bad\t4\t72\n" and run.wait() == 0
+    run.stdin.close()
+    run.stdout.close()
+    run = subprocess.Popen([program], stdin=subprocess.DEVNULL, stdout=subprocess.PIPE, preexec_fn=lambda: os.close(0))
+    assert run.communicate()[0] == b"", "a failed read must give no `end`"
+    with open("/dev/full", "wb") as full:
+        run = subprocess.Popen([program], stdin=subprocess.PIPE, stdout=full, bufsize=0)
+        run.stdin.write(b"cic\t0\t1\t0\nx\t5\n")
+        assert run.wait(timeout=60) == 0, "a failed write must stop the program"
+        run.stdin.close()
+
+
+def main(count, program):
+    live(program)
+    rng = random.Random(2026)
+    kinds = {b"end": 0, b"bad": 0}
+    for i in range(count):
+        data = generated(rng)
+        parts = cuts(rng, data)
+        want, got = replay(data), answered(program, data, parts)
         if want != got:
-            differ += 1
-            print("input %d differs: %r" % (i, data), file=sys.stderr)
-    print("%s inputs, %d of them refused somewhere, %d differ" % (count, refused, differ))
-    return differ > 0
+            print("input %d differs: %r in %s parts\nwant %r\ngot  %r" % (i, data, parts and len(parts), want[-200:], got[-200:]))
+            return 1
+        kinds[want.split(b"\n")[-2][:3]] += 1
+    print("%d inputs, %d to the end and %d refused: 0 differ" % (count, kinds[b"end"], kinds[b"bad"]))
+    return 0
 
 
 if __name__ == "__main__":
-    sys.exit(main(*sys.argv[1:]))
+    words = sys.argv[1:]
+    sys.exit(main(int(words[0]) if words else 20000, words[1] if len(words) > 1 else os.path.join(HERE, "replay")))

@@ -1,44 +1,68 @@
 #!/usr/bin/env python3
-"""Writes the recordings NAME.in and, by model.py, what each must give, NAME.out. Whole numbers alone: every machine writes the same."""
-import pathlib
+"""Makes the recordings of this folder and what each must give, and what the gate runs the replay program on.
+
+    python3 samples/make.py
+
+A sample is the number of encoder counts since the sample before, less 1500. The shaft turns once in 640 samples, at 1500.37
+counts a sample. What a recording must give is worked out by model.py.
+"""
+import math
+import os
 
 from model import replay
 
-HERE = pathlib.Path(__file__).parent
-# The first quarter of a sine of 64 steps, 1000 high.
-QUARTER = [0, 98, 195, 290, 383, 471, 556, 634, 707, 773, 831, 882, 924, 957, 981, 995, 1000]
+HERE = os.path.dirname(os.path.abspath(__file__))
+TURN = 640
+MEAN = 0.37
+ORDERS = [(1.5, 120.0), (4.0, 45.0)]
 
 
-def sine(step):
-    step %= 64
-    half = step % 32
-    height = QUARTER[half] if half <= 16 else QUARTER[32 - half]
-    return height if step < 32 else -height
+def counts(start, stop, orders):
+    """Whole numbers whose sum follows the shaft: each sample is the difference of two rounded positions."""
+
+    def position(k):
+        swing = sum(a * math.sin(2 * math.pi * o * k / TURN) * TURN / (2 * math.pi * o) for o, a in orders)
+        return math.floor(MEAN * k + swing + 0.5)
+
+    return [position(k + 1) - position(k) for k in range(start, stop)]
 
 
-def recording(opening, samples):
-    return opening + "".join("x\t%d\n" % v if isinstance(v, int) else v for v in samples)
+def lines(samples):
+    return ["x\t%d" % v for v in samples]
 
 
 def steady():
-    """A steady shaft: the encoder's step hardly moves."""
-    return recording("cic\t3\t1\t15\n", [1200 + (i * 7) % 3 - 1 for i in range(2048)])
+    """An even shaft, decimated by 64."""
+    return ["cic\t3\t1\t63"] + lines(counts(0, 2560, []))
 
 
-def vibration():
-    """Torsional vibration at orders 2 and 5 of a turn of 256 samples, over the shaft's own step."""
-    return recording("cic\t2\t2\t7\n", [1200 + sine(i // 2) // 4 + sine(5 * i // 4) // 10 for i in range(2048)])
+def torsion():
+    """Torsional vibration at orders 1.5 and 4, decimated by 16."""
+    return ["cic\t3\t1\t15"] + lines(counts(0, 2 * TURN, ORDERS))
 
 
-def plug():
-    """The plug is pulled at sample 600: samples freeze. Pushed back at 900 they jump, and the operator's `rate` follows."""
-    whole = [1200 + sine(i // 2) // 4 for i in range(1800)]
-    frozen = [whole[599]] * 300
-    jump = [40000, -38000]
-    return recording("cic\t3\t2\t7\n", whole[:600] + frozen + jump + ["rate\t7\n"] + whole[902:])
+def pulled_plug():
+    """The plug is pulled for a quarter turn: the samples freeze, and jump when it is pushed back. The operator's `rate` record
+    follows; the next N·M = 6 outputs are marked 0, and after them the trace may be believed again."""
+    before = counts(0, TURN, ORDERS)
+    frozen = [before[-1]] * 160
+    after = counts(TURN + 160, 2 * TURN, ORDERS)
+    jump = after[0] + sum(counts(TURN, TURN + 160, ORDERS)) - sum(frozen)
+    return ["cic\t3\t2\t15"] + lines(before + frozen + [jump] + after[1:9]) + ["rate\t15"] + lines(after[9:])
 
 
-for name, text in [("steady", steady()), ("vibration", vibration()), ("plug", plug())]:
-    data = text.encode()
-    (HERE / (name + ".in")).write_bytes(data)
-    (HERE / (name + ".out")).write_bytes(replay(data))
+def main():
+    for name, record in [("steady", steady), ("torsion", torsion), ("pulled_plug", pulled_plug)]:
+        recording = ("\n".join(record()) + "\n").encode()
+        answer = replay(recording)
+        paths = [(os.path.join(HERE, name + ".txt"), recording), (os.path.join(HERE, name + ".out"), answer)]
+        if name == "pulled_plug":
+            crate = os.path.join(HERE, "..", "crates", "replay")
+            paths += [(os.path.join(crate, "stdin"), recording), (os.path.join(crate, "stdout"), answer)]
+        for path, data in paths:
+            with open(path, "wb") as out:
+                out.write(data)
+
+
+if __name__ == "__main__":
+    main()

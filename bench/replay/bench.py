@@ -1,0 +1,131 @@
+#!/usr/bin/env python3
+"""What the proved replay program costs beside a plain Rust twin (twin.rs): bytes a second, instructions a byte, memory.
+
+    rt check replay && python3 bench/replay/bench.py
+
+Wants rustc, and valgrind for the instructions. Programs are compiled for x86-64. On another processor the time under an emulator
+says nothing, so the program is lowered again, its LLVM module compiled for this processor by the toolchain's own clang at -O3,
+and both programs run natively: the same module, the same compiler, the same flags, another back end.
+"""
+import os
+import platform
+import random
+import resource
+import shutil
+import subprocess
+import sys
+import tempfile
+
+HERE = os.path.dirname(os.path.abspath(__file__))
+ROOT = os.path.dirname(os.path.dirname(HERE))
+LIBRARIES = ["records", "text", "words", "blocks", "sums", "cic"]
+KIT_LIBRARIES = ["std", "check", "io", "libc"]
+WRAPPER = """#!/bin/sh
+case " $* " in *" -O3 "*) cp module.bc "%s/module.bc" ;; esac
+exec "%s/bin/clang" "$@"
+"""
+
+
+def retargeted(work):
+    """The program compiled for this processor."""
+    kit = os.path.dirname(os.path.dirname(subprocess.check_output(["rt", "doc"], text=True).strip()))
+    own = os.path.join(kit, "on", platform.machine())
+    tools = os.path.join(own, "toolchain")
+    shadow = os.path.join(work, "toolchain")
+    os.makedirs(os.path.join(shadow, "bin"))
+    os.symlink(os.path.join(tools, "lib"), os.path.join(shadow, "lib"))
+    for name in os.listdir(os.path.join(tools, "bin")):
+        if name != "clang":
+            os.symlink(os.path.join(tools, "bin", name), os.path.join(shadow, "bin", name))
+    clang = os.path.join(shadow, "bin", "clang")
+    with open(clang, "w") as out:
+        out.write(WRAPPER % (work, tools))
+    os.chmod(clang, 0o755)
+    for name, text in [("stdin", ""), ("stdout", "end\t0\n")]:
+        with open(os.path.join(work, name), "w") as out:
+            out.write(text)
+    words = [os.path.join(own, "bin", "rattle-cases"), "--toolchain", shadow, "--stdin", os.path.join(work, "stdin"), "--stdout", os.path.join(work, "stdout")]
+    words += [os.path.join(ROOT, "crates", "replay", "src", "main.rt"), "--crate-name", "replay"]
+    for name in KIT_LIBRARIES:
+        words += ["--lib", "%s=%s" % (name, os.path.join(kit, "libs", name, "src", "lib.rt"))]
+    for name in LIBRARIES:
+        words += ["--lib", "%s=%s" % (name, os.path.join(ROOT, "crates", name, "src", "lib.rt"))]
+    subprocess.run(words, check=True, stdout=subprocess.DEVNULL)
+    target = ["--target=%s-unknown-linux-gnu" % platform.machine(), "-O3", "-Wno-override-module", "-fPIE"]
+    subprocess.run([os.path.join(tools, "bin", "clang")] + target + ["-x", "ir", os.path.join(work, "module.bc"), "-c", "-o", os.path.join(work, "replay.o")], check=True, stderr=subprocess.DEVNULL)
+    program = os.path.join(work, "replay")
+    subprocess.run(["cc", "-o", program, os.path.join(work, "replay.o")], check=True)
+    return program
+
+
+def recording(path, rate, size):
+    rng = random.Random(7)
+    with open(path, "w") as out:
+        written = out.write("cic\t3\t1\t%d\n" % rate)
+        while written < size:
+            block = []
+            for _ in range(20000):
+                reach = 1 << rng.randint(1, 31)
+                block.append("x\t%d\n" % rng.randint(-reach, reach - 1))
+            written += out.write("".join(block))
+    return os.path.getsize(path)
+
+
+def best(program, path):
+    """The shortest of seven runs, in seconds of processor time of the program itself."""
+    times = []
+    for _ in range(7):
+        with open(path, "rb") as recorded:
+            before = resource.getrusage(resource.RUSAGE_CHILDREN)
+            subprocess.run([program], stdin=recorded, stdout=subprocess.DEVNULL, check=True)
+            after = resource.getrusage(resource.RUSAGE_CHILDREN)
+        times.append(after.ru_utime + after.ru_stime - before.ru_utime - before.ru_stime)
+    return min(times)
+
+
+def instructions(program, path):
+    with open(path, "rb") as recorded:
+        words = ["valgrind", "--tool=callgrind", "--callgrind-out-file=/dev/null", program]
+        said = subprocess.run(words, stdin=recorded, stdout=subprocess.DEVNULL, stderr=subprocess.PIPE, text=True).stderr
+    return next((int(l.split(":")[1].split()[0].replace(",", "")) for l in said.split("\n") if "Collected" in l), 0)
+
+
+def memory(program, path):
+    """Peak resident memory in KB, once all of the recording is read."""
+    run = subprocess.Popen([program], stdin=subprocess.PIPE, stdout=subprocess.DEVNULL)
+    with open(path, "rb") as recorded:
+        shutil.copyfileobj(recorded, run.stdin)
+    run.stdin.flush()
+    with open("/proc/%d/status" % run.pid) as status:
+        peak = next(int(line.split()[1]) for line in status if line.startswith("VmHWM"))
+    run.communicate()
+    return peak
+
+
+def main():
+    work = tempfile.mkdtemp()
+    try:
+        proved = os.path.join(ROOT, "target", "bin", "replay") if platform.machine() == "x86_64" else retargeted(work)
+        twin = os.path.join(work, "twin")
+        subprocess.run(["rustc", "--edition", "2021", "-C", "opt-level=3", "-o", twin, os.path.join(HERE, "twin.rs")], check=True)
+        print("processor %s" % platform.machine())
+        for rate in [0, 63]:
+            path = os.path.join(work, "recording")
+            size = recording(path, rate, 20_000_000)
+            outputs = [subprocess.run([p], stdin=open(path, "rb"), stdout=subprocess.PIPE).stdout for p in [proved, twin]]
+            if outputs[0] != outputs[1]:
+                sys.exit("the two differ at rate %d" % rate)
+            fast = [best(p, path) for p in [proved, twin]]
+            print("rate %2d, %d bytes: proved %.0f MB/s, Rust %.0f MB/s, time %.2f of the Rust's" % (rate, size, size / fast[0] / 1e6, size / fast[1] / 1e6, fast[0] / fast[1]))
+            if shutil.which("valgrind"):
+                count = [instructions(p, path) for p in [proved, twin]]
+                print("         instructions a byte: proved %.1f, Rust %.1f, %.2f of the Rust's" % (count[0] / size, count[1] / size, count[0] / count[1]))
+            small = os.path.join(work, "small")
+            recording(small, rate, 2_000_000)
+            print("         peak memory of the proved program: %d KB on 2 MB, %d KB on 20 MB" % (memory(proved, small), memory(proved, path)))
+    finally:
+        shutil.rmtree(work)
+
+
+if __name__ == "__main__":
+    main()
