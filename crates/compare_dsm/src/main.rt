@@ -1,6 +1,6 @@
 // Runs the proved modulator over the Rust's stored answers (oracle/README.md, dsm) and prints what differs. The
-// crate's
-// output is i8, so that it gives -128 for the 128 of K = 8 (01, 'The modulator'): these are counted, not differing.
+// crate's output is i8, so that it gives -128 for the 128 of K = 8 (01, 'The modulator'): these are counted, not
+// differing.
 use blocks::Verdict;
 use cases::runs::digest;
 use cases::runs::draw;

@@ -7,5 +7,5 @@ pub mod Running
 pub mod Ways
 pub mod Balance
 pub mod Totals
-pub mod Bench
+pub mod Ends
 pub mod Settled

@@ -2,4 +2,4 @@ pub mod Modulator
 pub mod Calls
 pub mod Cells
 pub mod Totals
-pub mod Bench
+pub mod Ends

@@ -1,9 +1,7 @@
 // The delta-sigma modulator (01, 'The modulator'): of order K, 0 to 8, with outputs that average to the input / 2^32.
 // Port of the crate's dsm.rs, with outputs and retained values in i16, which holds the output 128 of K = 8.
 // Callers cite specs/Modulator (a step), specs/Calls (every call by its number, state and answer), specs/Totals
-// (what a run
-// takes in and gives out, proved in proofs/Totals) and specs/Bench (bench figures; both ends of the range are
-// reached).
+// (what a run takes in and gives out, proved in proofs/Totals) and specs/Ends (both ends of the range are reached).
 use blocks::Verdict;
 ghost use mathlib.Core.Path.{_≡_};
 ghost use mathlib.Core.Bool.{true};
@@ -213,8 +211,7 @@ impl Dsm {
     }
 
     // Takes the input x and gives the next output; an accepted state stays accepted. 30 where the order is above 8,
-    // 32 where
-    // a used retained cell is out of range: the state stays.
+    // 32 where a used retained cell is out of range: the state stays.
     pub fn process(self, x: u32) -> Stepped
         ensures { λ r. ⌜ Steps self x r ⌝ }
     {
@@ -245,8 +242,7 @@ impl Dsm {
     }
 
     // Takes the inputs in turn and writes their outputs. 30, then 31 where the slices differ in length, then 32:
-    // the state
-    // stays and nothing is written.
+    // the state stays and nothing is written.
     pub fn block(self, xs: &[u32], ys: &mut [i16]) -> Made
         ensures { λ r. ⌜ Runs self (now (xs .entry)) (now (ys .entry)) r (now (ys .exit)) ⌝ }
     {

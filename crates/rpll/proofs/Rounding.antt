@@ -9,28 +9,10 @@ use lib.IntN.{ℤ, pos, negsuc, negℤ, _+ℤ_, _-ℤ_, _*ℤ_, +ℤ-idl}
 use mir.Syntax.{w32, w64}
 use Rattle.words.specs.Words as W
 use Rattle.words.specs.Words.{modℤ, word, wrap, floorDiv}
-use Rattle.words.proofs.Remainders.{rep-mod, rep-to, rep-narrow}
+use Rattle.words.proofs.Floors.{mod-low, mod-high}
 use Rattle.words.proofs.Reading.{word-wrap, wrap-word, word-is}
 use Rattle.words.proofs.Sums.{Same, equal, _and_, worded, same-add, same-mul}
 use Rattle.rpll.specs.Loops.{signalPhase, referencePhase, lockedOf, elapsed, errorOf}
-
--- the remainder by k m, taken by m
-mod-low : (m k : ℕ) → 0 < m → 0 < k * m → (z : ℤ) → modℤ z (k * m) % m ≡ modℤ z m
-mod-low m k h p z = rep-to m h z (modℤ z (k * m)) (rep-narrow m k z (modℤ z (k * m)) (rep-mod (k * m) p z))
-
--- the remainder by m k, divided by k
-mod-high : (m k : ℕ) → 0 < m → 0 < k → (z : ℤ) → modℤ z (m * k) / k ≡ modℤ (floorDiv z k) m
-mod-high m k h p (pos n) = ap (λ (t : ℕ). t / k) (mod-mul n h p) ∙ digits-div (n / k % m) (mod-lt n p)
-mod-high m k h p (negsuc n) =
-    let q = n / k % m in
-    let r = n % k in
-    let a : q < m = mod-lt (n / k) h in
-    let b : r < k = mod-lt n p in
-    let u : m - suc q + suc q ≡ m = omega arith in
-    let v : (m - suc q) * k + suc q * k ≡ m * k = sym (add-mul (m - suc q) (suc q) k) ∙ ap (λ (t : ℕ). t * k) u in
-    let e : m * k - suc (q * k + r) ≡ (m - suc q) * k + (k - suc r) = omega arith in
-    let f : k - suc r < k = omega arith in
-    ap (λ (t : ℕ). (m * k - suc t) / k) (mod-mul n h p) ∙ ap (λ (t : ℕ). t / k) e ∙ digits-div (m - suc q) f
 
 -- a power of two within the word
 pub bit : (k : ℕ) → k ≤ 31 → word w32 (pos 1 *ℤ pos (2 ^ (k % 32))) ≡ 2 ^ k

@@ -1,4 +1,4 @@
--- The statements of specs/Demands and specs/Figures, each from the room that proves it.
+-- The statements of specs/Demands, each from the room that proves it.
 use mathlib.Core.Path.{refl}
 use Prim.Native.Nat.{ℕ, zero, suc, _*_, _^_, _≤_}
 use native.Mathlib.Omega.{arith}
@@ -8,7 +8,6 @@ use Rattle.sums.specs.Signed.{signedOps}
 use Rattle.sums.specs.State.{State, refusalOf, zeroed}
 use Rattle.sums.specs.Calls.{newState, bitLength, gainLog2, fits}
 use Rattle.sums.specs.Demands.{Contents, Decimator, Interpolator, Demand2, Demand2Cleared, Demand3, Demand3Rate, Demand3Tight, Between, SettledPart, GainBound, FitSound, FitNotExact, Settled}
-use Rattle.sums.specs.Figures.{Figures}
 use Rattle.sums.proofs.Refusals.{Sound, sound, Good, good}
 use Rattle.sums.proofs.Steps.{packed, Fit}
 use Rattle.sums.proofs.Makers.{new-is, clear-is, resume-is, rate-is, settle-is, resume-sound, rate-sound, zero-sound, zeroed-fit, decimates-zero}
@@ -18,7 +17,7 @@ use Rattle.sums.proofs.Interpolating.{interpolates-zero}
 use Rattle.sums.proofs.Constant.{settled-stream}
 use Rattle.sums.proofs.Tight.{misleads}
 use Rattle.sums.proofs.Believed.{block-asked, settled-part}
-use Rattle.sums.proofs.Figures.{all-right, mixed}
+use Rattle.sums.proofs.Mixed.{mixed}
 use Rattle.sums.proofs.Sizes.{gain-bound, exact, fit-sound}
 
 -- from zero
@@ -74,6 +73,3 @@ fit-is-not-exact = (refl, λ x h t. exact w32 3 3 (2 ^ 26) x (omega arith) h (om
 
 pub between : Between
 between = mixed
-
-pub figures : Figures
-figures = all-right

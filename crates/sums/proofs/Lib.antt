@@ -23,5 +23,5 @@ pub mod Constant
 pub mod Tight
 pub mod Believed
 pub mod Sizes
-pub mod Figures
+pub mod Mixed
 pub mod Demands

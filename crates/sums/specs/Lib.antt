@@ -6,4 +6,3 @@ pub mod State
 pub mod Calls
 pub mod Runs
 pub mod Demands
-pub mod Figures

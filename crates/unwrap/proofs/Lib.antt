@@ -2,4 +2,3 @@ pub mod Turning
 pub mod Counting
 pub mod Clamping
 pub mod Scaling
-pub mod Figures

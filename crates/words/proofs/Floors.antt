@@ -1,18 +1,18 @@
 -- Whole turns and what is left: a number is its quotient's turns and its word, and a word of the upper half reads one turn less.
 use mathlib.Core.Path.{_≡_, sym, ap, _∙_}
 use Prim.Native.Nat.{ℕ, zero, suc, _+_, _-_, _*_, _/_, _%_, _^_, _<_, _≤_}
-use native.Mathlib.Nat.{div-add-mod', mod-lt, mul-div-left, mul-lt-mul-of-pos-right}
-use lib.Arith.{digits-div}
+use native.Mathlib.Nat.{div-add-mod', mod-lt, add-mul, mul-lt-mul-of-pos-right}
+use lib.Arith.{mod-mul, digits-div}
 use native.Mathlib.Omega.{arith}
 use lib.Pow.{pow-pos, pow-add}
-use lib.IntN.{ℤ, pos, negsuc, _+ℤ_, _-ℤ_, _*ℤ_, +ℤ-assoc, +ℤ-comm}
+use lib.IntN.{ℤ, pos, negsuc, _+ℤ_, _-ℤ_, _*ℤ_, +ℤ-assoc, +ℤ-comm, +ℤ-idr}
 use borrow.Author.Tests.{lt-ltb, le-ltb}
 use mir.Syntax.{Width, w32}
 use mir.Val.{bits, hbits}
 use mir.ValLaws.{toZ-pos}
 use Rattle.words.specs.Words as W
 use Rattle.words.specs.Words.{modℤ, word, wrap, floorDiv}
-use Rattle.words.proofs.Remainders.{rep-mod, rep-is, rep-scaled}
+use Rattle.words.proofs.Remainders.{rep-mod, rep-to, rep-narrow, rep-is, rep-scaled}
 use Rattle.words.proofs.Reading.{mod-below, word-fits}
 use Rattle.words.proofs.Sums.{Same}
 use Rattle.words.proofs.Products.{spread, regroup}
@@ -29,17 +29,6 @@ floor-rest (negsuc n) (suc m) h =
     let f : suc (m + n / suc m * suc m) - suc (suc m - suc (n % suc m)) ≡ n = omega arith in
     rw (e, lt-ltb (suc m - suc (n % suc m)) (suc (m + n / suc m * suc m)) (omega arith)) (ap negsuc f)
 
--- a whole number of turns has them for its quotient
-pub floor-exact : (z : ℤ) (m : ℕ) → 0 < m → floorDiv (z *ℤ pos m) m ≡ z
-floor-exact (pos n) m h = ap pos (mul-div-left n h)
-floor-exact (negsuc n) zero h = absurd (omega arith)
-floor-exact (negsuc n) (suc m) h =
-    let e : suc n * suc m ≡ suc (n * suc m + m) = omega arith in
-    rw e (ap negsuc (digits-div n (lt-suc m)))
-  where
-    lt-suc : (k : ℕ) → k < suc k
-    lt-suc k = omega arith
-
 -- k turns of m and less than one are k turns
 pub floor-is : (k : ℤ) (r m : ℕ) → r < m → floorDiv (k *ℤ pos m +ℤ pos r) m ≡ k
 floor-is (pos n) r m h = ap pos (digits-div n h)
@@ -49,6 +38,10 @@ floor-is (negsuc n) r (suc m) h =
     let l : r < suc (m + n * suc m) = omega arith in
     let f : suc (m + n * suc m) - suc r ≡ n * suc m + (m - r) = omega arith in
     rw (e, lt-ltb r (suc (m + n * suc m)) l, f) (ap negsuc (digits-div n (omega arith)))
+
+-- a whole number of turns has them for its quotient
+pub floor-exact : (z : ℤ) (m : ℕ) → 0 < m → floorDiv (z *ℤ pos m) m ≡ z
+floor-exact z m h = ap (λ (y : ℤ). floorDiv y m) (sym (+ℤ-idr (z *ℤ pos m))) ∙ floor-is z 0 m h
 
 pub floor-turns : (q z : ℤ) (m : ℕ) → 0 < m → floorDiv (q *ℤ pos m +ℤ z) m ≡ q +ℤ floorDiv z m
 floor-turns q z m h =
@@ -88,6 +81,24 @@ wrap-high w z h =
     below : (m n : ℕ) → n < m → negsuc (m - suc n) ≡ pos n -ℤ pos m
     below zero n l = absurd (omega arith)
     below (suc m) n l = rw (lt-ltb n (suc m) l)
+
+-- the remainder by k m, taken by m
+pub mod-low : (m k : ℕ) → 0 < m → 0 < k * m → (z : ℤ) → modℤ z (k * m) % m ≡ modℤ z m
+mod-low m k h p z = rep-to m h z (modℤ z (k * m)) (rep-narrow m k z (modℤ z (k * m)) (rep-mod (k * m) p z))
+
+-- the remainder by m k, divided by k
+pub mod-high : (m k : ℕ) → 0 < m → 0 < k → (z : ℤ) → modℤ z (m * k) / k ≡ modℤ (floorDiv z k) m
+mod-high m k h p (pos n) = ap (λ (t : ℕ). t / k) (mod-mul n h p) ∙ digits-div (n / k % m) (mod-lt n p)
+mod-high m k h p (negsuc n) =
+    let q = n / k % m in
+    let r = n % k in
+    let a : q < m = mod-lt (n / k) h in
+    let b : r < k = mod-lt n p in
+    let u : m - suc q + suc q ≡ m = omega arith in
+    let v : (m - suc q) * k + suc q * k ≡ m * k = sym (add-mul (m - suc q) (suc q) k) ∙ ap (λ (t : ℕ). t * k) u in
+    let e : m * k - suc (q * k + r) ≡ (m - suc q) * k + (k - suc r) = omega arith in
+    let f : k - suc r < k = omega arith in
+    ap (λ (t : ℕ). (m * k - suc t) / k) (mod-mul n h p) ∙ ap (λ (t : ℕ). t / k) e ∙ digits-div (m - suc q) f
 
 -- a number scaled by k leaves its remainder scaled by k
 pub mod-scaled : (z : ℤ) (m k : ℕ) → 0 < m → 0 < k → modℤ (z *ℤ pos k) (m * k) ≡ modℤ z m * k

@@ -1,29 +1,12 @@
--- 01, 'Bench figures': T7 and T8, one statement over one table. And both ends of the output range, reached from zero.
+-- Both ends of the output range are reached from zero, at every K.
 use mathlib.Core.Path.{_≡_}
 use mathlib.Core.Bool.{Bool, true, false, _&&_, _||_}
 use mathlib.Core.List.{List, [], _∷_}
 use Prim.Native.Nat.{ℕ, zero, suc, _+_, _-_, _%_, _^_, _≤_}
 use lib.IntN.{ℤ, pos}
-use lib.ListN.{replicate}
 use lib.Signed.{leZ}
 use Rattle.dsm.specs.Modulator.{least, greatest}
 use Rattle.dsm.specs.Totals.{outputs}
-
-pub record Figure : Type 0 where
-  pub order : ℕ
-  pub inputs : List ℕ
-  pub gives : List ℤ
-
--- T7 K 1, x 2 ^ 31: 0, 1, 0, 1. T8 K 2, same x: 0, 1, 1, 0.
-abbrev pub figures : List Figure
-figures =
-    record { order = 1; inputs = replicate 4 (2 ^ 31); gives = pos 0 ∷ pos 1 ∷ pos 0 ∷ pos 1 ∷ [] }
-    ∷ record { order = 2; inputs = replicate 4 (2 ^ 31); gives = pos 0 ∷ pos 1 ∷ pos 1 ∷ pos 0 ∷ [] }
-    ∷ []
-
-abbrev pub Hold : List Figure → Type 0
-Hold [] = Unit
-Hold (f ∷ fs) = (outputs (f .order) (f .inputs) ≡ f .gives) × Hold fs
 
 -- whether y is among the numbers
 abbrev pub among : ℤ → List ℤ → Bool

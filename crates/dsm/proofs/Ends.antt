@@ -1,4 +1,4 @@
--- By computation: the definition gives the bench figures, and reaches both ends of its range.
+-- By computation: the definition reaches both ends of its range.
 use mathlib.Core.Path.{_≡_, refl}
 use mathlib.Core.Bool.{Bool, true, _&&_}
 use Prim.Native.Nat.{ℕ, zero, suc, _≤_}
@@ -7,12 +7,8 @@ use native.Mathlib.Nat.{eq-or-lt-of-le}
 use native.Mathlib.Omega.{arith}
 use Rattle.dsm.specs.Modulator.{accumulated, carries, combined, retaining, output, keeping, outOf, nextOf, least, greatest}
 use Rattle.dsm.specs.Totals.{outputs}
-use Rattle.dsm.specs.Bench.{figures, Hold, among, swing, EndsReached}
+use Rattle.dsm.specs.Ends.{among, swing, EndsReached}
 use Rattle.dsm.proofs.Ranges.{both}
-
-pub t7-t8 : Hold figures
-unfolding accumulated carries combined retaining output keeping outOf nextOf
-t7-t8 = (refl, (refl, tt))
 
 -- a test that each number of 1 .. n passes
 passes : (ℕ → Bool) → ℕ → Bool

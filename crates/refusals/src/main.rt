@@ -1,0 +1,22 @@
+// Prints document 01's bench figures beyond T1 to T10, and every number of its refusal table with a call that is
+// refused by it and a neighbour that is not.
+mod counts;
+mod figures;
+mod fractions;
+mod limits;
+mod lines;
+mod modulator;
+mod print;
+mod sections;
+mod states;
+
+fn main() {
+    figures::print_all();
+    states::print_all();
+    counts::print_all();
+    modulator::print_all();
+    fractions::print_all();
+    limits::print_all();
+    sections::print_all();
+    lines::print_all();
+}

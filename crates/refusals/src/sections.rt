@@ -1,0 +1,80 @@
+// Numbers 50 to 65: wave digital sections, the reciprocal loop, and the scale.
+use crate::print::refusal;
+use crate::print::row;
+use rpll::Estimate;
+use rpll::RPLL;
+use rpll::RPLLConfig;
+use rpll::Timestamp;
+use unwrap::scale::Scaled;
+use unwrap::scale::saturating_scale;
+use wdf::filter::Wdf;
+
+fn scale(shift: u32) -> u32 {
+    match saturating_scale(0, 1, shift) {
+        Scaled::Value(_) => 0,
+        Scaled::Refused(n) => n,
+    }
+}
+
+fn sections(count: usize, architecture: u32) -> u32 {
+    let made = Wdf::new(count, architecture, [0; 8]);
+    let verdict = made.verdict;
+    refusal(verdict)
+}
+
+fn loops(dt2: u8, shift_frequency: u8, shift_phase: u8) -> u32 {
+    let config = RPLLConfig {
+        dt2,
+        shift_frequency,
+        shift_phase,
+    };
+    let state = RPLL {
+        x: 0,
+        ff: 0,
+        f: 0,
+        y: 0,
+    };
+    let done = config.process(state, Timestamp::Missing);
+    let estimate = done.estimate;
+    match estimate {
+        Estimate::Given(_, _) => 0,
+        Estimate::Refused(n) => n,
+    }
+}
+
+pub(crate) fn print_all() {
+    row(b"9 sections", sections(9, 0), b"8", sections(8, 0));
+    row(
+        b"nibble 1 past 1 section",
+        sections(1, 0x11),
+        b"0",
+        sections(1, 0x01),
+    );
+    row(b"dt2 31", loops(31, 32, 31), b"30", loops(30, 32, 31));
+    row(
+        b"dt2 8, shift_frequency 8",
+        loops(8, 8, 8),
+        b"9",
+        loops(8, 9, 8),
+    );
+    row(
+        b"shift_frequency 33",
+        loops(8, 33, 8),
+        b"32",
+        loops(8, 32, 8),
+    );
+    row(
+        b"dt2 8, shift_phase 7",
+        loops(8, 9, 7),
+        b"8",
+        loops(8, 9, 8),
+    );
+    row(
+        b"dt2 8, shift_phase 40",
+        loops(8, 9, 40),
+        b"39",
+        loops(8, 9, 39),
+    );
+    row(b"shift 0", scale(0), b"1", scale(1));
+    row(b"shift 33", scale(33), b"32", scale(32));
+}

@@ -1,0 +1,73 @@
+// Numbers 10 to 17: what a decimator's or interpolator's state may be, and what may be asked of it.
+use crate::print::refusal;
+use crate::print::row;
+use cic::questions::Fitting;
+use cic::questions::Told;
+use cic::state::Cic;
+use cic::steps::Out;
+
+fn new(order: usize, delay: usize, rate: u32) -> u32 {
+    let made = Cic::new(order, delay, rate);
+    let verdict = made.verdict;
+    refusal(verdict)
+}
+
+fn resume(countdown: u32) -> u32 {
+    let made = Cic::resume(3, 1, 3, [7; 8], [5; 64], 1, countdown);
+    let verdict = made.verdict;
+    refusal(verdict)
+}
+
+fn gain(order: usize) -> u32 {
+    let made = Cic::new(order, 8, 65535);
+    let filter = made.state;
+    match filter.gain() {
+        Told::Number(_) => 0,
+        Told::Refused(n) => n,
+    }
+}
+
+// A step of a filter of order 3 and delay 1 whose unsettled count was written by hand.
+fn step(unsettled: usize) -> u32 {
+    let made = Cic::new(3, 1, 3);
+    let mut filter = made.state;
+    filter.unsettled = unsettled;
+    let stepped = filter.decimate(1);
+    let out = stepped.out;
+    match out {
+        Out::Given(_, _) => 0,
+        Out::Nothing => 0,
+        Out::Refused(n) => n,
+    }
+}
+
+fn fit(b: u32) -> u32 {
+    let made = Cic::new(0, 1, 0);
+    let filter = made.state;
+    match filter.fit(b) {
+        Fitting::Fits(_) => 0,
+        Fitting::Refused(n) => n,
+    }
+}
+
+pub(crate) fn print_all() {
+    row(b"order 9", new(9, 1, 0), b"order 8", new(8, 1, 0));
+    row(b"delay 0", new(1, 0, 0), b"delay 1", new(1, 1, 0));
+    row(b"delay 9", new(1, 9, 0), b"delay 8", new(1, 8, 0));
+    row(
+        b"rate 65536",
+        new(1, 1, 65536),
+        b"rate 65535",
+        new(1, 1, 65535),
+    );
+    row(
+        b"countdown 65536",
+        resume(65536),
+        b"countdown 65535",
+        resume(65535),
+    );
+    row(b"gain 2^76", gain(4), b"gain 2^57", gain(3));
+    row(b"unsettled 4 of N M = 3", step(4), b"unsettled 3", step(3));
+    row(b"fit of 0 bits", fit(0), b"of 1 bit", fit(1));
+    row(b"fit of 33 bits", fit(33), b"of 32 bits", fit(32));
+}
