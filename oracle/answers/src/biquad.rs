@@ -1,6 +1,6 @@
 //! src/iir/biquad.rs: the f64 biquads, pairs of roots and offsets.
 
-use crate::words::{Answers, Digest, Draw, Words};
+use crate::words::{Answers, Digest, Draw, Words, moved};
 use dsp_process::SplitProcess;
 use idsp::iir::{Biquad, BiquadClamp, DirectForm1, DirectForm2Transposed, Pair};
 
@@ -36,7 +36,7 @@ const SPECIAL: [f64; 24] = [
 
 pub fn write(root: &str) {
     let mut out = Answers::new(37);
-    let mut draw = Draw::new(8);
+    let mut draw = Draw::new(moved(8));
     for kind in 1..=4 {
         steps(&mut out, &mut draw, kind);
     }
@@ -194,7 +194,7 @@ const DECAY: Filter = Filter { ba: [1e-300, 0.0, 0.0, 0.7, -0.1], u: 0.0, min: -
 /// 5 to 8: a run of kind 1 to 4 over moderate inputs. 9 to 12: over one 1.0, then zeros.
 fn runs(out: &mut Answers, kind: u32) {
     for (filter, steps) in [(LOW, 1_000_000u32), (RESONANCE, 300_000), (INTEGRATOR, 300_000)] {
-        let seed = 800 + kind;
+        let seed = moved(800 + kind);
         let mut draw = Draw::new(seed);
         let (mut digest, mut state) = (Digest::default(), [0.0; 4]);
         for _ in 0..steps {

@@ -1,6 +1,6 @@
 //! src/cic.rs: the decimator and interpolator on i32.
 
-use crate::words::{Answers, Digest, Draw};
+use crate::words::{Answers, Digest, Draw, longer, moved};
 use dsp_process::Process;
 use idsp::Cic;
 
@@ -21,7 +21,7 @@ struct Case {
 
 pub fn write(root: &str) {
     let mut out = Answers::new(12);
-    let mut draw = Draw::new(3);
+    let mut draw = Draw::new(moved(3));
     short_runs(&mut out, &mut draw);
     long_runs(&mut out);
     questions(&mut out, &mut draw);
@@ -82,7 +82,8 @@ fn long_runs(out: &mut Answers) {
             (8, 5, 1, 100_000, 0),
             (4, 1, 65535, 400_000, NONE),
         ] {
-            let case = Case { order, delay, rate, countdown: order, seed: 40 + order, steps, later };
+            let (seed, steps) = (moved(40 + order), longer(steps));
+            let case = Case { order, delay, rate, countdown: order, seed, steps, later };
             run(out, code, &case);
         }
     }

@@ -1,6 +1,6 @@
 //! src/dsm.rs: the modulator, beside document 01's rule in wide integers.
 
-use crate::words::{Answers, Digest, Draw, CORNERS};
+use crate::words::{Answers, Digest, Draw, CORNERS, moved};
 use dsp_process::Process;
 use idsp::Dsm;
 
@@ -8,7 +8,7 @@ const STEPS: u32 = 1_000_000;
 
 pub fn write(root: &str) {
     let mut out = Answers::new(37);
-    let mut draw = Draw::new(2);
+    let mut draw = Draw::new(moved(2));
     of_every_order(&mut out, &mut draw);
     out.write(root, "dsm");
 }
@@ -28,8 +28,8 @@ fn of_every_order(out: &mut Answers, draw: &mut Draw) {
 fn order<const K: usize>(out: &mut Answers, draw: &mut Draw) {
     cases::<K>(out, draw);
     ends::<K>(out);
-    run::<K>(out, 3, 20 + K as u32, STEPS);
-    run::<K>(out, 4, 30 + K as u32, STEPS / 10);
+    run::<K>(out, 3, moved(20 + K as u32), STEPS);
+    run::<K>(out, 4, moved(30 + K as u32), STEPS / 10);
 }
 
 /// The modulator by document 01, without a width for its carries.

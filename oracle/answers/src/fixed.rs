@@ -1,6 +1,6 @@
 //! src/iir/biquad.rs: the wide and the dithered direct form 1 on i32.
 
-use crate::words::{Answers, Digest, Draw, Words};
+use crate::words::{Answers, Digest, Draw, Words, moved};
 use dsp_fixedpoint::Q;
 use dsp_process::SplitProcess;
 use idsp::iir::{Biquad, BiquadClamp, DirectForm1, DirectForm1Dither, DirectForm1Wide};
@@ -80,7 +80,7 @@ fn long(high: u32, low: u32) -> i64 {
 
 pub fn write(root: &str) {
     let mut out = Answers::new(24);
-    let mut draw = Draw::new(5);
+    let mut draw = Draw::new(moved(5));
     macro_rules! every {
         ($($f:literal)*) => {
             $(fraction::<$f>(&mut out, &mut draw);)*
@@ -145,7 +145,7 @@ fn cases<const F: i8>(out: &mut Answers, draw: &mut Draw, kind: u32) {
 
 /// 5 to 8: a run of 1 to 4, everything drawn.
 fn run<const F: i8>(out: &mut Answers, kind: u32) {
-    let seed = 400 + 4 * F as u32 + kind;
+    let seed = moved(400 + 4 * F as u32 + kind);
     let steps = if F == 30 { 1_000_000u32 } else { 10_000 };
     let mut draw = Draw::new(seed);
     let (filter, mut state) = drawn(&mut draw, kind);
@@ -165,7 +165,7 @@ fn tame_run<const F: i8>(out: &mut Answers, kind: u32) {
         min: -(1 << 29),
         max: (1 << 29) + 3,
     };
-    let (seed, steps) = (600 + F as u32, 50_000u32);
+    let (seed, steps) = (moved(600 + F as u32), 50_000u32);
     let digest = ran::<F>(kind, &filter, &mut State::default(), &mut Draw::new(seed), steps);
     out.line(8 + kind, &[&(F as u32), &filter, &seed, &steps, &digest]);
 }

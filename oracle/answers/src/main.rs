@@ -1,4 +1,5 @@
-//! Writes the stored answers of every module under the project's root, which is the one argument.
+//! Writes the answers of every module under the folder that is the first argument; at scale where a number follows,
+//! by which every seed is moved.
 //! The lines and runs are told in oracle/README.md.
 
 mod biquad;
@@ -12,7 +13,11 @@ mod wdf;
 mod words;
 
 fn main() {
-    let root = std::env::args().nth(1).expect("the project's root");
+    let mut words = std::env::args().skip(1);
+    let root = words.next().expect("the project's root");
+    if let Some(by) = words.next() {
+        words::SCALE.set((by.parse().expect("a number"), 28)).unwrap();
+    }
     unwrap::write(&root);
     dsm::write(&root);
     cic::write(&root);

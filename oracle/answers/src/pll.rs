@@ -1,6 +1,6 @@
 //! src/pll.rs: the phase locked loop.
 
-use crate::words::{Answers, Digest, Draw, Words, CORNERS};
+use crate::words::{Answers, Digest, Draw, Words, CORNERS, moved};
 use dsp_fixedpoint::Q32;
 use dsp_process::SplitProcess;
 use idsp::{ClampWrap, PLLState, Wrap, PLL};
@@ -26,7 +26,7 @@ fn pll(ba: [i32; 3]) -> PLL {
 
 pub fn write(root: &str) {
     let mut out = Answers::new(24);
-    let mut draw = Draw::new(6);
+    let mut draw = Draw::new(moved(6));
     cases(&mut out, &mut draw);
     runs(&mut out);
     locks(&mut out);
@@ -96,7 +96,7 @@ fn runs(out: &mut Answers) {
     .into_iter()
     .enumerate()
     {
-        let seed = 700 + i as u32;
+        let seed = moved(700 + i as u32);
         let mut draw = Draw::new(seed);
         let mut state = PLLState::default();
         let mut digest = Digest::default();
@@ -107,7 +107,7 @@ fn runs(out: &mut Answers) {
         digest.feed(&Fields(&state));
         out.line(4, &[&seed, &STEPS, &ba, &digest]);
     }
-    let seed = 710;
+    let seed = moved(710);
     let mut draw = Draw::new(seed);
     let mut state = PLLState::default();
     let mut digest = Digest::default();

@@ -1,6 +1,6 @@
 //! src/rpll.rs: the reciprocal loop.
 
-use crate::words::{Answers, Digest, Draw, Words};
+use crate::words::{Answers, Digest, Draw, Words, moved};
 use dsp_process::SplitProcess;
 use idsp::{RPLLConfig, RPLL};
 use std::num::Wrapping as W;
@@ -31,7 +31,7 @@ fn step(c: Config, state: &mut RPLL, x: Option<i32>) -> [i32; 2] {
 
 pub fn write(root: &str) {
     let mut out = Answers::new(16);
-    let mut draw = Draw::new(7);
+    let mut draw = Draw::new(moved(7));
     cases(&mut out, &mut draw);
     runs(&mut out, &mut draw);
     locks(&mut out);

@@ -1,6 +1,6 @@
 //! src/unwrap.rs: phase words.
 
-use crate::words::{Answers, Digest, Draw, CORNERS};
+use crate::words::{Answers, Digest, Draw, CORNERS, moved};
 use dsp_process::Process;
 use idsp::{overflowing_sub, saturating_scale, ClampWrap, Unwrapper, Wrap};
 use num_traits::{AsPrimitive, Num, One, Signed, WrappingAdd, Zero};
@@ -11,7 +11,7 @@ const STEPS: u32 = 1_000_000;
 
 pub fn write(root: &str) {
     let mut out = Answers::new(7);
-    let mut draw = Draw::new(1);
+    let mut draw = Draw::new(moved(1));
     differences(&mut out, &mut draw);
     scales(&mut out, &mut draw);
     unwrappers(&mut out, &mut draw);
@@ -118,7 +118,7 @@ fn clamps(out: &mut Answers, draw: &mut Draw) {
 
 /// Runs: seed, steps, a start of two words, the digest.
 fn runs(out: &mut Answers) {
-    let seed = 7;
+    let seed = moved(7);
     let mut draw = Draw::new(seed);
     let mut digest = Digest::default();
     for _ in 0..STEPS {
@@ -128,7 +128,7 @@ fn runs(out: &mut Answers) {
     out.line(7, &[&seed, &STEPS, &0i64, &digest]);
 
     // 8 takes hi as drawn, 9 takes it into the range that shift leaves unclipped.
-    for (code, seed) in [(8, 8u32), (9, 9)] {
+    for (code, seed) in [(8, moved(8)), (9, moved(9))] {
         let mut draw = Draw::new(seed);
         let mut digest = Digest::default();
         for _ in 0..STEPS {
@@ -139,7 +139,7 @@ fn runs(out: &mut Answers) {
         out.line(code, &[&seed, &STEPS, &0i64, &digest]);
     }
 
-    for (seed, start) in [(10u32, 0i64), (11, i64::MAX - 5), (12, i64::MIN + 5)] {
+    for (seed, start) in [(moved(10), 0i64), (moved(11), i64::MAX - 5), (moved(12), i64::MIN + 5)] {
         let mut draw = Draw::new(seed);
         let mut digest = Digest::default();
         let mut state = Unwrapper { y: start };
@@ -153,7 +153,7 @@ fn runs(out: &mut Answers) {
         out.line(10, &[&seed, &STEPS, &start, &digest]);
     }
 
-    let seed = 13;
+    let seed = moved(13);
     let mut draw = Draw::new(seed);
     let mut digest = Digest::default();
     let mut state = ClampWrap::<i32>::default();

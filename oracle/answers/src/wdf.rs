@@ -1,6 +1,6 @@
 //! src/iir/wdf.rs: the adapters and the chain of sections.
 
-use crate::words::{Answers, Digest, Draw, CORNERS};
+use crate::words::{Answers, Digest, Draw, CORNERS, moved};
 use dsp_fixedpoint::Q32;
 use dsp_process::SplitProcess;
 use idsp::iir::wdf::{Tpa, Wdf, WdfState};
@@ -24,7 +24,7 @@ fn adapt(nibble: u32, x: [i32; 2], a: i32) -> [i32; 2] {
 
 pub fn write(root: &str) {
     let mut out = Answers::new(29);
-    let mut draw = Draw::new(4);
+    let mut draw = Draw::new(moved(4));
     adapters(&mut out, &mut draw);
     chains(&mut out, &mut draw);
     out.write(root, "wdf");
@@ -53,7 +53,7 @@ fn adapters(out: &mut Answers, draw: &mut Draw) {
         }
         out.line(3, &[&nibble, &digest]);
 
-        let (seed, steps) = (60 + nibble, 100_000u32);
+        let (seed, steps) = (moved(60 + nibble), 100_000u32);
         let mut draw = Draw::new(seed);
         let mut digest = Digest::default();
         for _ in 0..steps {
@@ -72,7 +72,7 @@ fn chains(out: &mut Answers, draw: &mut Draw) {
         let y = step(&a, &mut after, x);
         out.line(2, &[&sections, &word, &a, &z, &x, &y, &after]);
 
-        let seed = 100 + i as u32;
+        let seed = moved(100 + i as u32);
         let steps = if i == 17 + 3 * 33 { 1_000_000u32 } else { 4_000 };
         let mut draw = Draw::new(seed);
         let (a, mut z) = (draw.ints(), draw.ints());

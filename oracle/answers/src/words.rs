@@ -1,6 +1,20 @@
 //! The stored answers' words: how a value becomes words, the generator, the digest, and a file of lines.
 
 use std::fmt::Write;
+use std::sync::OnceLock;
+
+/// At scale: how far every seed is moved, and how many times longer the decimator's and interpolator's long runs are.
+pub static SCALE: OnceLock<(u32, u32)> = OnceLock::new();
+
+/// A seed, moved at scale.
+pub fn moved(seed: u32) -> u32 {
+    seed.wrapping_add(SCALE.get().map_or(0, |s| s.0))
+}
+
+/// A long run's steps, more of them at scale.
+pub fn longer(steps: u32) -> u32 {
+    steps * SCALE.get().map_or(1, |s| s.1)
+}
 
 /// Words that runs meet often.
 pub const EDGES: [u32; 8] = [0, 1, 0x7fffffff, 0x80000000, 0xffffffff, 0x80000001, 0x40000000, 0xc0000000];
