@@ -18,7 +18,7 @@ import tempfile
 
 HERE = os.path.dirname(os.path.abspath(__file__))
 ROOT = os.path.dirname(os.path.dirname(HERE))
-LIBRARIES = ["records", "text", "words", "blocks", "sums", "cic"]
+LIBRARIES = ["playback", "records", "text", "words", "blocks", "sums", "cic"]
 KIT_LIBRARIES = ["std", "check", "io", "libc"]
 WRAPPER = """#!/bin/sh
 case " $* " in *" -O3 "*) cp module.bc "%s/module.bc" ;; esac
