@@ -3,8 +3,8 @@
 
     python3 samples/fuzz.py [COUNT] [PROGRAM]     (20000 inputs; samples/replay)
 
-A pipe in packet mode gives each write to one read, so the cuts are where they are drawn. Tests of a live pipe, and of reads and
-writes that fail, come first.
+A pipe in packet mode gives each write to one read, so the cuts are where they are drawn. The recordings beside this file, a live
+pipe, and reads and writes that fail come first.
 """
 import os
 import random
@@ -96,6 +96,13 @@ def answered(program, data, parts):
     return run.communicate()[0]
 
 
+def recorded(program):
+    """Each recording gives the output that stands beside it."""
+    for name in ["steady", "torsion", "pulled_plug"]:
+        with open(os.path.join(HERE, name + ".txt"), "rb") as given, open(os.path.join(HERE, name + ".out"), "rb") as want:
+            assert subprocess.run([program], stdin=given, stdout=subprocess.PIPE).stdout == want.read(), name
+
+
 def live(program):
     """What has been answered is there before more is asked for; a line is refused at its 65th byte, the pipe still open."""
     run = subprocess.Popen([program], stdin=subprocess.PIPE, stdout=subprocess.PIPE, bufsize=0)
@@ -134,6 +141,7 @@ def failing(program):
 
 
 def main(count, program):
+    recorded(program)
     live(program)
     failing(program)
     rng = random.Random(2026)
