@@ -6,6 +6,8 @@
 A pipe in packet mode gives each write to one read, so the cuts are where they are drawn. The recordings beside this file, a live
 pipe, and reads and writes that fail come first.
 """
+import functools
+import multiprocessing
 import os
 import random
 import subprocess
@@ -140,21 +142,30 @@ def failing(program):
     assert 0 < len(got) < 20000 * 6 and replay(data).startswith(got)
 
 
+def tried(program, i):
+    """Input i: whether it goes to the end or is refused, and where the program and the model differ."""
+    rng = random.Random("2026 %d" % i)
+    data = generated(rng)
+    want = replay(data)
+    for parts in [cuts(rng, data), singly(data)]:
+        got = answered(program, data, parts)
+        if want != got:
+            differ = "input %d differs: %r in %s parts\nwant %r\ngot  %r" % (i, data, parts and len(parts), want[-200:], got[-200:])
+            return b"bad", differ
+    return want.split(b"\n")[-2][:3], ""
+
+
 def main(count, program):
     recorded(program)
     live(program)
     failing(program)
-    rng = random.Random(2026)
     kinds = {b"end": 0, b"bad": 0}
-    for i in range(count):
-        data = generated(rng)
-        want = replay(data)
-        for parts in [cuts(rng, data), singly(data)]:
-            got = answered(program, data, parts)
-            if want != got:
-                print("input %d differs: %r in %s parts\nwant %r\ngot  %r" % (i, data, parts and len(parts), want[-200:], got[-200:]))
+    with multiprocessing.Pool() as pool:
+        for kind, differ in pool.imap_unordered(functools.partial(tried, program), range(count), 20):
+            if differ:
+                print(differ)
                 return 1
-        kinds[want.split(b"\n")[-2][:3]] += 1
+            kinds[kind] += 1
     print("%d inputs, each in parts and byte by byte, %d to the end and %d refused: 0 differ" % (count, kinds[b"end"], kinds[b"bad"]))
     return 0
 
