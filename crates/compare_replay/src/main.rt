@@ -5,7 +5,6 @@ use playback::driver::Replay;
 use playback::driver::replay_whole;
 use text::parts::part_end;
 use words::unsigned::add_u64;
-ghost use mathlib.Core.Path.{_≡_};
 ghost use Prim.Native.Nat.{_≤_, _<_, _+_};
 ghost use lib.ListN.{length};
 

@@ -13,7 +13,6 @@ use Rattle.text.specs.Parts.{count}
 use Rattle.text.proofs.Parting.{count-append}
 use Rattle.text.proofs.Putting.{nothing}
 use Rattle.playback.specs.Replays.{endLine, badLine}
-use Rattle.records.specs.Sessions.{kept}
 use Rattle.playback.specs.Places.{Place, raised, replyBytes, givenBy, goesOn, lineEnds, endTaken, ended, fedOf, bytesOf, finishBytes, placeOf, replayOf}
 use Rattle.playback.specs.Turns.{Fills, Answers, Room, Turns}
 use Rattle.records.specs.declared.session.Taken.{Taken}

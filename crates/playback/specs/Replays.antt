@@ -1,5 +1,5 @@
 -- 01, 'The replay program': the whole output as a function of the whole input, both as bytes.
-use mathlib.Core.Bool.{Bool, true, false, cond}
+use mathlib.Core.Bool.{Bool, false, cond}
 use mathlib.Core.List.{List, [], _∷_, _++_}
 use Prim.Native.Nat.{ℕ, suc}
 use lib.Dec.{ltb, eqb}
@@ -13,7 +13,6 @@ use Rattle.records.specs.Sessions.{lineOf}
 use Rattle.records.specs.declared.session.Session.{Session}
 use Rattle.records.specs.declared.session.Reply.{Reply}
 use Rattle.records.specs.declared.session.Reply.the-variants as Reply
-use Rattle.records.specs.declared.session.Taken.{Taken}
 
 -- Each output gives `y`, value, 1 for settled or 0.
 unfoldable pub outputLine : ℤ → Bool → List ℕ

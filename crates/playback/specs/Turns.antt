@@ -1,6 +1,6 @@
 -- The driver's inner calls: a run of `x` lines taken as one block, and the bytes up to a line's end.
 use mathlib.Core.Path.{_≡_}
-use mathlib.Core.Bool.{Bool, true, false, cond}
+use mathlib.Core.Bool.{true}
 use mathlib.Core.List.{List, [], _∷_, _++_}
 use Prim.Native.Nat.{ℕ, _+_, _-_, _*_, _≤_, _<_}
 use lib.Dec.{eqb}
@@ -14,7 +14,6 @@ use Rattle.playback.specs.Places.{Place, raised, replyBytes, givenBy, go
 use Rattle.records.specs.declared.parse.Record.the-variants.{Sample}
 use Rattle.playback.specs.declared.samples.Found.{Found}
 use Rattle.playback.specs.declared.samples.Found.the-variants as Found
-use Rattle.records.specs.declared.session.Session.{Session}
 use Rattle.records.specs.declared.session.Taken.{Taken}
 use Rattle.cic.specs.declared.state.Cic.{Cic}
 use Rattle.playback.specs.declared.driver.Replay.{Replay}

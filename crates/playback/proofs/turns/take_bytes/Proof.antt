@@ -1,4 +1,4 @@
-use lib.ListN.{length-take, take, length}
+use lib.ListN.{length-take, length}
 use mathlib.Core.Path.{_≡_, refl, sym}
 use native.Mathlib.Omega.{arith}
 use borrow.Author.Tests.{not-true, not-false}
