@@ -6,6 +6,14 @@
 import sys
 
 WIDTH, HEIGHT, EDGE = 900, 320, 46
+MEANING = {
+    "10": "CIC order above 8",
+    "11": "comb delay 0 or above 8",
+    "12": "rate above 65,535",
+    "70": "malformed line",
+    "71": "no `cic` line yet, or a second one",
+    "72": "line over 64 bytes",
+}
 
 
 def read(text):
@@ -16,7 +24,7 @@ def read(text):
         if fields[0] == "y":
             outputs.append((int(fields[1]), fields[2] == "1"))
         elif fields[0] == "bad":
-            message = "refused: line %s, number %s" % (fields[1], fields[2])
+            message = "refused at line %s: %s, %s" % (fields[1], fields[2], MEANING.get(fields[2], "no number of the program's"))
         elif fields[0] == "end":
             message = "%s outputs" % fields[1]
     return outputs, message
@@ -30,6 +38,17 @@ def scales(values):
     return (lambda i: EDGE + step * (i + 0.5)), (lambda v: HEIGHT - EDGE - (HEIGHT - 2 * EDGE) * (v - low) / span), step, low, high
 
 
+def unsettled(outputs):
+    """The stretches of outputs that are not to be believed, as (first, behind the last)."""
+    first = None
+    for i, (_, settled) in enumerate(outputs + [(0, True)]):
+        if not settled and first is None:
+            first = i
+        elif settled and first is not None:
+            yield first, i
+            first = None
+
+
 def text(x, y, words, anchor="start", size=13):
     return '<text x="%.1f" y="%.1f" font-family="sans-serif" font-size="%d" text-anchor="%s">%s</text>' % (x, y, size, anchor, words)
 
@@ -38,21 +57,19 @@ def draw(outputs, message):
     at, level, step, low, high = scales([v for v, _ in outputs])
     parts = ['<svg xmlns="http://www.w3.org/2000/svg" width="%d" height="%d">' % (WIDTH, HEIGHT)]
     parts.append('<rect width="%d" height="%d" fill="white"/>' % (WIDTH, HEIGHT))
-    for i, (_, settled) in enumerate(outputs):
-        if not settled:
-            parts.append(
-                '<rect x="%.1f" y="%d" width="%.1f" height="%d" fill="#f3c9a5"/>' % (at(i) - step / 2, EDGE, step, HEIGHT - 2 * EDGE)
-            )
+    for first, stop in unsettled(outputs):
+        place = (at(first) - step / 2, EDGE, step * (stop - first), HEIGHT - 2 * EDGE)
+        parts.append('<rect x="%.1f" y="%d" width="%.1f" height="%d" fill="#f3c9a5"/>' % place)
     parts.append('<rect x="%d" y="%d" width="%d" height="%d" fill="none" stroke="#888"/>' % (EDGE, EDGE, WIDTH - 2 * EDGE, HEIGHT - 2 * EDGE))
     if outputs:
         points = " ".join("%.1f,%.1f" % (at(i), level(v)) for i, (v, _) in enumerate(outputs))
         parts.append('<polyline points="%s" fill="none" stroke="#1f4e79" stroke-width="1.4"/>' % points)
         parts.append(text(EDGE, EDGE - 6, str(high), size=11))
         parts.append(text(EDGE, HEIGHT - EDGE + 14, str(low), size=11))
-    unsettled = sum(not settled for _, settled in outputs)
+    shaded = sum(not settled for _, settled in outputs)
     parts.append(text(WIDTH - EDGE, HEIGHT - 12, message, "end"))
-    if unsettled:
-        parts.append(text(WIDTH - EDGE, EDGE - 6, "shaded: %d outputs not to be believed" % unsettled, "end", 11))
+    if shaded:
+        parts.append(text(WIDTH - EDGE, EDGE - 6, "shaded: %d outputs not to be believed" % shaded, "end", 11))
     return "\n".join(parts + ["</svg>", ""])
 
 

@@ -1,11 +1,13 @@
 #!/usr/bin/env python3
-"""Holds the replay program against model.py on generated inputs, good and damaged: read whole, in random parts, byte by byte.
+"""Holds the replay program against model.py on generated inputs, good and damaged: each whole or in random parts, and byte by byte.
 
     python3 samples/fuzz.py [COUNT] [PROGRAM]     (20000 inputs; samples/replay)
 
-A pipe in packet mode gives each write to one read, so the cuts are where they are drawn. Tests of a live pipe, and of a read and
-a write that fail, come first.
+A pipe in packet mode gives each write to one read, so the cuts are where they are drawn. The recordings beside this file, a live
+pipe, and reads and writes that fail come first.
 """
+import functools
+import multiprocessing
 import os
 import random
 import subprocess
@@ -26,12 +28,12 @@ def number(rng):
     return rng.choice(["", "-", "+1", "01", "-0", "00", "1e3", " 1", "1 ", "0x1", "9" * rng.randint(1, 60)])
 
 
-def line(rng):
-    kind = rng.random()
+def line(rng, wild):
+    kind = rng.random() * (1 if wild else 0.92)
     if kind < 0.86:
         return "x\t" + str(rng.randint(-(2 ** rng.randint(0, 31)), 2 ** rng.randint(0, 31) - 1))
     if kind < 0.90:
-        return "rate\t%d" % rng.choice([0, 0, 1, 2, 3, 7, rng.randint(0, 70000)])
+        return "rate\t%d" % rng.choice([0, 0, 1, 2, 3, 7, rng.randint(0, 70000 if wild else 65535)])
     if kind < 0.92:
         return "clear"
     if kind < 0.97:
@@ -54,22 +56,25 @@ def damaged(rng, data):
 
 
 def generated(rng):
-    order, delay = rng.choice([0, 1, 1, 2, 3, 3, 5, 8, 9]), rng.choice([1, 1, 1, 2, 3, 8, 0])
-    head = ["cic\t%d\t%d\t%d" % (order, delay, rng.choice([0, 0, 1, 2, 3, 15, 63]))] if rng.random() < 0.95 else []
-    lines = head + [line(rng) for _ in range(rng.choice([0, 1, 3, 10, 40, 200]))]
+    """Half of the inputs are drawn valid, half wild; three in eight of each are then damaged."""
+    wild = rng.random() < 0.5
+    order, delay = rng.choice([0, 1, 1, 2, 3, 3, 5, 8] + [9] * wild), rng.choice([1, 1, 1, 2, 3, 8] + [0] * wild)
+    head = [] if wild and rng.random() < 0.1 else ["cic\t%d\t%d\t%d" % (order, delay, rng.choice([0, 0, 1, 2, 3, 15, 63]))]
+    lines = head + [line(rng, wild) for _ in range(rng.choice([0, 1, 3, 10, 40, 200]))]
     data = "".join(l + "\n" for l in lines).encode()
     for _ in range(rng.choice([0, 0, 0, 0, 0, 1, 1, 2])):
         data = damaged(rng, data)
     return data
 
 
+def singly(data):
+    return [data[i:i + 1] for i in range(len(data))]
+
+
 def cuts(rng, data):
-    """The parts in which the program is to read the data."""
-    kind = rng.random()
-    if kind < 0.4:
+    """The parts in which the program is to read the data; none for the whole."""
+    if rng.random() < 0.3:
         return None
-    if kind < 0.6:
-        return [data[i:i + 1] for i in range(len(data))]
     parts, at = [], 0
     while at < len(data):
         size = rng.choice([1, 2, 5, 64, 65, 66, 500, 4000])
@@ -93,6 +98,13 @@ def answered(program, data, parts):
     return run.communicate()[0]
 
 
+def recorded(program):
+    """Each recording gives the output that stands beside it."""
+    for name in ["steady", "torsion", "pulled_plug"]:
+        with open(os.path.join(HERE, name + ".txt"), "rb") as given, open(os.path.join(HERE, name + ".out"), "rb") as want:
+            assert subprocess.run([program], stdin=given, stdout=subprocess.PIPE).stdout == want.read(), name
+
+
 def live(program):
     """What has been answered is there before more is asked for; a line is refused at its 65th byte, the pipe still open."""
     run = subprocess.Popen([program], stdin=subprocess.PIPE, stdout=subprocess.PIPE, bufsize=0)
@@ -104,28 +116,57 @@ def live(program):
     assert run.stdout.readline() == b"bad\t4\t72\n" and run.wait() == 0
     run.stdin.close()
     run.stdout.close()
+
+
+def failing(program):
+    """A read or a write that fails stops the program, and it says no `end`; what it answered before stays."""
     run = subprocess.Popen([program], stdin=subprocess.DEVNULL, stdout=subprocess.PIPE, preexec_fn=lambda: os.close(0))
-    assert run.communicate()[0] == b"", "a failed read must give no `end`"
+    assert run.communicate()[0] == b""
+    into, out_of = os.pipe2(os.O_NONBLOCK)
+    os.write(out_of, b"cic\t0\t1\t0\nx\t5\nx")
+    run = subprocess.Popen([program], stdin=into, stdout=subprocess.PIPE)
+    assert run.communicate(timeout=60)[0] == b"y\t5\t1\n"
+    os.close(out_of)
+    os.close(into)
     with open("/dev/full", "wb") as full:
         run = subprocess.Popen([program], stdin=subprocess.PIPE, stdout=full, bufsize=0)
         run.stdin.write(b"cic\t0\t1\t0\nx\t5\n")
-        assert run.wait(timeout=60) == 0, "a failed write must stop the program"
+        assert run.wait(timeout=60) == 0
         run.stdin.close()
+    data = b"cic\t0\t1\t0\n" + b"x\t5\n" * 20000
+    into, out_of = os.pipe2(os.O_NONBLOCK)
+    run = subprocess.run([program], input=data, stdout=out_of, timeout=60)
+    os.close(out_of)
+    with open(into, "rb") as left:
+        got = left.read()
+    assert 0 < len(got) < 20000 * 6 and replay(data).startswith(got)
+
+
+def tried(program, i):
+    """Input i: whether it goes to the end or is refused, and where the program and the model differ."""
+    rng = random.Random("2026 %d" % i)
+    data = generated(rng)
+    want = replay(data)
+    for parts in [cuts(rng, data), singly(data)]:
+        got = answered(program, data, parts)
+        if want != got:
+            differ = "input %d differs: %r in %s parts\nwant %r\ngot  %r" % (i, data, parts and len(parts), want[-200:], got[-200:])
+            return b"bad", differ
+    return want.split(b"\n")[-2][:3], ""
 
 
 def main(count, program):
+    recorded(program)
     live(program)
-    rng = random.Random(2026)
+    failing(program)
     kinds = {b"end": 0, b"bad": 0}
-    for i in range(count):
-        data = generated(rng)
-        parts = cuts(rng, data)
-        want, got = replay(data), answered(program, data, parts)
-        if want != got:
-            print("input %d differs: %r in %s parts\nwant %r\ngot  %r" % (i, data, parts and len(parts), want[-200:], got[-200:]))
-            return 1
-        kinds[want.split(b"\n")[-2][:3]] += 1
-    print("%d inputs, %d to the end and %d refused: 0 differ" % (count, kinds[b"end"], kinds[b"bad"]))
+    with multiprocessing.Pool() as pool:
+        for kind, differ in pool.imap_unordered(functools.partial(tried, program), range(count), 20):
+            if differ:
+                print(differ)
+                return 1
+            kinds[kind] += 1
+    print("%d inputs, each in parts and byte by byte, %d to the end and %d refused: 0 differ" % (count, kinds[b"end"], kinds[b"bad"]))
     return 0
 
 

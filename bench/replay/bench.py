@@ -3,9 +3,9 @@
 
     rt check replay && python3 bench/replay/bench.py
 
-Wants rustc, and valgrind for the instructions. Programs are compiled for x86-64. On another processor the time under an emulator
-says nothing, so the program is lowered again, its LLVM module compiled for this processor by the toolchain's own clang at -O3,
-and both programs run natively: the same module, the same compiler, the same flags, another back end.
+Wants rustc. Programs are compiled for x86-64. On another processor their instructions are counted under an emulator (../x86.py says
+what that wants); the time there says nothing, so for the bytes a second the program's LLVM module is compiled for this processor by
+the toolchain's own clang at -O3, and both programs run natively: the same module and flags, another back end.
 """
 import os
 import platform
@@ -18,7 +18,10 @@ import tempfile
 
 HERE = os.path.dirname(os.path.abspath(__file__))
 ROOT = os.path.dirname(os.path.dirname(HERE))
-LIBRARIES = ["records", "text", "words", "blocks", "sums", "cic"]
+sys.path.insert(0, os.path.dirname(HERE))
+import x86
+
+LIBRARIES = ["playback", "records", "text", "words", "blocks", "sums", "cic"]
 KIT_LIBRARIES = ["std", "check", "io", "libc"]
 WRAPPER = """#!/bin/sh
 case " $* " in *" -O3 "*) cp module.bc "%s/module.bc" ;; esac
@@ -28,9 +31,7 @@ exec "%s/bin/clang" "$@"
 
 def retargeted(work):
     """The program compiled for this processor."""
-    kit = os.path.dirname(os.path.dirname(subprocess.check_output(["rt", "doc"], text=True).strip()))
-    own = os.path.join(kit, "on", platform.machine())
-    tools = os.path.join(own, "toolchain")
+    kit, tools = x86.kit(), x86.tools()
     shadow = os.path.join(work, "toolchain")
     os.makedirs(os.path.join(shadow, "bin"))
     os.symlink(os.path.join(tools, "lib"), os.path.join(shadow, "lib"))
@@ -44,7 +45,8 @@ def retargeted(work):
     for name, text in [("stdin", ""), ("stdout", "end\t0\n")]:
         with open(os.path.join(work, name), "w") as out:
             out.write(text)
-    words = [os.path.join(own, "bin", "rattle-cases"), "--toolchain", shadow, "--stdin", os.path.join(work, "stdin"), "--stdout", os.path.join(work, "stdout")]
+    words = [os.path.join(os.path.dirname(tools), "bin", "rattle-cases"), "--toolchain", shadow]
+    words += ["--stdin", os.path.join(work, "stdin"), "--stdout", os.path.join(work, "stdout")]
     words += [os.path.join(ROOT, "crates", "replay", "src", "main.rt"), "--crate-name", "replay"]
     for name in KIT_LIBRARIES:
         words += ["--lib", "%s=%s" % (name, os.path.join(kit, "libs", name, "src", "lib.rt"))]
@@ -52,7 +54,8 @@ def retargeted(work):
         words += ["--lib", "%s=%s" % (name, os.path.join(ROOT, "crates", name, "src", "lib.rt"))]
     subprocess.run(words, check=True, stdout=subprocess.DEVNULL)
     target = ["--target=%s-unknown-linux-gnu" % platform.machine(), "-O3", "-Wno-override-module", "-fPIE"]
-    subprocess.run([os.path.join(tools, "bin", "clang")] + target + ["-x", "ir", os.path.join(work, "module.bc"), "-c", "-o", os.path.join(work, "replay.o")], check=True, stderr=subprocess.DEVNULL)
+    words = [os.path.join(tools, "bin", "clang")] + target + ["-x", "ir", os.path.join(work, "module.bc"), "-c"]
+    subprocess.run(words + ["-o", os.path.join(work, "replay.o")], check=True, stderr=subprocess.DEVNULL)
     program = os.path.join(work, "replay")
     subprocess.run(["cc", "-o", program, os.path.join(work, "replay.o")], check=True)
     return program
@@ -83,11 +86,20 @@ def best(program, path):
     return min(times)
 
 
-def instructions(program, path):
-    with open(path, "rb") as recorded:
-        words = ["valgrind", "--tool=callgrind", "--callgrind-out-file=/dev/null", program]
-        said = subprocess.run(words, stdin=recorded, stdout=subprocess.DEVNULL, stderr=subprocess.PIPE, text=True).stderr
-    return next((int(l.split(":")[1].split()[0].replace(",", "")) for l in said.split("\n") if "Collected" in l), 0)
+def instructions(program, plugin, path, want):
+    with open(path, "rb") as recorded, tempfile.TemporaryFile() as gave:
+        count = x86.counts(program, [], plugin, recorded, gave)[-1]
+        gave.seek(0)
+        if gave.read() != want:
+            sys.exit("%s gives something else under the emulator" % program)
+    return count
+
+
+def emulated(work):
+    """The plugin that counts, the program as it is, and the twin for the same processor."""
+    twin = os.path.join(work, "twin_x86")
+    x86.rust(os.path.join(HERE, "twin.rs"), twin, work)
+    return x86.counter(work), [os.path.join(ROOT, "target", "bin", "replay"), twin]
 
 
 def memory(program, path):
@@ -102,27 +114,33 @@ def memory(program, path):
     return peak
 
 
+def measure(rate, work, native, plugin, counted):
+    path, small = os.path.join(work, "recording"), os.path.join(work, "small")
+    size = recording(path, rate, 20_000_000)
+    recording(small, rate, 2_000_000)
+    outputs = [subprocess.run([p], stdin=open(path, "rb"), stdout=subprocess.PIPE).stdout for p in native]
+    if outputs[0] != outputs[1]:
+        sys.exit("the two differ at rate %d" % rate)
+    fast = [best(p, path) for p in native]
+    print("rate %2d, %d bytes" % (rate, size))
+    print("  proved %.0f MB/s, Rust %.0f MB/s, time %.2f of the Rust's" % (size / fast[0] / 1e6, size / fast[1] / 1e6, fast[0] / fast[1]))
+    if counted:
+        a, b = [instructions(p, plugin, path, outputs[0]) for p in counted]
+        print("  x86-64 instructions a byte under the emulator: proved %.1f, Rust %.1f, %.2f of the Rust's" % (a / size, b / size, a / b))
+    print("  peak memory of the proved program: %d KB on 2 MB, %d KB on 20 MB" % (memory(native[0], small), memory(native[0], path)))
+
+
 def main():
     work = tempfile.mkdtemp()
     try:
-        proved = os.path.join(ROOT, "target", "bin", "replay") if platform.machine() == "x86_64" else retargeted(work)
+        here = platform.machine() == "x86_64"
+        proved = os.path.join(ROOT, "target", "bin", "replay") if here else retargeted(work)
         twin = os.path.join(work, "twin")
-        subprocess.run(["rustc", "--edition", "2021", "-C", "opt-level=3", "-o", twin, os.path.join(HERE, "twin.rs")], check=True)
-        print("processor %s" % platform.machine())
+        subprocess.run([x86.RUSTC, "--edition", "2021", "-C", "opt-level=3", "-o", twin, os.path.join(HERE, "twin.rs")], check=True)
+        plugin, counted = (None, []) if here else emulated(work)
+        print("processor %s, %s" % (platform.machine(), subprocess.check_output([x86.RUSTC, "--version"], text=True).strip()))
         for rate in [0, 63]:
-            path = os.path.join(work, "recording")
-            size = recording(path, rate, 20_000_000)
-            outputs = [subprocess.run([p], stdin=open(path, "rb"), stdout=subprocess.PIPE).stdout for p in [proved, twin]]
-            if outputs[0] != outputs[1]:
-                sys.exit("the two differ at rate %d" % rate)
-            fast = [best(p, path) for p in [proved, twin]]
-            print("rate %2d, %d bytes: proved %.0f MB/s, Rust %.0f MB/s, time %.2f of the Rust's" % (rate, size, size / fast[0] / 1e6, size / fast[1] / 1e6, fast[0] / fast[1]))
-            if shutil.which("valgrind"):
-                count = [instructions(p, path) for p in [proved, twin]]
-                print("         instructions a byte: proved %.1f, Rust %.1f, %.2f of the Rust's" % (count[0] / size, count[1] / size, count[0] / count[1]))
-            small = os.path.join(work, "small")
-            recording(small, rate, 2_000_000)
-            print("         peak memory of the proved program: %d KB on 2 MB, %d KB on 20 MB" % (memory(proved, small), memory(proved, path)))
+            measure(rate, work, [proved, twin], plugin, counted)
     finally:
         shutil.rmtree(work)
 

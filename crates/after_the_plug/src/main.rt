@@ -1,5 +1,5 @@
-// The example of README.md: a filter of order 3 at R = 4 runs, the encoder's plug is pulled and pushed back, the rate is
-// set anew, and the outputs that may be believed are printed.
+// The example of README.md: a filter of order 3 at R = 4 runs, the encoder's plug is pulled and pushed back, the rate
+// is set anew, and the outputs that may be believed are printed.
 use cic::runs::Wrote;
 use cic::runs::settled_part;
 use cic::state::Cic;

@@ -1,11 +1,10 @@
-// Runs the table of cases on standard input (document 01, 'The replay program') through the proved replay, whole and in parts
-// of every size up to 70 bytes, and prints how many differ.
+// Runs the table of cases on standard input (document 01, 'The replay program') through the proved replay, whole and
+// in parts of every size up to 70 bytes, and prints how many differ.
 use cases::text::report;
-use records::driver::Replay;
-use records::driver::replay_whole;
+use playback::driver::Replay;
+use playback::driver::replay_whole;
 use text::parts::part_end;
 use words::unsigned::add_u64;
-ghost use mathlib.Core.Path.{_≡_};
 ghost use Prim.Native.Nat.{_≤_, _<_, _+_};
 ghost use lib.ListN.{length};
 
@@ -116,7 +115,8 @@ struct Walked {
     tally: Tally,
 }
 
-// The line of the table at from, which is below its length: a comment, or a case's input with what it must give under it.
+// The line of the table at from, which is below its length: a comment, or a case's input with what it must give under
+// it.
 fn walk(
     table: &[u8],
     from: usize,

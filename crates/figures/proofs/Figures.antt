@@ -10,7 +10,7 @@ use Rattle.text.specs.Numbers.{digitsFrom, leadingOf, plainOf, numberOf, spelt}
 use Rattle.text.specs.Parts.{parted}
 use Rattle.records.specs.Lines.{same, nameOf, recordOf}
 use Rattle.records.specs.Sessions.{takeOf, lineOf}
-use Rattle.records.specs.Replays.{outputLine, endLine, badLine, replayFrom, replay}
+use Rattle.playback.specs.Replays.{outputLine, endLine, badLine, replayFrom, replay}
 use Rattle.dsm.specs.Modulator.{accumulated, carries, combined, retaining, output, keeping, outOf, nextOf}
 use Rattle.unwrap.specs.Phases.{differenceOf, turnsOf}
 use Rattle.figures.specs.Table.{after, computed, table, Figures}

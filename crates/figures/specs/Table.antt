@@ -12,7 +12,7 @@ use Rattle.sums.specs.Machine.{Output}
 use Rattle.sums.specs.State.{State}
 use Rattle.sums.specs.Calls.{newState, resumeState}
 use Rattle.sums.specs.Runs.{outputs, risings}
-use Rattle.records.specs.Replays.{replay}
+use Rattle.playback.specs.Replays.{replay}
 use Rattle.dsm.specs.Totals as Modulator
 use Rattle.unwrap.specs.declared.unwrapper.Unwrapper.{Unwrapper}
 use Rattle.unwrap.specs.Phases.{differenceOf, signOf, grown, turnsOf}

@@ -17,7 +17,7 @@ use Rattle.text.specs.Parts.{parted, behind, count, endOf}
 use Rattle.text.proofs.Parting.{parted-length, end-high, end-parted}
 use Rattle.text.specs.declared.numbers.Number.{Number}
 use Rattle.text.specs.declared.numbers.Number.the-variants.{Plus, Minus, Wrong}
-use Rattle.words.specs.Words.{wrap, word}
+use Rattle.words.specs.Words.{wrap}
 use Rattle.words.proofs.Reading.{word-is}
 use Rattle.records.specs.Lines.{same, naturalOf, integerOf, withNatural, fieldAt, filledOf, nameOf, wantedOf, shapedOf, fieldsRecord, recordOf}
 use Rattle.records.specs.Fields.{Reads}

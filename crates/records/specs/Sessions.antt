@@ -1,5 +1,5 @@
 -- 01, 'The replay program', what a line does and what it is answered. A line is tested for 72, 70, 71, and then the filter tests.
-use mathlib.Core.Bool.{Bool, true, false, cond}
+use mathlib.Core.Bool.{true, cond}
 use mathlib.Core.List.{List}
 use mathlib.Core.Option.{Option, none, some}
 use Prim.Native.Nat.{ℕ, zero, suc}

@@ -1,9 +1,4 @@
-// The replay language on lent slices (document 01, 'The replay program').
-// Callers cite `replay` of specs/Replays, the whole output as a function of the whole input; `recordOf` of specs/Lines, `lineOf`
-// of specs/Sessions for a line alone; `fedOf`, `bytesOf` and `finishBytes` of specs/Places for an input in parts.
-pub mod answers;
-pub mod driver;
+// The replay program's records (document 01, 'The replay program'): a line read, and what it does to the filter.
+// Callers cite `recordOf` of specs/Lines and `lineOf` of specs/Sessions.
 pub mod parse;
-mod samples;
 pub mod session;
-mod turns;

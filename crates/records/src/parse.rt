@@ -78,6 +78,7 @@ fn wanted(name: Name) -> usize
     }
 }
 
+// A number within u32.
 fn natural_of(n: Number) -> Natural
     ensures { λ r. ⌜ r ≡ naturalOf n ⌝ }
 {
@@ -94,7 +95,8 @@ fn natural_of(n: Number) -> Natural
     }
 }
 
-pub(crate) fn integer_of(n: Number) -> Integer
+// A number within i32.
+pub fn integer_of(n: Number) -> Integer
     ensures { λ r. ⌜ r ≡ integerOf n ⌝ }
 {
     match n {

@@ -29,7 +29,7 @@ pub struct Taken {
     pub reply: Reply,
 }
 
-pub(crate) fn refused(s: Session, number: u32) -> Taken
+fn refused(s: Session, number: u32) -> Taken
     ensures { λ r. ⌜ r ≡ refuse s number ⌝ }
 {
     Taken {

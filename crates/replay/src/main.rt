@@ -1,12 +1,12 @@
-// The replay program (document 01): records from standard input, answers to standard output. What it works out is the library's
-// (crates/records); here are the reads and the writes. What a read brings is answered before the next read. A read or a write
-// that fails ends the program, and nothing further is written.
-use records::driver::Fed;
-use records::driver::Replay;
+// The replay program (document 01): records from standard input, answers to standard output. What it works out is the
+// library's (crates/playback); here are the reads and the writes. What a read brings is answered before the next read.
+// A read or a write that fails ends the program, and nothing further is written.
+use playback::driver::Fed;
+use playback::driver::Replay;
 ghost use mathlib.Core.Path.{_≡_};
 ghost use Prim.Native.Nat.{_≤_, _<_};
 ghost use lib.ListN.{length};
-ghost use Rattle.records.specs.Places.{placeOf, replayOf, fedOf, bytesOf};
+ghost use Rattle.playback.specs.Places.{placeOf, replayOf, fedOf, bytesOf};
 
 // A replay after a read: whether to read on, and whether the input is over.
 struct Pumped {

@@ -6,9 +6,9 @@ use borrow.Rule.Slice.PartMut.{putMid, same-len-mid}
 use mathlib.Core.Path.{_≡_, refl, ap, _∙_}
 use native.Mathlib.Omega.{arith}
 use borrow.Author.Needs.{needs}
-use Rattle.records.specs.Places.{placeOf, bytesOf, finishBytes, feedNumber, answerNumber}
-use Rattle.records.specs.declared.driver.Fed.{Fed}
-use Rattle.records.proofs.Feeding.{count-fits}
+use Rattle.playback.specs.Places.{placeOf, bytesOf, finishBytes, feedNumber, answerNumber}
+use Rattle.playback.specs.declared.driver.Fed.{Fed}
+use Rattle.playback.proofs.Feeding.{count-fits}
 use Rattle.compare_replay.proofs.in_parts.Statement.{statement}
 use Rattle.compare_replay.proofs.in_parts.Tie as tie
 

@@ -1,9 +1,9 @@
 use mathlib.Core.Path.{sym}
 use lib.Seq.{length-take-le}
 use borrow.Author.Needs.{needs}
-use Rattle.records.specs.Places.{feedNumber}
-use Rattle.records.specs.Replays.{replay}
-use Rattle.records.proofs.Feeding.{count-fits}
+use Rattle.playback.specs.Places.{feedNumber}
+use Rattle.playback.specs.Replays.{replay}
+use Rattle.playback.proofs.Feeding.{count-fits}
 use Rattle.compare_replay.proofs.run_case.Statement.{statement}
 use Rattle.compare_replay.proofs.run_case.Tie as tie
 

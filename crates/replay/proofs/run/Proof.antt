@@ -2,8 +2,8 @@ use lib.Seq.{length-take-le}
 use mathlib.Core.Path.{_≡_, refl, sym}
 use lib.ListN.{length}
 use borrow.Author.Needs.{needs}
-use Rattle.records.specs.Places.{answerNumber, finishBytes, placeOf}
-use Rattle.records.proofs.Feeding.{count-fits}
+use Rattle.playback.specs.Places.{answerNumber, finishBytes, placeOf}
+use Rattle.playback.proofs.Feeding.{count-fits}
 use Rattle.replay.proofs.run.Statement.{statement}
 use Rattle.replay.proofs.run.Tie as tie
 

@@ -1,9 +1,9 @@
 use mathlib.Core.Path.{ap}
 use native.Mathlib.Omega.{arith}
 use borrow.Author.Needs.{needs}
-use Rattle.records.specs.Places.{placeOf, bytesOf, feedNumber}
-use Rattle.records.specs.declared.driver.Fed.{Fed}
-use Rattle.records.proofs.Feeding.{count-fits, feed-takes}
+use Rattle.playback.specs.Places.{placeOf, bytesOf, feedNumber}
+use Rattle.playback.specs.declared.driver.Fed.{Fed}
+use Rattle.playback.proofs.Feeding.{count-fits, feed-takes}
 use Rattle.replay.proofs.take.Statement.{statement}
 use Rattle.replay.proofs.take.Tie as tie
 

@@ -1,0 +1,150 @@
+-- A turn over `x` lines: the block of the filter that they are, and the replay after it.
+use native.Mathlib.Omega.{arith}
+use mathlib.Core.Path.{_≡_, refl, sym, ap, _∙_}
+use mathlib.Core.Bool.{Bool, true, false, _&&_}
+use mathlib.Core.List.{List, [], _∷_, _++_}
+use mathlib.Core.Option.{Option, none, some}
+use Prim.Native.Nat.{ℕ, zero, suc, _+_, _-_, _*_, _≤_}
+use lib.Dec.{eqb}
+use lib.IntN.{ℤ}
+use lib.ListN.{length, take, drop, length-drop}
+use lib.Seq.{length-take-le, take-append-seam}
+use borrow.Author.Tests.{ne-eqb, eqb-true}
+use Rattle.text.specs.Writing.{Wrote}
+use Rattle.text.proofs.Putting.{same}
+use Rattle.sums.specs.Machine.{Output}
+use Rattle.sums.specs.State.{State, refusal}
+use Rattle.sums.specs.Calls.{unless, stepState, stepGiven}
+use Rattle.sums.specs.Runs.{needed, blockNumber, blockState, blockOut, join, values, outputs, after}
+use Rattle.sums.proofs.Steps.{Fit, fitted}
+use Rattle.sums.proofs.Counts.{outputs-length}
+use Rattle.sums.proofs.Blocks.{values-length}
+use Rattle.cic.specs.Reading.{i32Ops, stateOf, cicOf}
+use Rattle.cic.specs.Answers.{wroteOf, decimatedOf}
+use Rattle.cic.specs.declared.state.Cic.{Cic}
+use Rattle.cic.specs.declared.runs.Decimated.{Decimated}
+use Rattle.cic.specs.declared.runs.Wrote.the-variants as Wrote
+use Rattle.playback.specs.Places.{Place, raised, fedOf, bytesOf, placeOf}
+use Rattle.playback.specs.Turns.{Gathers, marked, Room, Turns, blocked}
+use Rattle.records.specs.declared.session.Session.{Session}
+use Rattle.playback.specs.declared.driver.Replay.{Replay}
+use Rattle.playback.proofs.Running.{runs-none}
+use Rattle.playback.proofs.Batches.{between, ran, batch-place, batch-bytes}
+
+-- a turn that does nothing
+pub turn-same : (r : Replay) (input o : List ℕ) (from at : ℕ) → r .len ≤ 64 → from ≤ length input → Room (placeOf r) (drop from input) o at → Turns r input from o at r from at o
+turn-same r input o from at s h room = record { runs = runs-none (placeOf r) (drop from input) o at; room = room; low = omega arith; high = h; small = s }
+
+-- where a block may be taken
+pub all-ready : (going opened : Bool) (len : ℕ) → (going && (opened && eqb len 0)) ≡ true → (going ≡ true) × (opened ≡ true) × (len ≡ 0)
+all-ready true true len e = (refl, refl, eqb-true len 0 e)
+all-ready true false len e = let z : _≡_ {A = ℕ} 0 1 = cc in absurd (omega arith)
+all-ready false opened len e = let z : _≡_ {A = ℕ} 0 1 = cc in absurd (omega arith)
+
+-- what a block's answer tells
+wrote-number : (number n u k m : ℕ) → wroteOf number n u ≡ Wrote.Outputs k m → number ≡ 0
+unfolding wroteOf
+wrote-number zero n u k m e = refl
+wrote-number (suc j) n u k m e = cc
+
+wrote-count : (number n u k m : ℕ) → wroteOf number n u ≡ Wrote.Outputs k m → k ≡ n
+unfolding wroteOf
+wrote-count zero n u k m e = cc
+wrote-count (suc j) n u k m e = cc
+
+wrote-unsettled : (number n u k m : ℕ) → wroteOf number n u ≡ Wrote.Outputs k m → m ≡ u
+unfolding wroteOf
+wrote-unsettled zero n u k m e = cc
+wrote-unsettled (suc j) n u k m e = cc
+
+unless-zero : (k m : ℕ) → unless k k m ≡ 0 → k ≡ 0
+unless-zero zero m e = refl
+unless-zero (suc k) m e = rw (ne-eqb (suc k) 0 (λ z. omega arith)) at e
+
+block-accepted : (s : State ℤ) (xs out : List ℤ) → blockNumber s xs out ≡ 0 → refusal s ≡ 0
+unfolding blockNumber
+block-accepted s xs out e = unless-zero (refusal s) _ e
+
+join-few : (g : Option (Output ℤ)) (l : List (Output ℤ)) → length (join g l) ≤ suc (length l)
+join-few (some y) l = omega arith
+join-few none l = omega arith
+
+outputs-few : (s : State ℤ) (xs : List ℤ) → length (outputs i32Ops s xs) ≤ length xs
+unfolding outputs
+outputs-few s [] = omega arith
+outputs-few s (x ∷ xs) = omega (arith, join-few (stepGiven i32Ops s x) (outputs i32Ops (stepState i32Ops s x) xs), outputs-few (stepState i32Ops s x) xs)
+
+place-is : (s : Session) (n k len : ℕ) (line : List ℕ) (b : Bool) → s .opened ≡ true → b ≡ true → len ≡ 0
+    → _≡_ {A = Place} (record { session = s; lines = n; outputs = k; line = take len line; going = b }) (between (stateOf (s .filter)) n k)
+place-is s n k len line b o e z =
+    ap (λ (x : Bool). record { session = s; lines = n; outputs = k; line = take len line; going = x }) e
+    ∙ ap (λ (x : ℕ). record { session = s; lines = n; outputs = k; line = take x line; going = true }) z
+    ∙ ap (λ (x : Bool). record { session = record { opened = x; filter = s .filter }; lines = n; outputs = k; line = []; going = true }) o
+
+-- the block of the first n samples
+module _ (filter : Cic) (samples given : List ℤ) (n : ℕ) (enough : n ≤ length samples) (long8 : length (filter .integrators) ≡ 8) (long64 : length (filter .combs) ≡ 64) (d : Decimated) (is : d ≡ decimatedOf filter (take n samples) given) (k u : ℕ) (wrote : d .wrote ≡ Wrote.Outputs k u) where
+  told : wroteOf (blockNumber (stateOf filter) (take n samples) given) (needed (length (take n samples)) (filter .countdown) (filter .rate)) (filter .unsettled) ≡ Wrote.Outputs k u
+  told = sym (ap (λ (x : Decimated). x .wrote) is) ∙ wrote
+
+  number-is : blockNumber (stateOf filter) (take n samples) given ≡ 0
+  number-is = wrote-number _ _ _ k u told
+
+  fit : Fit (stateOf filter)
+  fit = fitted (stateOf filter) (block-accepted (stateOf filter) (take n samples) given number-is) long8 long64
+
+  count-is : k ≡ length (outputs i32Ops (stateOf filter) (take n samples))
+  count-is = wrote-count _ _ _ k u told ∙ sym (outputs-length i32Ops (stateOf filter) fit (take n samples))
+
+  pub block-few : k ≤ n
+  block-few = omega (arith, count-is, outputs-few (stateOf filter) (take n samples), length-take-le n samples enough)
+
+  state-is : d .state ≡ cicOf (after i32Ops (stateOf filter) (take n samples))
+  unfolding blockState
+  state-is = ap (λ (x : Decimated). x .state) is ∙ rw number-is
+
+  values-are : take k (blockOut i32Ops (stateOf filter) (take n samples) given) ≡ values (outputs i32Ops (stateOf filter) (take n samples))
+  unfolding blockOut
+  values-are =
+      let ys = outputs i32Ops (stateOf filter) (take n samples) in
+      let e : k ≡ length (values ys) = count-is ∙ sym (values-length ys) in
+      rw (number-is, e) (take-append-seam (values ys) _)
+
+  unsettled-is : u ≡ filter .unsettled
+  unsettled-is = wrote-unsettled _ _ _ k u told
+
+  text-is : marked u (take k (blockOut i32Ops (stateOf filter) (take n samples) given)) ≡ marked (filter .unsettled) (values (outputs i32Ops (stateOf filter) (take n samples)))
+  text-is = rw (values-are, unsettled-is)
+
+  after-is : (a b : ℕ) → _≡_ {A = Place} (record { session = record { opened = true; filter = d .state }; lines = raised a n; outputs = raised b k; line = []; going = true }) (ran (stateOf filter) (take n samples) a b)
+  after-is a b =
+      let m : n ≡ length (take n samples) = sym (length-take-le n samples enough) in
+      ap (λ (f : Cic). record { session = record { opened = true; filter = f }; lines = raised a n; outputs = raised b k; line = []; going = true }) state-is
+      ∙ ap (λ (x : ℕ). between (after i32Ops (stateOf filter) (take n samples)) (raised a x) (raised b k)) m
+      ∙ ap (λ (x : ℕ). between (after i32Ops (stateOf filter) (take n samples)) (raised a (length (take n samples))) (raised b x)) count-is
+
+  module _ (r : Replay) (of : r .session .filter ≡ filter) (input o : List ℕ) (from at : ℕ) (opened : r .session .opened ≡ true) (going : r .going ≡ true) (none : r .len ≡ 0)
+      (lines : r .lines ≤ 18446744073709551615) (outs : r .outputs ≤ 18446744073709551615) (room : Room (placeOf r) (drop from input) o at) (next : ℕ) (g : Gathers input from samples n next) where
+    here : placeOf r ≡ between (stateOf filter) (r .lines) (r .outputs)
+    here = place-is (r .session) (r .lines) (r .outputs) (r .len) (r .line) (r .going) opened going none ∙ ap (λ (f : Cic). between (stateOf f) (r .lines) (r .outputs)) of
+
+    pub turn-block : (t : Replay) → placeOf t ≡ blocked (placeOf r) (d .state) n k → t .len ≡ r .len → (w : ℕ) (o' : List ℕ) → length o' ≡ length o → Wrote o at (marked u (take k (blockOut i32Ops (stateOf filter) (take n samples) given))) w o' → w ≤ at + 16 * k
+        → Turns r input from o at t next w o'
+    turn-block t e z w o' lo wr near =
+        let i : placeOf t ≡ blocked (between (stateOf filter) (r .lines) (r .outputs)) (d .state) n k = e ∙ ap (λ (p : Place). blocked p (d .state) n k) here in
+        let q : placeOf t ≡ ran (stateOf filter) (take n samples) (r .lines) (r .outputs) = i ∙ after-is (r .lines) (r .outputs) in
+        record {
+          runs = record {
+            place = ap (λ (x : Place). fedOf x (drop from input)) here ∙ batch-place (g .lines) (stateOf filter) fit (r .lines) (r .outputs) lines outs ∙ ap (λ (x : Place). fedOf x (drop next input)) (sym q);
+            text = marked (filter .unsettled) (values (outputs i32Ops (stateOf filter) (take n samples)));
+            bytes = ap (λ (x : Place). bytesOf x (drop from input)) here ∙ batch-bytes (g .lines) (stateOf filter) fit (r .lines) (r .outputs) lines outs
+                ∙ ap (λ (x : Place). marked (filter .unsettled) (values (outputs i32Ops (stateOf filter) (take n samples))) ++ bytesOf x (drop next input)) (sym q);
+            wrote = same text-is wr;
+          };
+          room = record {
+            within = omega (arith, room .fits going, block-few, g .far, g .within, length-drop from input);
+            fits = λ y. let m : length (placeOf t .line) ≡ 0 = ap (λ (x : Place). length (x .line)) i in omega (arith, room .fits going, block-few, g .far, g .within, length-drop from input, length-drop next input);
+          };
+          low = omega (arith, g .far);
+          high = g .within;
+          small = omega arith;
+        }

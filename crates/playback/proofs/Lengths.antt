@@ -1,0 +1,138 @@
+-- A line that gives an output has at least 3 bytes: `x`, a tab and a digit. So no line gives more than 4 bytes out for each of its own.
+use native.Mathlib.Omega.{arith}
+use mathlib.Core.Path.{_≡_, refl, sym, _∙_}
+use mathlib.Core.Bool.{Bool, true, false, cond}
+use mathlib.Core.List.{List, [], _∷_}
+use Prim.Native.Nat.{ℕ, _+_, _*_, _≤_}
+use lib.Dec.{eqb, ltb}
+use lib.IntN.{ℤ}
+use lib.ListN.{length}
+use borrow.Author.Tests.{ne-eqb}
+use Rattle.text.specs.Numbers.{numberOf}
+use Rattle.text.specs.Parts.{parted}
+use Rattle.text.proofs.Parting.{parted-total, total}
+use Rattle.blocks.specs.declared.Verdict.{Verdict}
+use Rattle.blocks.specs.declared.Verdict.the-variants as Verdict
+use Rattle.cic.specs.declared.state.Cic.{Cic}
+use Rattle.sums.specs.Machine.{Output}
+use Rattle.sums.specs.State.{State, refusal}
+use Rattle.sums.specs.Calls.{newNumber, newState, rateNumber, rateState, clearState}
+use Rattle.cic.specs.Reading.{i32Ops, stateOf, cicOf}
+use Rattle.blocks.specs.Verdicts.{verdictOf}
+use Rattle.records.specs.Lines.{same, nameOf, naturalOf, withNatural, fieldAt, wantedOf, filledOf, shapedOf, fieldsRecord, recordOf}
+use Rattle.records.specs.Sessions.{refuse, toldBy, ordered, takeOf, lineOf}
+use Rattle.playback.specs.Places.{givenBy, endTaken}
+use Rattle.records.specs.declared.parse.Name.{Name}
+use Rattle.records.specs.declared.parse.Name.the-variants as Name
+use Rattle.records.specs.declared.parse.Natural.{Natural}
+use Rattle.records.specs.declared.parse.Natural.the-variants as Natural
+use Rattle.records.specs.declared.parse.Record.{Record}
+use Rattle.records.specs.declared.parse.Record.the-variants.{Open, Rate, Sample, Clear, Malformed}
+use Rattle.records.specs.declared.session.Session.{Session}
+use Rattle.records.specs.declared.session.Taken.{Taken}
+use Rattle.records.specs.declared.session.Reply.{Reply}
+use Rattle.records.specs.declared.session.Reply.the-variants as Reply
+
+abbrev isSample : Record → Bool
+isSample (Sample v) = true
+isSample (Open n m rate) = false
+isSample (Rate rate) = false
+isSample Clear = false
+isSample Malformed = false
+
+-- only a sample gives an output
+told-none : (s : Session) (f : Cic) (v : Verdict) → givenBy (toldBy s f v .reply) ≡ 0
+told-none s f Verdict.Done = refl
+told-none s f (Verdict.Refused k) = refl
+
+ordered-none : (s : Session) (number : ℕ) (t : State ℤ) → givenBy (ordered s number t .reply) ≡ 0
+ordered-none s number t = told-none s (cicOf t) (verdictOf number)
+
+given-most : (r : Reply) → givenBy r ≤ 1
+given-most Reply.Silent = omega arith
+given-most (Reply.Output y b) = omega arith
+given-most (Reply.Bad k) = omega arith
+
+either : (b : Bool) (x y : Taken) → givenBy (x .reply) ≡ 0 → givenBy (y .reply) ≡ 0 → givenBy (cond b x y .reply) ≡ 0
+either true x y h k = h
+either false x y h k = k
+
+take-none : (s : Session) (r : Record) → isSample r ≡ false → givenBy (takeOf s r .reply) ≡ 0
+unfolding takeOf
+take-none s (Open n m rate) e =
+    let t = newState i32Ops n m rate in
+    either (s .opened) (refuse s 71) (ordered s (newNumber n m rate) t) refl (ordered-none s (newNumber n m rate) t)
+take-none s (Rate rate) e =
+    let f = stateOf (s .filter) in
+    either (s .opened) (ordered s (rateNumber f rate) (rateState i32Ops f rate)) (refuse s 71) (ordered-none s (rateNumber f rate) (rateState i32Ops f rate)) refl
+take-none s (Sample v) e = cc
+take-none s Clear e =
+    let f = stateOf (s .filter) in
+    either (s .opened) (ordered s (refusal f) (clearState i32Ops f)) (refuse s 71) (ordered-none s (refusal f) (clearState i32Ops f)) refl
+take-none s Malformed e = refl
+
+-- which line is a sample
+cic-none : (a b c : Natural) → isSample (withNatural a (λ n. withNatural b (λ m. withNatural c (λ rate. Open n m rate)))) ≡ false
+cic-none (Natural.Within n) (Natural.Within m) (Natural.Within r) = refl
+cic-none (Natural.Within n) (Natural.Within m) Natural.Outside = refl
+cic-none (Natural.Within n) Natural.Outside c = refl
+cic-none Natural.Outside b c = refl
+
+rate-none : (a : Natural) → isSample (withNatural a (λ rate. Rate rate)) ≡ false
+rate-none (Natural.Within n) = refl
+rate-none Natural.Outside = refl
+
+tested : (b : Bool) (r : Record) → isSample r ≡ false → isSample (cond b r Malformed) ≡ false
+tested true r h = h
+tested false r h = refl
+
+never : {A : Type 0} → true ≡ false → A
+never e = let z : _≡_ {A = ℕ} 0 1 = cc in absurd (omega arith)
+
+x-field : (name : List ℕ) (fs : List (List ℕ)) → nameOf name ≡ Name.X → isSample (shapedOf Name.X fs) ≡ true → 4 ≤ total 9 (name ∷ fs)
+unfolding total nameOf same numberOf
+x-field [] fs n e = let z : _≡_ {A = Name} Name.Unknown Name.X = n in let k : _≡_ {A = ℕ} 0 1 = cc in absurd (omega arith)
+x-field (a ∷ name) [] n e = never (sym e)
+x-field (a ∷ name) ([] ∷ []) n e = never (sym e)
+x-field (a ∷ name) ((b ∷ f) ∷ []) n e = omega arith
+x-field (a ∷ name) (f ∷ g ∷ gs) n e =
+    let m : isSample (shapedOf Name.X (f ∷ g ∷ gs)) ≡ false = rw (ne-eqb (length (f ∷ g ∷ gs)) 1 (λ z. omega arith)) in
+    never (sym e ∙ m)
+
+other-name : (k : Name) (fs : List (List ℕ)) → isSample (filledOf k fs) ≡ false → isSample (shapedOf k fs) ≡ false
+other-name k fs h = tested (eqb (length fs) (wantedOf k)) (filledOf k fs) h
+
+shaped-long : (k : Name) (name : List ℕ) (fs : List (List ℕ)) → nameOf name ≡ k → isSample (shapedOf k fs) ≡ true → 4 ≤ total 9 (name ∷ fs)
+shaped-long Name.Cic name fs n e =
+    never (sym e ∙ other-name Name.Cic fs (cic-none (naturalOf (fieldAt fs 0)) (naturalOf (fieldAt fs 1)) (naturalOf (fieldAt fs 2))))
+shaped-long Name.Rate name fs n e = never (sym e ∙ other-name Name.Rate fs (rate-none (naturalOf (fieldAt fs 0))))
+shaped-long Name.X name fs n e = x-field name fs n e
+shaped-long Name.Clear name fs n e = never (sym e ∙ other-name Name.Clear fs refl)
+shaped-long Name.Unknown name fs n e = never (sym e ∙ other-name Name.Unknown fs refl)
+
+fields-long : (ps : List (List ℕ)) → isSample (fieldsRecord ps) ≡ true → 4 ≤ total 9 ps
+fields-long [] e = never (sym e)
+fields-long (name ∷ fs) e = shaped-long (nameOf name) name fs refl e
+
+sample-long : (l : List ℕ) → isSample (recordOf l) ≡ true → 3 ≤ length l
+unfolding recordOf
+sample-long l e = omega (arith, fields-long (parted 9 l) e, parted-total 9 l)
+
+line-given : (s : Session) (l : List ℕ) → 16 * givenBy (lineOf s l .reply) ≤ 4 * (length l + 1)
+unfolding lineOf
+line-given s l = by (ltb 64 (length l))
+  where
+    record-given : (b : Bool) → isSample (recordOf l) ≡ b → 16 * givenBy (takeOf s (recordOf l) .reply) ≤ 4 * (length l + 1)
+    record-given true e = omega (arith, sample-long l e, given-most (takeOf s (recordOf l) .reply))
+    record-given false e = omega (arith, take-none s (recordOf l) e)
+
+    by : (t : Bool) → 16 * givenBy (cond t (refuse s 72) (takeOf s (recordOf l)) .reply) ≤ 4 * (length l + 1)
+    by true = omega arith
+    by false = record-given (isSample (recordOf l)) refl
+
+pub end-given : (s : Session) (l : List ℕ) (b : ℕ) → 16 * givenBy (endTaken s l b .reply) ≤ 4 * (length l + 1)
+end-given s l b = by (eqb b 10)
+  where
+    by : (t : Bool) → 16 * givenBy (cond t (lineOf s l) (refuse s 72) .reply) ≤ 4 * (length l + 1)
+    by true = line-given s l
+    by false = omega arith

@@ -1,0 +1,10 @@
+pub mod Answering
+pub mod Running
+pub mod Batches
+pub mod Gathering
+pub mod Lengths
+pub mod Turning
+pub mod Blocks
+pub mod Wholes
+pub mod Feeding
+pub mod Figures

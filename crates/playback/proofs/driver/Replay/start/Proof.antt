@@ -1,0 +1,20 @@
+use mathlib.Core.Path.{ap}
+use mathlib.Core.Bool.{true, false}
+use lib.ListN.{replicate}
+use borrow.Author.Needs.{needs}
+use Rattle.sums.specs.State.{refusalOf}
+use Rattle.sums.specs.Calls.{newState}
+use Rattle.cic.specs.declared.state.Made.{Made}
+use Rattle.playback.proofs.driver.Replay.start.Statement.{statement}
+use Rattle.playback.proofs.driver.Replay.start.Tie as tie
+
+new-requires : tie.Need-new-requires
+new-requires c κs = search needs
+
+returns : tie.Need-returns
+unfolding newState refusalOf
+returns c =
+    ap (λ (m : Made). record { session = record { opened = false; filter = m .state }; lines = 0; outputs = 0; line = replicate 64 0; len = 0; going = true }) (c .before .new .ensures)
+
+pub start-spec : {M : Type 1} → statement M
+start-spec = tie.close (tie.spec new-requires returns)

@@ -1,0 +1,3 @@
+pub mod Replays
+pub mod Places
+pub mod Turns

@@ -1,0 +1,85 @@
+// The lines of the output, put into a lent buffer at a place where there is room. Each gives the next place.
+use blocks::Verdict;
+use records::session::Reply;
+use text::writing::put_byte;
+use text::writing::put_bytes;
+use text::writing::put_decimal;
+use text::writing::put_signed;
+ghost use mathlib.Core.Path.{_≡_};
+ghost use mathlib.Core.Bool.{true};
+ghost use Prim.Native.Nat.{_+_, _*_, _≤_};
+ghost use lib.ListN.{length};
+ghost use Rattle.text.specs.Writing.{Wrote};
+ghost use Rattle.playback.specs.Replays.{outputLine, endLine, badLine};
+ghost use Rattle.playback.specs.Places.{replyBytes, givenBy, goesOn, answerNumber, over, written};
+
+// How many bytes were written to the front of a lent slice, and whether it was long enough.
+pub struct Written {
+    pub count: usize,
+    pub verdict: Verdict,
+}
+
+// `y`, value, 1 for settled or 0.
+pub(crate) fn put_output(out: &mut [u8], at: usize, value: i32, settled: bool) -> usize
+    requires { ⌜ at + 16 ≤ length (now out) ⌝ }
+    ensures { λ r. ⌜ Wrote (now (out .entry)) at (outputLine value settled) r (now (out .exit)) × (r ≤ at + 16) ⌝ }
+{
+    let a = put_bytes(out, at, b"y\t");
+    let b = put_signed(out, a, value);
+    if settled {
+        return put_bytes(out, b, b"\t1\n");
+    }
+    put_bytes(out, b, b"\t0\n")
+}
+
+// `bad`, line number from 1, refusal number.
+pub(crate) fn put_bad(out: &mut [u8], at: usize, line: u64, number: u32) -> usize
+    requires { ⌜ at + 36 ≤ length (now out) ⌝ }
+    ensures { λ r. ⌜ Wrote (now (out .entry)) at (badLine line number) r (now (out .exit)) × (r ≤ at + 36) ⌝ }
+{
+    let a = put_bytes(out, at, b"bad\t");
+    let b = put_decimal(out, a, line);
+    let c = put_byte(out, b, 9);
+    let d = put_decimal(out, c, number as u64);
+    put_byte(out, d, 10)
+}
+
+// `end` and the count of outputs.
+pub(crate) fn put_end(out: &mut [u8], at: usize, outputs: u64) -> usize
+    requires { ⌜ at + 36 ≤ length (now out) ⌝ }
+    ensures { λ r. ⌜ Wrote (now (out .entry)) at (endLine outputs) r (now (out .exit)) × (r ≤ at + 36) ⌝ }
+{
+    let a = put_bytes(out, at, b"end\t");
+    let b = put_decimal(out, a, outputs);
+    put_byte(out, b, 10)
+}
+
+// What line number `line` is answered.
+pub(crate) fn put_reply(out: &mut [u8], at: usize, line: u64, reply: Reply) -> usize
+    requires { ⌜ at + 36 ≤ length (now out) ⌝ }
+    ensures { λ r. ⌜ Wrote (now (out .entry)) at (replyBytes line reply) r (now (out .exit)) × (r ≤ at + 36) × (goesOn reply ≡ true → r ≤ at + 16 * givenBy reply) ⌝ }
+{
+    match reply {
+        Reply::Silent => at,
+        Reply::Output(value, settled) => put_output(out, at, value, settled),
+        Reply::Bad(number) => put_bad(out, at, line, number),
+    }
+}
+
+// What line number `line` is answered, to the front of out; the rest stays. Refused with 20, nothing written, where out
+// is shorter than 36 bytes, the longest answer.
+pub fn write_reply(line: u64, reply: Reply, out: &mut [u8]) -> Written
+    ensures { λ r. ⌜ (r ≡ written (answerNumber (now (out .entry))) (replyBytes line reply)) × (now (out .exit) ≡ over (answerNumber (now (out .entry))) (replyBytes line reply) (now (out .entry))) ⌝ }
+{
+    if out.len() < 36 {
+        return Written {
+            count: 0,
+            verdict: Verdict::Refused(20),
+        };
+    }
+    let n = put_reply(out, 0, line, reply);
+    Written {
+        count: n,
+        verdict: Verdict::Done,
+    }
+}

@@ -1,0 +1,91 @@
+// Runs of `x` lines: their samples gathered for one block of the filter, and the block's outputs written.
+use crate::answers::put_output;
+use records::parse::Integer;
+use records::parse::integer_of;
+use text::numbers::parsed;
+use text::parts::part_end;
+ghost use Prim.Native.Nat.{_+_, _*_, _≤_};
+ghost use lib.ListN.{length, take};
+ghost use Rattle.text.specs.Writing.{Wrote};
+ghost use Rattle.playback.specs.Turns.{finds, Gathers, marked};
+
+// A whole line that is a sample: its value, and where the next line starts.
+pub enum Found {
+    Sample(i32, usize),
+    Other,
+}
+
+// How many samples were gathered, and where the next line starts.
+pub struct Gathered {
+    pub count: usize,
+    pub next: usize,
+}
+
+fn sample_at(input: &[u8], at: usize) -> Found
+    requires { ⌜ at ≤ length (now input) ⌝ }
+    ensures { λ r. ⌜ finds (now (input .entry)) at r ⌝ }
+{
+    let n = input.len();
+    if n - at < 4 {
+        return Found::Other;
+    }
+    if input[at] != 120 {
+        return Found::Other;
+    }
+    if input[at + 1] != 9 {
+        return Found::Other;
+    }
+    let from = at + 2;
+    let end = part_end(input, from, 10);
+    if n <= end {
+        return Found::Other;
+    }
+    if 62 < end - from {
+        return Found::Other;
+    }
+    let v = integer_of(parsed(&input[from..end]));
+    let Integer::Within(x) = v else {
+        return Found::Other;
+    };
+    Found::Sample(x, end + 1)
+}
+
+// Whole lines that are samples, from a line's start on, as many as there are or as samples has room for.
+pub(crate) fn gather(input: &[u8], from: usize, samples: &mut [i32]) -> Gathered
+    requires { ⌜ (from ≤ length (now input)) × (512 ≤ length (now samples)) ⌝ }
+    ensures { λ r. ⌜ Gathers (now (input .entry)) from (now (samples .exit)) (r .count) (r .next) ⌝ }
+{
+    let mut k: usize = 0;
+    let mut i = from;
+    while k < 512 {
+        let found = sample_at(input, i);
+        let Found::Sample(x, next) = found else {
+            return Gathered { count: k, next: i };
+        };
+        samples[k] = x;
+        i = next;
+        k += 1;
+    }
+    Gathered { count: k, next: i }
+}
+
+// The output lines of a block that gave the first count of given and found so many outputs unsettled before it.
+pub(crate) fn put_outputs(
+    out: &mut [u8],
+    at: usize,
+    given: &[i32],
+    count: usize,
+    unsettled: usize,
+) -> usize
+    requires { ⌜ (count ≤ length (now given)) × (at + 16 * count ≤ length (now out)) ⌝ }
+    ensures { λ r. ⌜ Wrote (now (out .entry)) at (marked unsettled (take count (now (given .entry)))) r (now (out .exit)) × (r ≤ at + 16 * count) ⌝ }
+{
+    let mut w = at;
+    let mut i: usize = 0;
+    while i < count {
+        let y = given[i];
+        w = put_output(out, w, y, unsettled <= i);
+        i += 1;
+    }
+    w
+}
