@@ -108,7 +108,7 @@ module _ {A : Type 0} (o : Ops A) where
       }
 
 -- from input i of xs and an accepted state
-module _ {A : Type 0} (o : Ops A) (xs : List A) (i : ℕ) (s : State A) (f : Fit s) (more : i < length xs) where
+module _ {A : Type 0} (o : Ops A) (xs : List A) (i : ℕ) (s : State A) (f : Fit s) (more : i ≤ length xs) where
   -- the inputs end before the next output
   pub jump-waits : length xs - i ≤ s .countdown → (c : ℕ) → c ≡ s .countdown - (length xs - i) → (h : A) → h ≡ s .hold
       → (is : List A) → is ≡ ran o (s .order) (slice i (length xs) xs) (s .integrators)
@@ -121,7 +121,6 @@ module _ {A : Type 0} (o : Ops A) (xs : List A) (i : ℕ) (s : State A) (f : Fit
       rw (ec, ← l, eh, ei) (record {
         states = ap (after o s) p ∙ w .states;
         outs = ap (outputs o s) p ∙ w .outs;
-        further = more;
         within = omega arith;
         fit = w .fit;
       })
@@ -160,7 +159,6 @@ module _ {A : Type 0} (o : Ops A) (xs : List A) (i : ℕ) (s : State A) (f : Fit
         record {
           states = ap (after o s) there ∙ h .states ∙ ap (λ t. after o t (drop (e + 1) xs)) (sym (tr .state));
           outs = ap (outputs o s) there ∙ h .outs ∙ ap₂ (λ g t. join g (outputs o t (drop (e + 1) xs))) (sym (tr .out)) (sym (tr .state));
-          further = omega arith;
           within = omega (arith, q);
           fit = tr .fit;
         }
