@@ -1,33 +1,31 @@
 -- The loops over a block, turn by turn, from what a step on lent arrays promises; and the two ways to cut a part out of a list.
-use mathlib.Core.Path.{_≡_, refl, sym, ap, subst, _∙_}
+use mathlib.Core.Path.{_≡_, refl, ap, subst, _∙_}
 use mathlib.Core.Bool.{Bool}
-use mathlib.Core.List.{List, [], _∷_}
-use mathlib.Core.Logic.{inl, inr, ⊎-elim}
+use mathlib.Core.List.{List, [], _∷_, _++_}
+use mathlib.Core.Logic.{inl, inr}
 use mathlib.Core.Option.{Option, none, some}
 use Prim.Native.Nat.{ℕ, zero, suc, _+_, _-_, _<_, _≤_}
 use native.Mathlib.Nat.{sub-zero, zero-sub, suc-sub-suc}
 use native.Mathlib.Omega.{arith}
-use lib.IntN.{ℤ}
-use lib.ListN.{length, take, drop, set}
+use lib.IntN.{ℤ, pos}
+use lib.ListN.{length, getD, take, drop, set, replicate}
 use lib.Seq.{slice, take-nil}
 use types.Run.{OneOf}
 use denote.Enum.Declared.{tagOf}
 use Rattle.sums.specs.Machine.{Output}
 use Rattle.sums.specs.State.{State}
-use Rattle.sums.specs.Runs.{dueSample}
-use Rattle.sums.proofs.Steps.{Fit, down, rise-waits-fit, rise-takes-fit}
+use Rattle.sums.proofs.Steps.{Fit}
 use Rattle.sums.proofs.Counts.{outputs-length}
 use Rattle.sums.proofs.Blocks.{Held, held-none, held-room, held-one, end-state, end-count, end-out}
-use Rattle.sums.proofs.Stretches.{ran, jump-waits}
-use Rattle.sums.proofs.Fills.{Filling, filling-due, filling-wait}
+use Rattle.sums.proofs.Stretches.{ran, tops, jump-waits}
+use Rattle.sums.proofs.Fills.{Filling, filling-same, filling-turn, filled-state, filled-count, filled-out}
 use Rattle.cic.specs.declared.steps.Numbers.{Numbers}
 use Rattle.cic.specs.declared.steps.Out.{Out}
 use Rattle.cic.specs.declared.steps.Out.the-variants.{Given}
 use Rattle.cic.specs.Reading.{i32Ops}
 use Rattle.cic.specs.Answers.{outOf}
-use Rattle.cic.specs.Turns.{Drives, Picks, Rises}
-use Rattle.cic.specs.Stretches.{Ring, ringed, Reaches, rested, Rests}
-use Rattle.cic.proofs.Turning.{not-due, is-due}
+use Rattle.cic.specs.Turns.{Drives, Fills}
+use Rattle.cic.specs.Stretches.{Ring, ringed, Reaches, rested, Rests, Climbs, Feeds, Coasts}
 use Rattle.cic.proofs.steps.Out as OutT
 
 -- what an output says of the rule, and what the other tags say
@@ -82,25 +80,38 @@ module _ (n : ℕ) (xs out₀ out : List ℤ) (s₀ : State ℤ) (f : Fit s₀) 
     },
   )
 
--- a turn of the interpolator's loop
-module _ (xs out₀ out : List ℤ) (s₀ s : State ℤ) (k i : ℕ) (a : Filling i32Ops xs out₀ out s₀ s k i) (h : i < length out)
-    (x : ℤ) (next : ℕ) (p : Picks (s .countdown) k xs x next) (t : State ℤ) (y : ℤ) (r : Rises s (dueSample i32Ops (s .countdown) (x ∷ [])) t y) where
-  due : s .countdown ≡ 0 → Filling i32Ops xs out₀ (set out i y) s₀ t next (i + 1)
-  due e =
-      let q = rw (is-due (s .countdown) x (omega arith)) at r in
-      rw (p .due e .1)
-      (filling-due i32Ops xs out₀ s₀ out s t k i a h e x y (p .due e .0)
-      (record { state = q .state; out = q .gives; fit = subst (λ v. Fit v) (sym (q .state)) (rise-takes-fit i32Ops s (a .fit) x e) }))
+-- a turn of the interpolator's loop: the hold's outputs, then a sample
+module _ (n : ℕ) (xs out₀ out : List ℤ) (s₀ : State ℤ) (s : Numbers) (is ks : List ℤ) (at k i : ℕ)
+    (a : Filling i32Ops xs out₀ out s₀ (ringed s is ks at) k i) (g : Ring n at s ks) where
+  tops-of : (e : ℕ) (is' left : List ℤ) → Climbs n (s .hold) i e is out is' left
+      → left ≡ take i out ++ (tops i32Ops (s .order) (replicate (e - i) (s .hold)) is ++ drop e out)
+  tops-of e is' left c = c .wrote ∙ ap (λ m. take i out ++ (tops i32Ops m (replicate (e - i) (s .hold)) is ++ drop e out)) (g .order)
 
-  wait : 0 < s .countdown → Filling i32Ops xs out₀ (set out i y) s₀ t next (i + 1)
-  wait c =
-      let q = rw (not-due (s .countdown) (x ∷ []) c) at r in
-      rw (p .wait c)
-      (filling-wait i32Ops xs out₀ s₀ out s t k i a h y c
-      (record { state = q .state; out = q .gives; fit = subst (λ v. Fit v) (sym (q .state)) (rise-waits-fit i32Ops s (a .fit) c) }))
+  cells-of : (e : ℕ) (is' left : List ℤ) → Climbs n (s .hold) i e is out is' left → is' ≡ ran i32Ops (s .order) (replicate (e - i) (s .hold)) is
+  cells-of e is' left c = c .cells ∙ ap (λ m. ran i32Ops m (replicate (e - i) (s .hold)) is) (g .order)
 
-  pub fill-turn : Filling i32Ops xs out₀ (set out i y) s₀ t next (i + 1)
-  fill-turn = ⊎-elim due wait (down (s .countdown))
+  pub raise-turn : s .countdown < length out₀ - i → (is' left : List ℤ) → Climbs n (s .hold) i (i + s .countdown) is out is' left
+      → (x : ℤ) → x ≡ getD xs k (pos 0) → (t : Numbers) (ks' : List ℤ) (next : ℕ) → Feeds n at s ks x t ks' next
+      → Filling i32Ops xs out₀ left s₀ (ringed t is' ks' next) (k + 1) (i + s .countdown)
+  raise-turn h is' left c x ex t ks' next f =
+      filling-turn i32Ops xs out₀ s₀ out (ringed s is ks at) k i a h left (tops-of (i + s .countdown) is' left c) x ex is' (cells-of (i + s .countdown) is' left c)
+      (ringed t is' ks' next) (f .state is')
+
+  -- the end: the hold's outputs fill the slice
+  module _ (h : length out₀ - i ≤ s .countdown) (t : Numbers) (is' left : List ℤ) (r : Coasts n i s is out t is' left) where
+    pub raise-same : length left ≡ length out₀
+    raise-same = filling-same i32Ops xs out₀ s₀ out (ringed s is ks at) k i a (length out) (a .within) (omega arith) left (tops-of (length out) is' left (r .climb))
+
+    pub raise-ends : Ring n at t ks × Fills s₀ xs out₀ (ringed t is' ks at) k left
+    raise-ends = (
+      rw (r .numbers) (record { order = g .order; few = g .few; short = g .short; inside = g .inside; long = g .long }),
+      record {
+        state = filled-state i32Ops xs out₀ s₀ out (ringed s is ks at) k i a h left (tops-of (length out) is' left (r .climb)) (ringed t is' ks at)
+            (rw (r .numbers, cells-of (length out) is' left (r .climb)));
+        count = filled-count i32Ops xs out₀ s₀ out (ringed s is ks at) k i a h left (tops-of (length out) is' left (r .climb));
+        wrote = filled-out i32Ops xs out₀ s₀ out (ringed s is ks at) k i a h left (tops-of (length out) is' left (r .climb));
+      },
+    )
 
 -- a part taken and dropped is dropped and taken
 pub window : {A : Type 0} (u w : ℕ) (l : List A) → take (w - u) (drop u l) ≡ drop u (take w l)

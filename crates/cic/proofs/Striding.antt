@@ -3,6 +3,7 @@ use mathlib.Core.Path.{_≡_, refl, sym, ap, ap₂, _∙_}
 use mathlib.Core.List.{List}
 use mathlib.Core.Option.{some}
 use Prim.Native.Nat.{ℕ, _+_, _-_, _*_, _<_, _≤_}
+use native.Mathlib.Numerals.{add-one}
 use native.Mathlib.Omega.{arith}
 use lib.Dec.{eqb}
 use lib.IntN.{ℤ, pos}
@@ -16,7 +17,7 @@ use Rattle.cic.specs.declared.steps.Out.the-variants.{Given}
 use Rattle.cic.specs.Reading.{i32Ops}
 use Rattle.cic.specs.Answers.{outOf}
 use Rattle.cic.specs.Turns.{Ready}
-use Rattle.cic.specs.Stretches.{Stores, Follows, Ring, ringed, Reaches}
+use Rattle.cic.specs.Stretches.{Stores, Follows, Ring, ringed, Reaches, Feeds}
 use Rattle.cic.proofs.Turning.{fit}
 
 -- the combs of a state, one step in their rings
@@ -57,6 +58,18 @@ module _ (n at : ℕ) (s : Numbers) (is ks : List ℤ) (r : Ring n at s ks) (ok 
         (ring-gives n at s ks r v y next ks' st f) (ring-leaves n at s ks r v y next ks' st f) eu;
     further = omega arith;
   }
+
+-- the numbers after a sample
+abbrev pub took : Numbers → ℤ → Numbers
+took s y = record { order = s .order; delay = s .delay; rate = s .rate; countdown = s .rate + 1; unsettled = s .unsettled; hold = y }
+
+pub feeds : (n at : ℕ) (s : Numbers) (ks : List ℤ) → Ring n at s ks → (x y : ℤ) (next : ℕ) (a : List ℤ) → Stores n at ks x a y → Follows at (s .delay) next
+    → Feeds n at s ks x (took s y) a next
+feeds n at s ks r x y next a st f = record {
+  ring = record { order = r .order; few = r .few; short = r .short; inside = f .inside; long = ring-long n at s ks r x y next a st f };
+  same = refl;
+  state = λ is. rw (add-one (s .rate), ring-leaves n at s ks r x y next a st f, ring-gives n at s ks r x y next a st f);
+}
 
 -- the last of nine orders: a match has ruled out the others
 abbrev Others : ℕ → Type 0

@@ -1,16 +1,17 @@
 -- Stretches of a block on lent arrays: the integrators over many inputs, the combs in rings, and a state whose delay lines are rings.
 use mathlib.Core.Path.{_≡_}
-use mathlib.Core.List.{List}
+use mathlib.Core.List.{List, _++_}
 use mathlib.Core.Logic.{_⊎_}
 use mathlib.Core.Option.{Option}
 use Prim.Native.Nat.{ℕ, _+_, _-_, _<_, _≤_}
 use lib.IntN.{ℤ}
-use lib.ListN.{length}
+use lib.ListN.{length, take, drop, replicate}
 use lib.Seq.{slice}
 use Rattle.sums.specs.Machine.{Output}
 use Rattle.sums.specs.State.{State}
 use Rattle.sums.proofs.Blocks.{Jump}
-use Rattle.sums.proofs.Stretches.{ran}
+use Rattle.sums.proofs.Stretches.{ran, tops}
+use Rattle.sums.proofs.Fills.{fed}
 use Rattle.sums.proofs.Rings.{swept, handed, turned, stored, lessAt}
 use Rattle.cic.specs.declared.steps.Numbers.{Numbers}
 use Rattle.cic.specs.declared.steps.Out.{Out}
@@ -48,7 +49,7 @@ pub record Reaches (n : ℕ) (xs : List ℤ) (s : State ℤ) (i : ℕ) (t : Numb
   pub jump : Jump i32Ops xs s i (ringed t integrators combs at) gives j
   pub further : i < j
 
--- The numbers after the inputs from i on, which give no output.
+-- The numbers after steps that fall short of the next output or sample.
 abbrev pub rested : Numbers → ℕ → Numbers
 rested s left = record {
   order = s .order;
@@ -62,3 +63,19 @@ rested s left = record {
 pub record Rests (n : ℕ) (xs : List ℤ) (i : ℕ) (s : Numbers) (l : List ℤ) (t : Numbers) (a : List ℤ) : Type 0 where
   pub numbers : t ≡ rested s (length xs - i)
   pub cells : a ≡ ran i32Ops n (slice i (length xs) xs) l
+
+-- The first n integrators have run from x once for each output from..to of out, which is now left.
+pub record Climbs (n : ℕ) (x : ℤ) (from to : ℕ) (l out a left : List ℤ) : Type 0 where
+  pub cells : a ≡ ran i32Ops n (replicate (to - from) x) l
+  pub wrote : left ≡ take from out ++ (tops i32Ops n (replicate (to - from) x) l ++ drop to out)
+
+-- The sample x has gone through the combs into the hold, which stands for R outputs.
+pub record Feeds (n at : ℕ) (s : Numbers) (combs : List ℤ) (x : ℤ) (t : Numbers) (left : List ℤ) (next : ℕ) : Type 0 where
+  pub ring : Ring n next t left
+  pub same : t .rate ≡ s .rate
+  pub state : (integrators : List ℤ) → ringed t integrators left next ≡ fed i32Ops (ringed s integrators combs at) x
+
+-- The outputs from i on, all on the hold.
+pub record Coasts (n i : ℕ) (s : Numbers) (l out : List ℤ) (t : Numbers) (a left : List ℤ) : Type 0 where
+  pub numbers : t ≡ rested s (length out - i)
+  pub climb : Climbs n (s .hold) i (length out) l out a left

@@ -3,8 +3,8 @@ use crate::state::Cic;
 use crate::steps::Numbers;
 use crate::steps::Out;
 use crate::steps::joined;
-use crate::steps::lift;
 use crate::steps::lowered;
+use crate::stretches::climb;
 use crate::stretches::following;
 use crate::stretches::last;
 use crate::stretches::ring;
@@ -16,8 +16,8 @@ ghost use lib.ListN.{length};
 ghost use Rattle.sums.specs.Runs.{needed, blockOut, fillOut, settledNumber, settledPart};
 ghost use Rattle.cic.specs.Reading.{i32Ops, stateOf};
 ghost use Rattle.cic.specs.Answers.{decimatedOf, filledOf};
-ghost use Rattle.cic.specs.Turns.{apart, Ready, Drives, Picks, Fills};
-ghost use Rattle.cic.specs.Stretches.{Ring, ringed, Reaches, Rests};
+ghost use Rattle.cic.specs.Turns.{apart, Ready, Drives, Fills};
+ghost use Rattle.cic.specs.Stretches.{Ring, ringed, Reaches, Rests, Feeds, Coasts};
 
 // What a decimator's block wrote: the count of its outputs, and the unsettled count found before it, so that
 // output i of the block is settled exactly where that count is at most i. Or the number of a refusal.
@@ -66,10 +66,10 @@ pub(crate) struct Strode {
     pub count: usize,
 }
 
-// A sample, and where the next one is.
-pub(crate) struct Picked {
-    pub x: i32,
-    pub next: usize,
+// After a sample: the numbers, and the place of the oldest cells.
+pub(crate) struct Fed {
+    pub numbers: Numbers,
+    pub at: usize,
 }
 
 // The low-rate samples of a block of len at the high rate: 0 if len is at most the countdown, else 1 +
@@ -217,16 +217,95 @@ fn drive(
     }
 }
 
-// The sample at k where one is due, at countdown 0; else none is read.
-fn pick(input: &[i32], k: usize, countdown: u32) -> Picked
-    requires { ⌜ (countdown ≡ 0 → k < length (now input)) ⌝ }
-    ensures { λ r. ⌜ Picks countdown k (now (input .entry)) (r .x) (r .next) ⌝ }
+// The sample x goes through the combs into the hold, which then stands for R outputs: the countdown says so.
+fn feed(combs: &mut [i32; 64], n: usize, first: Numbers, at: usize, x: i32) -> Fed
+    requires { ⌜ Ring n at first (now combs) × (first .rate ≤ 65535) ⌝ }
+    ensures { λ r. ⌜ Feeds n at first (now (combs .entry)) x (r .numbers) (now (combs .exit)) (r .at) ⌝ }
 {
-    if 0 < countdown {
-        return Picked { x: 0, next: k };
+    let mut numbers = first;
+    let y = ring(combs, n, at, x);
+    numbers.countdown = first.rate + 1;
+    numbers.hold = y;
+    Fed {
+        numbers,
+        at: following(at, first.delay),
     }
-    let x = input[k];
-    Picked { x, next: k + 1 }
+}
+
+// The outputs from i on, which end before the next sample is due.
+fn coast(integrators: &mut [i32; 8], n: usize, first: Numbers, out: &mut [i32], i: usize) -> Numbers
+    requires { ⌜ (n ≤ 8) × (i ≤ length (now out)) × (length (now out) - i ≤ first .countdown) × (length (now integrators) ≡ 8) ⌝ }
+    ensures { λ r. ⌜ Coasts n i first (now (integrators .entry)) (now (out .entry)) r (now (integrators .exit)) (now (out .exit)) ⌝ }
+{
+    let mut numbers = first;
+    let end = out.len();
+    climb(integrators, n, first.hold, out, i, end);
+    let left = end - i;
+    numbers.countdown = first.countdown - left as u32;
+    numbers
+}
+
+// The steps of an interpolator's block, from sample to sample, with the delay lines as rings. n is the order, as
+// in stride.
+fn ramp(
+    integrators: &mut [i32; 8],
+    combs: &mut [i32; 64],
+    n: usize,
+    first: Numbers,
+    input: &[i32],
+    out: &mut [i32],
+) -> Strode
+    requires { ⌜ (n ≡ first .order) × Ready (apart first (now integrators) (now combs)) × (needed (length (now out)) (first .countdown) (first .rate) ≤ length (now input)) ⌝ }
+    ensures { λ r. ⌜ Ring n (r .at) (r .numbers) (now (combs .exit)) × Fills (apart first (now (integrators .entry)) (now (combs .entry))) (now (input .entry)) (now (out .entry))
+        (ringed (r .numbers) (now (integrators .exit)) (now (combs .exit)) (r .at)) (r .count) (now (out .exit)) ⌝ }
+{
+    let mut numbers = first;
+    let mut at: usize = 0;
+    let mut k: usize = 0;
+    let mut i: usize = 0;
+    while (numbers.countdown as usize) < out.len() - i {
+        let end = i + numbers.countdown as usize;
+        climb(integrators, n, numbers.hold, out, i, end);
+        let x = input[k];
+        let f = feed(combs, n, numbers, at, x);
+        let next = f.numbers;
+        numbers = next;
+        at = f.at;
+        k += 1;
+        i = end;
+    }
+    let numbers = coast(integrators, n, numbers, out, i);
+    Strode {
+        numbers,
+        at,
+        count: k,
+    }
+}
+
+// The same, once for each order.
+fn ramps(
+    integrators: &mut [i32; 8],
+    combs: &mut [i32; 64],
+    first: Numbers,
+    input: &[i32],
+    out: &mut [i32],
+) -> Strode
+    requires { ⌜ Ready (apart first (now integrators) (now combs)) × (needed (length (now out)) (first .countdown) (first .rate) ≤ length (now input)) ⌝ }
+    ensures { λ r. ⌜ Ring (first .order) (r .at) (r .numbers) (now (combs .exit)) × Fills (apart first (now (integrators .entry)) (now (combs .entry))) (now (input .entry)) (now (out .entry))
+        (ringed (r .numbers) (now (integrators .exit)) (now (combs .exit)) (r .at)) (r .count) (now (out .exit)) ⌝ }
+{
+    let n = first.order;
+    match n {
+        0 => ramp(integrators, combs, 0, first, input, out),
+        1 => ramp(integrators, combs, 1, first, input, out),
+        2 => ramp(integrators, combs, 2, first, input, out),
+        3 => ramp(integrators, combs, 3, first, input, out),
+        4 => ramp(integrators, combs, 4, first, input, out),
+        5 => ramp(integrators, combs, 5, first, input, out),
+        6 => ramp(integrators, combs, 6, first, input, out),
+        7 => ramp(integrators, combs, 7, first, input, out),
+        _ => ramp(integrators, combs, 8, first, input, out),
+    }
 }
 
 // The steps of an interpolator's block in turn, on an accepted state whose arrays are lent. Every element of
@@ -242,20 +321,13 @@ fn raise(
     ensures { λ r. ⌜ Fills (apart first (now (integrators .entry)) (now (combs .entry))) (now (input .entry)) (now (out .entry))
         (apart (r .numbers) (now (integrators .exit)) (now (combs .exit))) (r .count) (now (out .exit)) ⌝ }
 {
-    let mut numbers = first;
-    let mut k: usize = 0;
-    let mut i: usize = 0;
-    while i < out.len() {
-        let p = pick(input, k, numbers.countdown);
-        let t = lift(integrators, combs, numbers, p.x);
-        let next = t.numbers;
-        numbers = next;
-        k = p.next;
-        let y = t.value;
-        out[i] = y;
-        i += 1;
+    let rose = ramps(integrators, combs, first, input, out);
+    let numbers = rose.numbers;
+    unroll(combs, numbers.order, numbers.delay, rose.at);
+    Ran {
+        numbers,
+        count: rose.count,
     }
-    Ran { numbers, count: k }
 }
 
 impl Cic {

@@ -10,7 +10,7 @@ ghost use lib.Seq.{slice};
 ghost use Rattle.sums.proofs.Stretches.{ran, lastOf};
 ghost use Rattle.sums.proofs.Rings.{turned, rolledAt};
 ghost use Rattle.cic.specs.Reading.{i32Ops};
-ghost use Rattle.cic.specs.Stretches.{Stores, Follows};
+ghost use Rattle.cic.specs.Stretches.{Stores, Follows, Climbs};
 
 // The first n integrators over the inputs from..to. The cells are copied to a local and back, so that the
 // compiler keeps them in registers where n is a constant.
@@ -23,6 +23,22 @@ pub(crate) fn run(cells: &mut [i32; 8], n: usize, input: &[i32], from: usize, to
     while i < to {
         let x = input[i];
         integrate(&mut held, n, x);
+        i += 1;
+    }
+    *cells = held;
+}
+
+// The first n integrators run from x once for each of the outputs from..to, each of which is the last one's. Other
+// outputs stay.
+pub(crate) fn climb(cells: &mut [i32; 8], n: usize, x: i32, out: &mut [i32], from: usize, to: usize)
+    requires { ⌜ (n ≤ 8) × (from ≤ to) × (to ≤ length (now out)) × (length (now cells) ≡ 8) ⌝ }
+    ensures { λ r. ⌜ Climbs n x from to (now (cells .entry)) (now (out .entry)) (now (cells .exit)) (now (out .exit)) ⌝ }
+{
+    let mut held = *cells;
+    let mut i = from;
+    while i < to {
+        let y = integrate(&mut held, n, x);
+        out[i] = y;
         i += 1;
     }
     *cells = held;
