@@ -1,30 +1,31 @@
 -- The loops over a block, turn by turn, from what a step on lent arrays promises; and the two ways to cut a part out of a list.
-use mathlib.Core.Path.{_≡_, refl, sym, subst}
+use mathlib.Core.Path.{_≡_, refl, ap, subst, _∙_}
 use mathlib.Core.Bool.{Bool}
-use mathlib.Core.List.{List, [], _∷_}
-use mathlib.Core.Logic.{inl, inr, ⊎-elim}
+use mathlib.Core.List.{List, [], _∷_, _++_}
+use mathlib.Core.Logic.{inl, inr}
 use mathlib.Core.Option.{Option, none, some}
-use Prim.Native.Nat.{ℕ, zero, suc, _+_, _-_, _<_}
+use Prim.Native.Nat.{ℕ, zero, suc, _+_, _-_, _<_, _≤_}
 use native.Mathlib.Nat.{sub-zero, zero-sub, suc-sub-suc}
 use native.Mathlib.Omega.{arith}
 use lib.IntN.{ℤ, pos}
-use lib.ListN.{length, getD, take, drop, set}
-use lib.Seq.{take-nil}
+use lib.ListN.{length, getD, take, drop, set, replicate}
+use lib.Seq.{slice, take-nil}
 use types.Run.{OneOf}
 use denote.Enum.Declared.{tagOf}
 use Rattle.sums.specs.Machine.{Output}
 use Rattle.sums.specs.State.{State}
-use Rattle.sums.specs.Calls.{stepGiven}
-use Rattle.sums.specs.Runs.{dueSample}
-use Rattle.sums.proofs.Steps.{Fit, step-fit, down, rise-waits-fit, rise-takes-fit}
-use Rattle.sums.proofs.Blocks.{Jump, Held, jump-turn, held-none, held-room, held-one}
-use Rattle.sums.proofs.Fills.{Filling, filling-due, filling-wait}
+use Rattle.sums.proofs.Steps.{Fit}
+use Rattle.sums.proofs.Counts.{outputs-length}
+use Rattle.sums.proofs.Blocks.{Held, held-none, held-room, held-one, end-state, end-count, end-out}
+use Rattle.sums.proofs.Stretches.{ran, tops, jump-waits}
+use Rattle.sums.proofs.Fills.{Filling, filling-same, filling-turn, filled-state, filled-count, filled-out}
+use Rattle.cic.specs.declared.steps.Numbers.{Numbers}
 use Rattle.cic.specs.declared.steps.Out.{Out}
 use Rattle.cic.specs.declared.steps.Out.the-variants.{Given}
 use Rattle.cic.specs.Reading.{i32Ops}
 use Rattle.cic.specs.Answers.{outOf}
-use Rattle.cic.specs.Turns.{Turns, Picks, Rises}
-use Rattle.cic.proofs.Turning.{not-due, is-due}
+use Rattle.cic.specs.Turns.{Drives, Fills}
+use Rattle.cic.specs.Stretches.{Ring, ringed, Reaches, rested, Rests, Climbs, Feeds, Coasts}
 use Rattle.cic.proofs.steps.Out as OutT
 
 -- what an output says of the rule, and what the other tags say
@@ -42,49 +43,75 @@ tags none t = refl
 pub none-given : (g : Option (Output ℤ)) (o : Out) → o ≡ outOf 0 g → OneOf (1 ∷ 2 ∷ []) (tagOf OutT.the-type o) → g ≡ none
 none-given g o e t = tags g (subst (λ (q : Out). OneOf (1 ∷ 2 ∷ []) (tagOf OutT.the-type q)) e t)
 
--- a turn of the decimator's loop
-module _ (xs out₀ out : List ℤ) (s₀ s : State ℤ) (k i : ℕ) (a : Held i32Ops xs out₀ out s₀ s k i) (h : i < length xs)
-    (x : ℤ) (ex : x ≡ getD xs i (pos 0)) (t : State ℤ) (o : Out) (r : Turns s x t o) where
-  abbrev g : Option (Output ℤ)
-  g = stepGiven i32Ops s x
-
-  jump : Jump i32Ops xs s i t g (i + 1)
-  jump =
-      jump-turn i32Ops xs s i (pos 0) h x ex t g
-      (record { state = r .state; out = refl; fit = subst (λ q. Fit q) (sym (r .state)) (step-fit i32Ops s (a .fit) x) })
-
-  pub drive-none : OneOf (1 ∷ 2 ∷ []) (tagOf OutT.the-type o) → Held i32Ops xs out₀ out s₀ t k (i + 1)
-  drive-none e = held-none i32Ops xs out₀ s₀ out s t k i (i + 1) g a jump (none-given g o (r .gives) e)
+-- a turn of the decimator's loop: a stretch
+module _ (n : ℕ) (xs out₀ out : List ℤ) (s₀ s : State ℤ) (k i : ℕ) (a : Held i32Ops xs out₀ out s₀ s k i)
+    (t : Numbers) (is ks : List ℤ) (at : ℕ) (o : Out) (j : ℕ) (r : Reaches n xs s i t is ks at o j) where
+  pub drive-none : OneOf (1 ∷ 2 ∷ []) (tagOf OutT.the-type o) → Held i32Ops xs out₀ out s₀ (ringed t is ks at) k j
+  drive-none e = held-none i32Ops xs out₀ s₀ out s (ringed t is ks at) k i j (r .gives) a (r .jump) (none-given (r .gives) o (r .told) e)
 
   module _ (y : ℤ) (b : Bool) (e : o ≡ Given y b) where
-    one : g ≡ some (record { value = y; settled = b })
-    one = some-given g o y b (r .gives) e
+    one : r .gives ≡ some (record { value = y; settled = b })
+    one = some-given (r .gives) o y b (r .told) e
 
     pub drive-room : k < length out
-    drive-room = held-room i32Ops xs out₀ s₀ out s t k i (i + 1) g a jump (record { value = y; settled = b }) one
+    drive-room = held-room i32Ops xs out₀ s₀ out s (ringed t is ks at) k i j (r .gives) a (r .jump) (record { value = y; settled = b }) one
 
-    pub drive-one : (v : ℤ) → v ≡ y → Held i32Ops xs out₀ (set out k v) s₀ t (k + 1) (i + 1)
-    drive-one v ev = held-one i32Ops xs out₀ s₀ out s t k i (i + 1) g a jump (record { value = y; settled = b }) one v ev
+    pub drive-one : (v : ℤ) → v ≡ y → Held i32Ops xs out₀ (set out k v) s₀ (ringed t is ks at) (k + 1) j
+    drive-one v ev = held-one i32Ops xs out₀ s₀ out s (ringed t is ks at) k i j (r .gives) a (r .jump) (record { value = y; settled = b }) one v ev
 
--- a turn of the interpolator's loop
-module _ (xs out₀ out : List ℤ) (s₀ s : State ℤ) (k i : ℕ) (a : Filling i32Ops xs out₀ out s₀ s k i) (h : i < length out)
-    (x : ℤ) (next : ℕ) (p : Picks (s .countdown) k xs x next) (t : State ℤ) (y : ℤ) (r : Rises s (dueSample i32Ops (s .countdown) (x ∷ [])) t y) where
-  due : s .countdown ≡ 0 → Filling i32Ops xs out₀ (set out i y) s₀ t next (i + 1)
-  due e =
-      let q = rw (is-due (s .countdown) x (omega arith)) at r in
-      rw (p .due e .1)
-      (filling-due i32Ops xs out₀ s₀ out s t k i a h e x y (p .due e .0)
-      (record { state = q .state; out = q .gives; fit = subst (λ v. Fit v) (sym (q .state)) (rise-takes-fit i32Ops s (a .fit) x e) }))
+-- the end of the decimator's loop: no output falls on the inputs from i on
+module _ (n : ℕ) (xs out₀ out : List ℤ) (s₀ : State ℤ) (f : Fit s₀) (s : Numbers) (is ks : List ℤ) (at k i : ℕ)
+    (a : Held i32Ops xs out₀ out s₀ (ringed s is ks at) k i) (g : Ring n at s ks) (q : length xs - i ≤ s .countdown)
+    (t : Numbers) (is' : List ℤ) (r : Rests n xs i s is t is') where
+  over-all : Held i32Ops xs out₀ out s₀ (ringed t is' ks at) k (length xs)
+  over-all =
+      rw (r .numbers)
+      (held-none i32Ops xs out₀ s₀ out (ringed s is ks at) (ringed (rested s (length xs - i)) is' ks at) k i (length xs) none a
+      (jump-waits i32Ops xs i (ringed s is ks at) (a .fit) (a .within) q (s .countdown - (length xs - i)) refl (s .hold) refl is'
+      (r .cells ∙ ap (λ m. ran i32Ops m (slice i (length xs) xs) is) (g .order))) refl)
 
-  wait : 0 < s .countdown → Filling i32Ops xs out₀ (set out i y) s₀ t next (i + 1)
-  wait c =
-      let q = rw (not-due (s .countdown) (x ∷ []) c) at r in
-      rw (p .wait c)
-      (filling-wait i32Ops xs out₀ s₀ out s t k i a h y c
-      (record { state = q .state; out = q .gives; fit = subst (λ v. Fit v) (sym (q .state)) (rise-waits-fit i32Ops s (a .fit) c) }))
+  pub drive-ends : Ring n at t ks × Drives s₀ xs out₀ (ringed t is' ks at) k out
+  drive-ends = (
+    rw (r .numbers) (record { order = g .order; few = g .few; short = g .short; inside = g .inside; long = g .long }),
+    record {
+      state = end-state i32Ops xs out₀ s₀ out (ringed t is' ks at) k (length xs) over-all (omega arith);
+      count = end-count i32Ops xs out₀ s₀ out (ringed t is' ks at) k (length xs) over-all (omega arith) ∙ outputs-length i32Ops s₀ f xs;
+      wrote = end-out i32Ops xs out₀ s₀ out (ringed t is' ks at) k (length xs) over-all (omega arith);
+    },
+  )
 
-  pub fill-turn : Filling i32Ops xs out₀ (set out i y) s₀ t next (i + 1)
-  fill-turn = ⊎-elim due wait (down (s .countdown))
+-- a turn of the interpolator's loop: the hold's outputs, then a sample
+module _ (n : ℕ) (xs out₀ out : List ℤ) (s₀ : State ℤ) (s : Numbers) (is ks : List ℤ) (at k i : ℕ)
+    (a : Filling i32Ops xs out₀ out s₀ (ringed s is ks at) k i) (g : Ring n at s ks) where
+  tops-of : (e : ℕ) (is' left : List ℤ) → Climbs n (s .hold) i e is out is' left
+      → left ≡ take i out ++ (tops i32Ops (s .order) (replicate (e - i) (s .hold)) is ++ drop e out)
+  tops-of e is' left c = c .wrote ∙ ap (λ m. take i out ++ (tops i32Ops m (replicate (e - i) (s .hold)) is ++ drop e out)) (g .order)
+
+  cells-of : (e : ℕ) (is' left : List ℤ) → Climbs n (s .hold) i e is out is' left → is' ≡ ran i32Ops (s .order) (replicate (e - i) (s .hold)) is
+  cells-of e is' left c = c .cells ∙ ap (λ m. ran i32Ops m (replicate (e - i) (s .hold)) is) (g .order)
+
+  pub raise-turn : s .countdown < length out₀ - i → (is' left : List ℤ) → Climbs n (s .hold) i (i + s .countdown) is out is' left
+      → (x : ℤ) → x ≡ getD xs k (pos 0) → (t : Numbers) (ks' : List ℤ) (next : ℕ) → Feeds n at s ks x t ks' next
+      → Filling i32Ops xs out₀ left s₀ (ringed t is' ks' next) (k + 1) (i + s .countdown)
+  raise-turn h is' left c x ex t ks' next f =
+      filling-turn i32Ops xs out₀ s₀ out (ringed s is ks at) k i a h left (tops-of (i + s .countdown) is' left c) x ex is' (cells-of (i + s .countdown) is' left c)
+      (ringed t is' ks' next) (f .state is')
+
+  -- the end: the hold's outputs fill the slice
+  module _ (h : length out₀ - i ≤ s .countdown) (t : Numbers) (is' left : List ℤ) (r : Coasts n i s is out t is' left) where
+    pub raise-same : length left ≡ length out₀
+    raise-same = filling-same i32Ops xs out₀ s₀ out (ringed s is ks at) k i a (length out) (a .within) (omega arith) left (tops-of (length out) is' left (r .climb))
+
+    pub raise-ends : Ring n at t ks × Fills s₀ xs out₀ (ringed t is' ks at) k left
+    raise-ends = (
+      rw (r .numbers) (record { order = g .order; few = g .few; short = g .short; inside = g .inside; long = g .long }),
+      record {
+        state = filled-state i32Ops xs out₀ s₀ out (ringed s is ks at) k i a h left (tops-of (length out) is' left (r .climb)) (ringed t is' ks at)
+            (rw (r .numbers, cells-of (length out) is' left (r .climb)));
+        count = filled-count i32Ops xs out₀ s₀ out (ringed s is ks at) k i a h left (tops-of (length out) is' left (r .climb));
+        wrote = filled-out i32Ops xs out₀ s₀ out (ringed s is ks at) k i a h left (tops-of (length out) is' left (r .climb));
+      },
+    )
 
 -- a part taken and dropped is dropped and taken
 pub window : {A : Type 0} (u w : ℕ) (l : List A) → take (w - u) (drop u l) ≡ drop u (take w l)

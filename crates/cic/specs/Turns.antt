@@ -2,9 +2,9 @@
 use mathlib.Core.Path.{_≡_}
 use mathlib.Core.List.{List}
 use mathlib.Core.Option.{Option}
-use Prim.Native.Nat.{ℕ, _+_, _<_}
-use lib.IntN.{ℤ, pos}
-use lib.ListN.{length, getD}
+use Prim.Native.Nat.{ℕ}
+use lib.IntN.{ℤ}
+use lib.ListN.{length}
 use Rattle.sums.specs.State.{State, refusal}
 use Rattle.sums.specs.Calls.{stepState, stepGiven, riseState, risenOf}
 use Rattle.sums.specs.Runs.{needed, values, over, outputs, after, risings, risenAfter}
@@ -65,11 +65,6 @@ pub record Drives (s : State ℤ) (xs out : List ℤ) (t : State ℤ) (k : ℕ) 
   pub state : t ≡ after i32Ops s xs
   pub count : k ≡ needed (length xs) (s .countdown) (s .rate)
   pub wrote : left ≡ over (values (outputs i32Ops s xs)) out
-
--- Sample k is x, and the next is read from, where one is due; else none is read.
-pub record Picks (countdown k : ℕ) (xs : List ℤ) (x : ℤ) (next : ℕ) : Type 0 where
-  pub due : countdown ≡ 0 → (x ≡ getD xs k (pos 0)) × (next ≡ k + 1)
-  pub wait : 0 < countdown → next ≡ k
 
 -- The interpolator's steps of s in turn, as many as out has elements, leave t and read k of the samples xs; out is now left.
 pub record Fills (s : State ℤ) (xs out : List ℤ) (t : State ℤ) (k : ℕ) (left : List ℤ) : Type 0 where

@@ -24,7 +24,7 @@ pub(crate) fn integrate(cells: &mut [i32; 8], n: usize, x: i32) -> i32
 
 // The comb whose line of m cells starts at base: it gives x less its oldest cell, drops that and stores x
 // last. Other cells stay.
-fn comb(cells: &mut [i32; 64], base: usize, m: usize, x: i32) -> i32
+pub(crate) fn comb(cells: &mut [i32; 64], base: usize, m: usize, x: i32) -> i32
     requires { ⌜ (1 ≤ m) × (base + m ≤ 64) × (length (now cells) ≡ 64) ⌝ }
     ensures { λ r. ⌜ Pushes base m (now (cells .entry)) x (now (cells .exit)) r ⌝ }
 {

@@ -8,3 +8,4 @@ pub mod runs;
 pub mod settling;
 pub mod state;
 pub mod steps;
+mod stretches;

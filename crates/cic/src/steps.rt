@@ -75,7 +75,7 @@ pub(crate) fn joined(n: Numbers, integrators: [i32; 8], combs: [i32; 64]) -> Cic
     }
 }
 
-fn lowered(n: usize) -> usize
+pub(crate) fn lowered(n: usize) -> usize
     ensures { λ r. ⌜ r ≡ n - 1 ⌝ }
 {
     if n == 0 { 0 } else { n - 1 }

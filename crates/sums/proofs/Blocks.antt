@@ -1,19 +1,18 @@
 -- The loop over a decimator's block, said by what is left to run: from input i and state s. A turn is a jump to a later input j and a
--- state t with at most one output on the way; a single step is the jump with j = i + 1, so that a driver that goes input by input
--- and one that goes from output to output share the laws.
-use mathlib.Core.Path.{_≡_, refl, sym, ap, ap₂, _∙_}
+-- state t with at most one output on the way.
+use mathlib.Core.Path.{_≡_, refl, sym, ap, _∙_}
 use mathlib.Core.List.{List, [], _∷_, _++_, append-nil}
 use mathlib.Core.Option.{Option, none, some}
 use Prim.Native.Nat.{ℕ, suc, _+_, _<_, _≤_}
 use native.Mathlib.Numerals.{add-one}
 use native.Mathlib.Omega.{arith}
-use lib.ListN.{length, getD, take, drop, set, length-set, take-append-drop, drop-of-length-le}
-use lib.Seq.{drop-cons, drop-set-lt, take-suc-set, append-snoc, length-take-le, drop-drop}
+use lib.ListN.{length, take, drop, set, length-set, take-append-drop, drop-of-length-le}
+use lib.Seq.{drop-set-lt, take-suc-set, append-snoc, length-take-le, drop-drop}
 use Rattle.sums.specs.Ops.{Ops}
 use Rattle.sums.specs.Machine.{Output}
 use Rattle.sums.specs.State.{State}
 use Rattle.sums.specs.Runs.{needed, join, values, over, outputs, after}
-use Rattle.sums.proofs.Steps.{Fit, Turn}
+use Rattle.sums.proofs.Steps.{Fit}
 use Rattle.sums.proofs.Counts.{outputs-length}
 
 pub values-length : {A : Type 0} (l : List (Output A)) → length (values l) ≡ length l
@@ -24,23 +23,8 @@ values-length (y ∷ l) = ap suc (values-length l)
 pub record Jump {A : Type 0} (o : Ops A) (xs : List A) (s : State A) (i : ℕ) (t : State A) (g : Option (Output A)) (j : ℕ) : Type 0 where
   pub states : after o s (drop i xs) ≡ after o t (drop j xs)
   pub outs : outputs o s (drop i xs) ≡ join g (outputs o t (drop j xs))
-  pub further : i < j
   pub within : j ≤ length xs
   pub fit : Fit t
-
--- a step is a jump to the next input
-pub jump-turn : {A : Type 0} (o : Ops A) (xs : List A) (s : State A) (i : ℕ) (d : A) → i < length xs → (x : A) → x ≡ getD xs i d
-    → (t : State A) (g : Option (Output A)) → Turn o s x t g → Jump o xs s i t g (i + 1)
-unfolding after outputs
-jump-turn o xs s i d h x ex t g turn =
-    let e : drop i xs ≡ x ∷ drop (i + 1) xs = drop-cons xs i d h ∙ rw (add-one i, ex) in
-    record {
-      states = ap (after o s) e ∙ ap (λ q. after o q (drop (i + 1) xs)) (sym (turn .state));
-      outs = ap (outputs o s) e ∙ ap₂ (λ a q. join a (outputs o q (drop (i + 1) xs))) (sym (turn .out)) (sym (turn .state));
-      further = omega arith;
-      within = omega arith;
-      fit = turn .fit;
-    }
 
 -- the loop: s₀ and out₀ as the block began; s, out, the count k of outputs written and the input i as they are
 pub record Held {A : Type 0} (o : Ops A) (xs out₀ out : List A) (s₀ s : State A) (k i : ℕ) : Type 0 where

@@ -6,6 +6,7 @@ pub mod Steps
 pub mod Counts
 pub mod Blocks
 pub mod Stretches
+pub mod Rings
 pub mod Fills
 pub mod Groups
 pub mod Sequences

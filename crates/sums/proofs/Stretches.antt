@@ -1,4 +1,5 @@
--- A stretch of a decimator's block: all inputs up to the next output, or to the end. The integrators run over it, then the combs once.
+-- A stretch of a block: the integrators run over many inputs, or many times over one. A decimator's stretch is all inputs up to the next
+-- output, or to the end: the integrators run over it, then the combs once.
 use mathlib.Core.Path.{_≡_, refl, sym, ap, ap₂, subst, _∙_}
 use mathlib.Core.List.{List, [], _∷_, _++_}
 use mathlib.Core.Option.{none, some}
@@ -6,8 +7,8 @@ use Prim.Native.Nat.{ℕ, zero, suc, _+_, _-_, _<_, _≤_}
 use native.Mathlib.Numerals.{add-one}
 use native.Mathlib.Omega.{arith}
 use lib.Dec.{eqb}
-use lib.ListN.{length, getD, take, drop, take-append-drop}
-use lib.Seq.{slice, slice-cons, slice-empty, length-slice, length-take-le, drop-append-le, drop-cons, take-suc}
+use lib.ListN.{length, getD, take, drop, set, replicate, take-append-drop}
+use lib.Seq.{slice, slice-cons, slice-empty, length-slice, length-take-le, drop-append-le, drop-cons, take-suc, take-suc-set, drop-set-lt, append-snoc}
 use Rattle.sums.specs.Ops.{Ops}
 use Rattle.sums.specs.Machine.{integrated, summed}
 use Rattle.sums.specs.State.{State}
@@ -21,6 +22,11 @@ use Rattle.sums.proofs.Blocks.{Jump}
 unfoldable pub ran : {A : Type 0} → Ops A → ℕ → List A → List A → List A
 ran o n [] l = l
 ran o n (x ∷ xs) l = ran o n xs (partInts o n l x)
+
+-- and what the last of them hands on at each
+unfoldable pub tops : {A : Type 0} → Ops A → ℕ → List A → List A → List A
+tops o n [] l = []
+tops o n (x ∷ xs) l = partSum o n l x ∷ tops o n xs (partInts o n l x)
 
 -- what the last of the first n integrators holds; x where n is 0
 unfoldable pub lastOf : {A : Type 0} → Ops A → ℕ → A → List A → A
@@ -43,6 +49,40 @@ module _ {A : Type 0} (o : Ops A) (n : ℕ) where
   ran-length [] l h = refl
   ran-length (x ∷ xs) l h =
       let e = ints-length o n l x h in ran-length xs (partInts o n l x) (omega arith) ∙ e
+
+  pub tops-length : (xs l : List A) → length (tops o n xs l) ≡ length xs
+  unfolding tops
+  tops-length [] l = refl
+  tops-length (x ∷ xs) l = ap suc (tops-length xs (partInts o n l x))
+
+  -- the loop over outputs from i to `to`, all on one input x, by what is left: l are the cells and out the outputs before a turn
+  module _ (i to : ℕ) (x : A) (l out : List A) (h : i < to) where
+    more : to - i ≡ suc (to - (i + 1))
+    more = omega arith
+
+    pub climb-cells : ran o n (replicate (to - i) x) l ≡ ran o n (replicate (to - (i + 1)) x) (partInts o n l x)
+    unfolding ran
+    climb-cells = rw more
+
+    pub climb-wrote : to ≤ length out
+        → take i out ++ (tops o n (replicate (to - i) x) l ++ drop to out)
+        ≡ take (i + 1) (set out i (partSum o n l x)) ++ (tops o n (replicate (to - (i + 1)) x) (partInts o n l x) ++ drop to (set out i (partSum o n l x)))
+    unfolding tops
+    climb-wrote b =
+        rw (more, add-one i, take-suc-set out i (partSum o n l x) (omega arith), drop-set-lt to out i (partSum o n l x) h)
+        (sym (append-snoc (take i out) (partSum o n l x) (tops o n (replicate (to - suc i) x) (partInts o n l x) ++ drop to out)))
+
+  module _ (i to : ℕ) (x : A) (l out : List A) (low : i ≤ to) (high : to ≤ i) where
+    no-more : to - i ≡ 0
+    no-more = omega arith
+
+    pub climb-cells-end : ran o n (replicate (to - i) x) l ≡ l
+    unfolding ran
+    climb-cells-end = rw no-more
+
+    pub climb-wrote-end : take i out ++ (tops o n (replicate (to - i) x) l ++ drop to out) ≡ out
+    unfolding tops
+    climb-wrote-end = let e : i ≡ to = omega arith in rw (no-more, e) (take-append-drop to out)
 
   ran-snoc : (x : A) (xs l : List A) → ran o n (xs ++ (x ∷ [])) l ≡ partInts o n (ran o n xs l) x
   unfolding ran
@@ -108,7 +148,7 @@ module _ {A : Type 0} (o : Ops A) where
       }
 
 -- from input i of xs and an accepted state
-module _ {A : Type 0} (o : Ops A) (xs : List A) (i : ℕ) (s : State A) (f : Fit s) (more : i < length xs) where
+module _ {A : Type 0} (o : Ops A) (xs : List A) (i : ℕ) (s : State A) (f : Fit s) (more : i ≤ length xs) where
   -- the inputs end before the next output
   pub jump-waits : length xs - i ≤ s .countdown → (c : ℕ) → c ≡ s .countdown - (length xs - i) → (h : A) → h ≡ s .hold
       → (is : List A) → is ≡ ran o (s .order) (slice i (length xs) xs) (s .integrators)
@@ -121,7 +161,6 @@ module _ {A : Type 0} (o : Ops A) (xs : List A) (i : ℕ) (s : State A) (f : Fit
       rw (ec, ← l, eh, ei) (record {
         states = ap (after o s) p ∙ w .states;
         outs = ap (outputs o s) p ∙ w .outs;
-        further = more;
         within = omega arith;
         fit = w .fit;
       })
@@ -160,7 +199,6 @@ module _ {A : Type 0} (o : Ops A) (xs : List A) (i : ℕ) (s : State A) (f : Fit
         record {
           states = ap (after o s) there ∙ h .states ∙ ap (λ t. after o t (drop (e + 1) xs)) (sym (tr .state));
           outs = ap (outputs o s) there ∙ h .outs ∙ ap₂ (λ g t. join g (outputs o t (drop (e + 1) xs))) (sym (tr .out)) (sym (tr .state));
-          further = omega arith;
           within = omega (arith, q);
           fit = tr .fit;
         }

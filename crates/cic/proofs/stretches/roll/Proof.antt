@@ -1,0 +1,66 @@
+use borrow.Author.Needs.{needs}
+use mathlib.Core.Path.{_≡_, ap, _∙_}
+use Prim.Native.Nat.{_+_, _-_, _≤_}
+use native.Mathlib.Omega.{arith}
+use lib.IntN.{pos}
+use lib.ListN.{length, getD}
+use mir.Syntax.{w32}
+use mir.Val.{toZ, ofZ}
+use Rattle.words.proofs.Reading.{read}
+use Rattle.sums.proofs.Rings.{rolledAt, roll-start, roll-turn, roll-length}
+use Rattle.cic.proofs.stretches.roll.Statement.{statement}
+use Rattle.cic.proofs.stretches.roll.Tie as tie
+
+abbrev Inv-loop : tie.InvT-loop
+Inv-loop cells₀ base m at k₀ cells k = (k ≤ at) × (length cells ≡ 64) × (cells ≡ rolledAt base m k cells₀)
+
+abbrev μ-loop : tie.MeasureT-loop
+μ-loop cells₀ base m at k₀ cells k = at - k
+
+loop-holds : tie.Need-loop-holds Inv-loop μ-loop
+loop-holds c = (search needs, c .pre .3, roll-start (c .args .base) (c .args .m) (c .args .cells .now) (omega (arith, c .pre .2, c .pre .3)))
+
+mul-oldest : tie.Need-mul-oldest Inv-loop μ-loop
+mul-oldest c = search needs
+
+element-copy-out-oldest : tie.Need-element-copy-out-oldest Inv-loop μ-loop
+element-copy-out-oldest c = search needs
+
+comb-requires : tie.Need-comb-requires Inv-loop μ-loop
+comb-requires c κs = search needs
+
+add-k : tie.Need-add-k Inv-loop μ-loop
+add-k c = search needs
+
+loop-less : tie.Need-loop-less Inv-loop μ-loop
+loop-less c = search needs
+
+loop-again : tie.Need-loop-again Inv-loop μ-loop
+loop-again c =
+    let l = c .before .before .before .before .loop in let p = c .before .before .before .before .before in let a = p .args in
+    let old = getD (l .cells) (a .base) (pos 0) in
+    let fits : a .base + a .m ≤ length (a .cells .now) = omega (arith, p .pre .2, p .pre .3) in
+    let e = c .comb .ensures .cells ∙ roll-turn (a .base) (a .m) (a .cells .now) fits (l .k) (l .cells) (l .inv .2)
+    (omega (arith, p .pre .1, c .before .before .before .loop-test .taken)) (pos 0) (toZ w32 (ofZ w32 old)) (read w32 old (c .before .before .oldest .given)) in
+    (search needs, roll-length (a .base) (a .m) (a .cells .now) fits (l .k + 1) (c .comb .last .0) e ∙ p .pre .3, e)
+
+returns : tie.Need-returns Inv-loop μ-loop
+returns c =
+    let l = c .before .loop in let a = c .before .before .args in
+    let e : l .k ≡ a .at = omega (arith, l .inv .0, c .loop-test .left) in
+    l .inv .2 ∙ ap (λ k. rolledAt (a .base) (a .m) k (a .cells .now)) e
+
+pub roll-spec : {M : Type 1} → statement M
+roll-spec =
+    tie.close
+    (tie.spec
+    Inv-loop
+    μ-loop
+    loop-holds
+    mul-oldest
+    element-copy-out-oldest
+    comb-requires
+    add-k
+    loop-less
+    loop-again
+    returns)
