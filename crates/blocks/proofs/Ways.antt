@@ -1,9 +1,10 @@
--- The three ways in which a one-to-one block call ends.
-use mathlib.Core.Path.{_≡_, refl}
+-- The three ways in which a one-to-one block call ends, and that its promise leaves no other.
+use mathlib.Core.Path.{_≡_, refl, sym, _∙_}
 use mathlib.Core.List.{List}
 use Prim.Native.Nat.{ℕ, zero, suc}
 use borrow.Author.Tests.{eq-eqb, ne-eqb}
 use lib.ListN.{length}
+use Rattle.blocks.specs.declared.Verdict.{Verdict}
 use Rattle.blocks.specs.declared.Verdict.the-variants.{Done, Refused}
 use Rattle.blocks.specs.Verdicts.{verdictOf}
 use Rattle.blocks.specs.Scan.{scan, ends}
@@ -35,3 +36,8 @@ module _ {S A B : Type 0} (k : ℕ) (out : S → A → B) (next : S → A → S)
       let l = eq-eqb (length xs) (length ys) h in
       let z = eq-eqb k 0 e in
       record { verdict = rw (l, e); state = rw (l, z) p; written = rw (l, z) q }
+
+  -- the promise settles the call: two results that it allows are one
+  pub settled : {t u : S} {v w : Verdict} {zs ws : List B} → Blocked k out next s xs ys t v zs → Blocked k out next s xs ys u w ws
+      → (t ≡ u) × ((v ≡ w) × (zs ≡ ws))
+  settled p q = (p .state ∙ sym (q .state), (p .verdict ∙ sym (q .verdict), p .written ∙ sym (q .written)))

@@ -13,7 +13,7 @@ use Rattle.blocks.proofs.Turns.{Going, start, turn, done}
 use Rattle.dsm.specs.declared.Dsm.{Dsm}
 use Rattle.dsm.specs.Modulator.{outOf, nextOf, insideFrom, InRange}
 use Rattle.dsm.specs.Calls.{refusal, Keeps}
-use Rattle.dsm.specs.Cells.{Turns, Modulates}
+use Rattle.dsm.specs.Cells.{Turns, Modulates, cells}
 use Rattle.dsm.proofs.Shapes.{length-keeping, beyond-keeping, used, whole, beyond}
 use Rattle.dsm.proofs.Refusals.{none, none-order, none-lying}
 
@@ -28,11 +28,8 @@ keeps-then s t u p q = record {
   retained = rw (p .order) at (q .retained) ∙ p .retained;
 }
 
-abbrev pub with-cells : Dsm → List ℕ → List ℤ → Dsm
-with-cells s a c = record { order = s .order; accumulators = a; retained = c }
-
 module _ (s : Dsm) (x : ℕ) (a : List ℕ) (c : List ℤ) (y : ℤ) (t : Turns (s .order) (s .accumulators) (s .retained) x a c y) where
-  pub step-state : with-cells s a c ≡ nextOf s x
+  pub step-state : cells (s .order) a c ≡ nextOf s x
   unfolding nextOf
   step-state = rw (t .accumulators, t .retained)
 
@@ -40,12 +37,12 @@ module _ (s : Dsm) (x : ℕ) (a : List ℕ) (c : List ℤ) (y : ℤ) (t : Turns 
   unfolding outOf
   step-out = t .out
 
-  pub step-keeps : s .order ≤ length (s .accumulators) → refusal s ≡ 0 → Keeps s (with-cells s a c)
+  pub step-keeps : s .order ≤ length (s .accumulators) → refusal s ≡ 0 → Keeps s (cells (s .order) a c)
   step-keeps room ok =
       let n = s .order in let k = s .accumulators in
       record {
         order = refl;
-        accepted = none (with-cells s a c) (none-order s ok) (t .stay) ∙ sym ok;
+        accepted = none (cells (s .order) a c) (none-order s ok) (t .stay) ∙ sym ok;
         accumulators = rw (t .accumulators) (beyond n x k room);
         retained = rw (t .retained) (beyond-keeping n _ (s .retained) (used n x k room));
       }
@@ -79,7 +76,7 @@ module _ (s : Dsm) (xs : List ℕ) (ok : refusal s ≡ 0) where
       (none-order t r, g .accumulators, g .retained, none-lying t r)
 
   pub running-turn : (ys : List ℤ) (t : Dsm) (i : ℕ) (a : List ℕ) (c : List ℤ) (y : ℤ) → i < length xs → Running s xs ys t i
-      → Turns (t .order) (t .accumulators) (t .retained) (getD xs i 0) a c y → Running s xs (set ys i y) (with-cells t a c) (i + 1)
+      → Turns (t .order) (t .accumulators) (t .retained) (getD xs i 0) a c y → Running s xs (set ys i y) (cells (t .order) a c) (i + 1)
   running-turn ys t i a c y h g r =
       let x = getD xs i 0 in
       let n : t .order ≤ 8 = none-order t (g .keeps .accepted ∙ ok) in
@@ -87,7 +84,7 @@ module _ (s : Dsm) (xs : List ℕ) (ok : refusal s ≡ 0) where
       let room = step-room t x a c y r in
       record {
         going = rw (step-out t x a c y r, step-state t x a c y r) (turn outOf nextOf s xs ys t i 0 h (g .going));
-        keeps = keeps-then s t (with-cells t a c) (g .keeps) (step-keeps t x a c y r (omega (arith, g .accumulators)) (g .keeps .accepted ∙ ok));
+        keeps = keeps-then s t (cells (t .order) a c) (g .keeps) (step-keeps t x a c y r (omega (arith, g .accumulators)) (g .keeps .accepted ∙ ok));
         range = below-more (λ j. InRange (s .order) (getD (set ys i y) j (pos 0))) i
             (λ j k. rw (getD-set-other ys i j y (pos 0) (ne-of-lt k)) (g .range j k))
             (rw (getD-set-same ys i y (pos 0) short) (rw (g .keeps .order) at (r .range)));

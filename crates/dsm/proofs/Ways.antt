@@ -15,8 +15,8 @@ use Rattle.dsm.specs.declared.Output.the-variants as Output
 use Rattle.dsm.specs.declared.OutputRange.the-variants as OutputRange
 use Rattle.dsm.specs.Modulator.{outOf, least, greatest}
 use Rattle.dsm.specs.Calls.{refusal, blockNumber, given, rangeAt, Steps, Runs}
-use Rattle.dsm.specs.Cells.{Modulates, Turns}
-use Rattle.dsm.proofs.Running.{keeps-same, with-cells, step-state, step-out, step-keeps}
+use Rattle.dsm.specs.Cells.{Modulates, Turns, cells}
+use Rattle.dsm.proofs.Running.{keeps-same, step-state, step-out, step-keeps}
 
 ungiven : (k : ℕ) (y : ℤ) → (k ≡ 0 → ⊥) → Output.Refused k ≡ given k y
 unfolding given
@@ -50,7 +50,7 @@ module _ (s : Dsm) (x : ℕ) where
   }
 
   pub step-taken : (a : List ℕ) (c : List ℤ) (y : ℤ) → s .order ≤ length (s .accumulators) → refusal s ≡ 0
-      → Turns (s .order) (s .accumulators) (s .retained) x a c y → Steps s x (record { state = with-cells s a c; out = Output.Given y })
+      → Turns (s .order) (s .accumulators) (s .retained) x a c y → Steps s x (record { state = cells (s .order) a c; out = Output.Given y })
   unfolding given
   step-taken a c y room ok t = record {
     step = rw (ok, step-state s x a c y t, step-out s x a c y t);

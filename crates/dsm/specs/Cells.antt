@@ -8,7 +8,7 @@ use lib.ListN.{length, take, drop, getD}
 use Rattle.blocks.specs.Scan.{scan, ends}
 use Rattle.dsm.specs.declared.Dsm.{Dsm}
 use Rattle.dsm.specs.Modulator.{accumulated, carries, output, keeping, outOf, nextOf, insideFrom, InRange}
-use Rattle.dsm.specs.Calls.{Keeps}
+use Rattle.dsm.specs.Calls.{refusal, Keeps}
 
 -- the n lowest bits of d, the lowest first
 unfoldable pub bitsOf : ℕ → ℕ → List ℕ
@@ -35,6 +35,17 @@ pub record Turns (n : ℕ) (k : List ℕ) (l : List ℤ) (x : ℕ) (a : List ℕ
   pub out : y ≡ output (carries x (take n k)) l
   pub stay : insideFrom 0 (take (n - 1) c) ≡ true
   pub range : InRange n y
+
+-- a state of these cells
+abbrev pub cells : ℕ → List ℕ → List ℤ → Dsm
+cells order a c = record { order = order; accumulators = a; retained = c }
+
+-- The cells are a state's that is accepted, and the slices are of one length.
+pub record Ready (order : ℕ) (a : List ℕ) (c : List ℤ) (xs : List ℕ) (ys : List ℤ) : Type 0 where
+  pub alike : length xs ≡ length ys
+  pub accepted : refusal (cells order a c) ≡ 0
+  pub accumulators : length a ≡ 8
+  pub retained : length c ≡ 8
 
 -- The steps on s over xs have run; t is the state after, zs what is written.
 pub record Modulates (s : Dsm) (xs : List ℕ) (t : Dsm) (zs : List ℤ) : Type 0 where

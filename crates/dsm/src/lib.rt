@@ -11,7 +11,7 @@ ghost use lib.IntN.{pos, _+ℤ_, _-ℤ_};
 ghost use lib.Signed.{mag};
 ghost use Rattle.dsm.specs.Modulator.{inside, insideFrom};
 ghost use Rattle.dsm.specs.Calls.{refusal, zeroed, madeOf, rangeOf, Steps, Runs};
-ghost use Rattle.dsm.specs.Cells.{Accumulates, Combines, Turns, Modulates};
+ghost use Rattle.dsm.specs.Cells.{Accumulates, Combines, Turns, Ready, Modulates, cells};
 
 // Order K, accumulators, of which K are used, and retained values, of which K - 1 are used. Other cells never matter.
 // Retained cell j, from 0, must lie in 1 - 2^j .. 2^j.
@@ -122,6 +122,37 @@ fn turn(a: &mut [u32; 8], c: &mut [i16; 8], order: usize, x: u32) -> i16
     combine(c, order, d)
 }
 
+// The steps over xs in turn, on lent cells: writes their outputs.
+fn run(a: &mut [u32; 8], c: &mut [i16; 8], order: usize, xs: &[u32], ys: &mut [i16])
+    requires { ⌜ Ready order (now a) (now c) (now xs) (now ys) ⌝ }
+    ensures { λ _. ⌜ Modulates (cells order (now (a .entry)) (now (c .entry))) (now (xs .entry)) (cells order (now (a .exit)) (now (c .exit))) (now (ys .exit)) ⌝ }
+{
+    let mut i: usize = 0;
+    while i < xs.len() {
+        let y = turn(a, c, order, xs[i]);
+        ys[i] = y;
+        i += 1;
+    }
+}
+
+// The same, once for each order: in its arm the order is known, so that the loop over its cells is unrolled.
+fn run_by_order(a: &mut [u32; 8], c: &mut [i16; 8], order: usize, xs: &[u32], ys: &mut [i16])
+    requires { ⌜ Ready order (now a) (now c) (now xs) (now ys) ⌝ }
+    ensures { λ _. ⌜ Modulates (cells order (now (a .entry)) (now (c .entry))) (now (xs .entry)) (cells order (now (a .exit)) (now (c .exit))) (now (ys .exit)) ⌝ }
+{
+    match order {
+        1 => run(a, c, order, xs, ys),
+        2 => run(a, c, order, xs, ys),
+        3 => run(a, c, order, xs, ys),
+        4 => run(a, c, order, xs, ys),
+        5 => run(a, c, order, xs, ys),
+        6 => run(a, c, order, xs, ys),
+        7 => run(a, c, order, xs, ys),
+        8 => run(a, c, order, xs, ys),
+        _ => run(a, c, order, xs, ys),
+    }
+}
+
 // The steps over xs in turn: writes their outputs and gives the state after.
 fn modulate(s: Dsm, xs: &[u32], ys: &mut [i16]) -> Dsm
     requires { ⌜ (length (now xs) ≡ length (now ys)) × (refusal s ≡ 0) ⌝ }
@@ -130,12 +161,7 @@ fn modulate(s: Dsm, xs: &[u32], ys: &mut [i16]) -> Dsm
     let order = s.order;
     let mut a = s.accumulators;
     let mut c = s.retained;
-    let mut i: usize = 0;
-    while i < xs.len() {
-        let y = turn(&mut a, &mut c, order, xs[i]);
-        ys[i] = y;
-        i += 1;
-    }
+    run_by_order(&mut a, &mut c, order, xs, ys);
     Dsm {
         order,
         accumulators: a,

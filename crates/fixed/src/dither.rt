@@ -170,9 +170,17 @@ impl DirectForm1Dither {
         let coeff = c.coeff;
         let turned = self.turn(coeff, x0);
         let y = c.limit(turned.y);
-        let mut state = turned.state;
-        state.y1 = y;
-        Turned { y, state }
+        let free = turned.state;
+        Turned {
+            y,
+            state: DirectForm1Dither {
+                x1: x0,
+                x2: self.x1,
+                y1: y,
+                y2: self.y1,
+                e: free.e,
+            },
+        }
     }
 }
 

@@ -103,3 +103,7 @@ module _ (t : Bool) (len at n : ℕ) (e : t ≡ leb (at + n) len) where
 
 pub puts-same : {o o' : List ℕ} {at r : ℕ} {xs ys : List ℕ} → xs ≡ ys → Puts o at xs r o' → Puts o at ys r o'
 puts-same e w = rw e at w
+
+-- a writer's promise settles it: two results that it allows are one
+pub settled : {o : List ℕ} {at : ℕ} {bs : List ℕ} {q r : ℕ} {us vs : List ℕ} → Puts o at bs q us → Puts o at bs r vs → (q ≡ r) × (us ≡ vs)
+settled p t = (p .next ∙ sym (t .next), p .text ∙ sym (t .text))

@@ -87,8 +87,23 @@ fn pass(sections: usize, architecture: u32, a: &[i32; 8], z: &mut [i32; 8], x: i
     head.0
 }
 
+// The same through two sections.
+fn pass_two(architecture: u32, a: &[i32; 8], z: &mut [i32; 8], x: i32) -> i32
+    requires { ⌜ length (now z) ≡ 8 ⌝ }
+    ensures { λ r. ⌜ (r ≡ answer (filter 2 architecture (now (a .entry)) (now (z .entry))) x)
+        × (now (z .exit) ≡ next (filter 2 architecture (now (a .entry)) (now (z .entry))) x .z) ⌝ }
+{
+    let head = section(architecture, x, z[0], a[0]);
+    let tail = section(architecture / 16, head.1, z[1], a[1]);
+    let back = tail.0;
+    let on = tail.1;
+    z[0] = back;
+    z[1] = on;
+    head.0
+}
+
 // The steps of a block in turn, over lent cells.
-fn run_block(
+fn run_any(
     sections: usize,
     architecture: u32,
     a: &[i32; 8],
@@ -108,6 +123,73 @@ fn run_block(
         ys[i] = pass(sections, architecture, a, z, x);
         i += 1;
     }
+}
+
+// The same through two sections.
+fn run_two(architecture: u32, a: &[i32; 8], z: &mut [i32; 8], xs: &[i32], ys: &mut [i32])
+    requires { ⌜ (length (now z) ≡ 8) × (length (now xs) ≡ length (now ys)) ⌝ }
+    ensures { λ r. ⌜ (filter 2 architecture (now (a .entry)) (now (z .exit))
+        ≡ ends answer next (filter 2 architecture (now (a .entry)) (now (z .entry))) (now (xs .entry)))
+        × (now (ys .exit)
+        ≡ scan answer next (filter 2 architecture (now (a .entry)) (now (z .entry))) (now (xs .entry))) ⌝ }
+{
+    let mut i: usize = 0;
+    while i < xs.len() {
+        let x = xs[i];
+        ys[i] = pass_two(architecture, a, z, x);
+        i += 1;
+    }
+}
+
+// The same, once for each pair of the adapters A to D: in its arm both are known, and no section is told apart at run time.
+fn run_by_pair(architecture: u32, a: &[i32; 8], z: &mut [i32; 8], xs: &[i32], ys: &mut [i32])
+    requires { ⌜ (length (now z) ≡ 8) × (length (now xs) ≡ length (now ys)) ⌝ }
+    ensures { λ r. ⌜ (filter 2 architecture (now (a .entry)) (now (z .exit))
+        ≡ ends answer next (filter 2 architecture (now (a .entry)) (now (z .entry))) (now (xs .entry)))
+        × (now (ys .exit)
+        ≡ scan answer next (filter 2 architecture (now (a .entry)) (now (z .entry))) (now (xs .entry))) ⌝ }
+{
+    match architecture {
+        0xaa => run_two(architecture, a, z, xs, ys),
+        0xab => run_two(architecture, a, z, xs, ys),
+        0xac => run_two(architecture, a, z, xs, ys),
+        0xad => run_two(architecture, a, z, xs, ys),
+        0xba => run_two(architecture, a, z, xs, ys),
+        0xbb => run_two(architecture, a, z, xs, ys),
+        0xbc => run_two(architecture, a, z, xs, ys),
+        0xbd => run_two(architecture, a, z, xs, ys),
+        0xca => run_two(architecture, a, z, xs, ys),
+        0xcb => run_two(architecture, a, z, xs, ys),
+        0xcc => run_two(architecture, a, z, xs, ys),
+        0xcd => run_two(architecture, a, z, xs, ys),
+        0xda => run_two(architecture, a, z, xs, ys),
+        0xdb => run_two(architecture, a, z, xs, ys),
+        0xdc => run_two(architecture, a, z, xs, ys),
+        0xdd => run_two(architecture, a, z, xs, ys),
+        _ => run_two(architecture, a, z, xs, ys),
+    }
+}
+
+// The steps of a block in turn, over lent cells.
+fn run_block(
+    sections: usize,
+    architecture: u32,
+    a: &[i32; 8],
+    z: &mut [i32; 8],
+    xs: &[i32],
+    ys: &mut [i32],
+)
+    requires { ⌜ (sections ≤ 8) × (length (now z) ≡ 8) × (length (now xs) ≡ length (now ys)) ⌝ }
+    ensures { λ r. ⌜ (filter sections architecture (now (a .entry)) (now (z .exit))
+        ≡ ends answer next (filter sections architecture (now (a .entry)) (now (z .entry))) (now (xs .entry)))
+        × (now (ys .exit)
+        ≡ scan answer next (filter sections architecture (now (a .entry)) (now (z .entry))) (now (xs .entry))) ⌝ }
+{
+    if sections == 2 {
+        run_by_pair(architecture, a, z, xs, ys);
+        return;
+    }
+    run_any(sections, architecture, a, z, xs, ys);
 }
 
 impl Wdf {

@@ -15,8 +15,8 @@ limit-requires c κs = search needs
 
 returns : tie.Need-returns
 returns c =
-    let l = c .before in let t = l .before in let k = t .before in let s = k .before .before in
-    let a = s .args in
+    let l = c .before .before in let t = l .before in let k = t .before in let s = k .before .before in
+    let a = s .args in let g = c .struct-told2 .given in
     rw (
       read w32 (l .limit .result) (l .limit .ok),
       l .limit .ensures,
@@ -24,6 +24,8 @@ returns c =
       k .turn .ensures .0,
       k .turn .ensures .1,
       toZ-ofZ w32 (a .x0) (s .fits .x0),
+      read w32 (a .self .x1) (g .0 .1),
+      read w32 (a .self .y1) (g .1 .1 .0 .1),
     )
     (refl, refl)
 

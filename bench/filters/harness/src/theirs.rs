@@ -1,0 +1,160 @@
+//! The crate's filters over a block: its own step in a loop, as a caller writes it, never inlined into the measuring loop.
+use core::num::Wrapping as W;
+use dsp_fixedpoint::Q;
+use dsp_process::{Process, SplitProcess};
+use idsp::iir::wdf::{Wdf, WdfState};
+use idsp::iir::{Biquad, BiquadClamp, DirectForm1, DirectForm1Dither, DirectForm1Wide, DirectForm2Transposed};
+use idsp::{Cic, ClampWrap, Dsm, PLLState, RPLLConfig, Unwrapper, PLL, RPLL};
+
+#[inline(never)]
+pub fn decimate<const N: usize, const M: usize>(rate: u32, x: &[i32], y: &mut [i32]) {
+    let mut filter = Cic::<i32, N, M>::new(rate);
+    let mut k = 0;
+    for x in x {
+        if let Some(given) = filter.process(*x) {
+            y[k] = given;
+            k += 1;
+        }
+    }
+}
+
+#[inline(never)]
+pub fn interpolate<const N: usize, const M: usize>(rate: u32, x: &[i32], y: &mut [i32]) {
+    let mut filter = Cic::<i32, N, M>::new(rate);
+    let mut k = 0;
+    for y in y {
+        let sample = if filter.tick() {
+            k += 1;
+            Some(x[k - 1])
+        } else {
+            None
+        };
+        *y = filter.process(sample);
+    }
+}
+
+/// The steps of a one-to-one block.
+#[inline(always)]
+fn each<X: Copy, Y>(x: &[X], y: &mut [Y], mut step: impl FnMut(X) -> Y) {
+    for (x, y) in x.iter().zip(y) {
+        *y = step(*x);
+    }
+}
+
+#[inline(never)]
+pub fn dsm<const K: usize>(x: &[u32], y: &mut [i16]) {
+    let mut filter = Dsm::<K>::default();
+    each(x, y, |x| filter.process(x) as i16)
+}
+
+#[inline(never)]
+pub fn wdf<const N: usize, const A: u32>(a: i32, x: &[i32], y: &mut [i32]) {
+    let filter = Wdf::<N, A> { a: [Q::from_bits(a); N] };
+    let mut state = WdfState::<N>::default();
+    each(x, y, |x| filter.process(&mut state, x))
+}
+
+fn plain(c: &[f64; 8]) -> Biquad<f64> {
+    Biquad { ba: [c[0], c[1], c[2], c[3], c[4]] }
+}
+
+fn clamped(c: &[f64; 8]) -> BiquadClamp<f64, f64> {
+    BiquadClamp { coeff: plain(c), u: c[5], min: c[6], max: c[7] }
+}
+
+#[inline(never)]
+pub fn df1(c: &[f64; 8], x: &[f64], y: &mut [f64]) {
+    let (filter, mut state) = (plain(c), DirectForm1::default());
+    each(x, y, |x| filter.process(&mut state, x))
+}
+
+#[inline(never)]
+pub fn df1_clamp(c: &[f64; 8], x: &[f64], y: &mut [f64]) {
+    let (filter, mut state) = (clamped(c), DirectForm1::default());
+    each(x, y, |x| filter.process(&mut state, x))
+}
+
+#[inline(never)]
+pub fn df2t(c: &[f64; 8], x: &[f64], y: &mut [f64]) {
+    let (filter, mut state) = (plain(c), DirectForm2Transposed::default());
+    each(x, y, |x| filter.process(&mut state, x))
+}
+
+#[inline(never)]
+pub fn df2t_clamp(c: &[f64; 8], x: &[f64], y: &mut [f64]) {
+    let (filter, mut state) = (clamped(c), DirectForm2Transposed::default());
+    each(x, y, |x| filter.process(&mut state, x))
+}
+
+fn fixed<const F: i8>(c: &[i32; 8]) -> Biquad<Q<i32, i64, F>> {
+    Biquad { ba: [c[0], c[1], c[2], c[3], c[4]].map(Q::from_bits) }
+}
+
+fn fixed_clamped<const F: i8>(c: &[i32; 8]) -> BiquadClamp<Q<i32, i64, F>, i32> {
+    BiquadClamp { coeff: fixed(c), u: c[5], min: c[6], max: c[7] }
+}
+
+#[inline(never)]
+pub fn wide<const F: i8>(c: &[i32; 8], x: &[i32], y: &mut [i32]) {
+    let (filter, mut state) = (fixed::<F>(c), DirectForm1Wide::default());
+    each(x, y, |x| filter.process(&mut state, x))
+}
+
+#[inline(never)]
+pub fn wide_clamp<const F: i8>(c: &[i32; 8], x: &[i32], y: &mut [i32]) {
+    let (filter, mut state) = (fixed_clamped::<F>(c), DirectForm1Wide::default());
+    each(x, y, |x| filter.process(&mut state, x))
+}
+
+#[inline(never)]
+pub fn dither<const F: i8>(c: &[i32; 8], x: &[i32], y: &mut [i32]) {
+    let (filter, mut state) = (fixed::<F>(c), DirectForm1Dither::default());
+    each(x, y, |x| filter.process(&mut state, x))
+}
+
+#[inline(never)]
+pub fn dither_clamp<const F: i8>(c: &[i32; 8], x: &[i32], y: &mut [i32]) {
+    let (filter, mut state) = (fixed_clamped::<F>(c), DirectForm1Dither::default());
+    each(x, y, |x| filter.process(&mut state, x))
+}
+
+#[inline(never)]
+pub fn pll(c: &[i32; 3], x: &[i32], y: &mut [i32]) {
+    let (filter, mut state) = (PLL { ba: c.map(Q::from_bits) }, PLLState::default());
+    each(x, y, |x| filter.process(&mut state, W(x)).0)
+}
+
+#[inline(never)]
+pub fn clamp_wrap(x: &[i32], y: &mut [i32]) {
+    let mut filter = ClampWrap::<W<i32>>::default();
+    each(x, y, |x| filter.process(W(x)).0)
+}
+
+#[inline(never)]
+pub fn unwrapper(x: &[i32], y: &mut [i32]) {
+    let mut filter = Unwrapper::<i64>::default();
+    each(x, y, |x| filter.process(x))
+}
+
+/// Single steps: 0 where one gives nothing.
+#[inline(never)]
+pub fn steps<const N: usize, const M: usize>(rate: u32, x: &[i32], y: &mut [i32]) {
+    let mut filter = Cic::<i32, N, M>::new(rate);
+    each(x, y, |x| Process::<i32, Option<i32>>::process(&mut filter, x).unwrap_or(0))
+}
+
+/// Every input is a timestamp.
+#[inline(never)]
+pub fn rpll(c: &[u8; 3], x: &[i32], y: &mut [i32]) {
+    let filter = RPLLConfig { dt2: c[0], shift_frequency: c[1], shift_phase: c[2] };
+    let mut state = RPLL::default();
+    each(x, y, |x| {
+        filter.process(&mut state, Some(W(x)));
+        state.phase().0
+    })
+}
+
+#[inline(never)]
+pub fn scale(hi: i32, shift: u32, x: &[i32], y: &mut [i32]) {
+    each(x, y, |x| idsp::saturating_scale(x, hi, shift))
+}

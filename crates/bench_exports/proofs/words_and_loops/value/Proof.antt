@@ -1,0 +1,23 @@
+use mir.Syntax.{w32}
+use mir.ValLaws.{toZ-ofZ}
+use Rattle.bench_exports.specs.Fresh.{valueIn}
+use borrow.Author.Needs.{needs}
+use Rattle.bench_exports.proofs.words_and_loops.value.Statement.{statement}
+use Rattle.bench_exports.proofs.words_and_loops.value.Tie as tie
+
+enum-known-s : tie.Need-enum-known-s
+enum-known-s c = search needs
+
+enum-told : tie.Need-enum-told
+enum-told c = search needs
+
+returns : tie.Need-returns
+unfolding valueIn
+returns c = rw (toZ-ofZ w32 (c .before .s .given .0 .0) (record { sfits = c .known-told .given .0 .1 }), c .before .s .given .1)
+
+returns-2 : tie.Need-returns-2
+unfolding valueIn
+returns-2 c = rw (c .enum-told .given .1)
+
+pub value-spec : {M : Type 1} → statement M
+value-spec = tie.close (tie.spec enum-known-s enum-told returns returns-2)

@@ -1,0 +1,79 @@
+// Decimator and interpolator.
+use cic::state::Cic;
+use cic::steps::Out;
+ghost use mathlib.Core.Path.{_≡_};
+ghost use lib.ListN.{length};
+ghost use Rattle.blocks.specs.Scan.{scan, ends};
+ghost use Rattle.blocks.specs.Blocks.{blockNumber, unless};
+ghost use Rattle.sums.specs.Runs.{blockOut, fillOut};
+ghost use Rattle.cic.specs.Reading.{i32Ops, stateOf};
+ghost use Rattle.bench_exports.specs.Fresh.{fresh, givenIn, stepOut, stepNext};
+
+// A decimator's block.
+#[no_mangle]
+pub extern "C" fn bench_decimate(order: usize, delay: usize, rate: u32, xs: &[i32], ys: &mut [i32])
+    ensures { λ _. ⌜ now (ys .exit) ≡ blockOut i32Ops (stateOf (fresh order delay rate)) (now (xs .entry)) (now (ys .entry)) ⌝ }
+{
+    let made = Cic::new(order, delay, rate);
+    let filter = made.state;
+    filter.decimate_block(xs, ys);
+}
+
+// An interpolator's block.
+#[no_mangle]
+pub extern "C" fn bench_interpolate(
+    order: usize,
+    delay: usize,
+    rate: u32,
+    xs: &[i32],
+    ys: &mut [i32],
+)
+    ensures { λ _. ⌜ now (ys .exit) ≡ fillOut i32Ops (stateOf (fresh order delay rate)) (now (xs .entry)) (now (ys .entry)) ⌝ }
+{
+    let made = Cic::new(order, delay, rate);
+    let filter = made.state;
+    filter.interpolate_block(xs, ys);
+}
+
+// What a step gives, or 0.
+fn given(out: Out) -> i32
+    ensures { λ r. ⌜ r ≡ givenIn out ⌝ }
+{
+    match out {
+        Out::Given(y, _) => y,
+        Out::Nothing => 0,
+        Out::Refused(_) => 0,
+    }
+}
+
+// A decimator's steps, each by itself: where one gives nothing, 0 is written.
+fn step_all(s: Cic, xs: &[i32], ys: &mut [i32])
+    requires { ⌜ length (now xs) ≡ length (now ys) ⌝ }
+    ensures { λ _. ⌜ now (ys .exit) ≡ scan stepOut stepNext s (now (xs .entry)) ⌝ }
+{
+    let mut t = s;
+    let mut i: usize = 0;
+    while i < xs.len() {
+        let step = t.decimate(xs[i]);
+        let out = step.out;
+        let y = given(out);
+        ys[i] = y;
+        let next = step.state;
+        t = next;
+        i += 1;
+    }
+}
+
+// The same from a fresh filter; where the slices differ in length nothing is written.
+#[no_mangle]
+pub extern "C" fn bench_steps(order: usize, delay: usize, rate: u32, xs: &[i32], ys: &mut [i32])
+    ensures { λ _. ⌜ now (ys .exit) ≡ unless (blockNumber 0 (now (xs .entry)) (now (ys .entry))) (now (ys .entry))
+        (scan stepOut stepNext (fresh order delay rate) (now (xs .entry))) ⌝ }
+{
+    if xs.len() != ys.len() {
+        return;
+    }
+    let made = Cic::new(order, delay, rate);
+    let filter = made.state;
+    step_all(filter, xs, ys);
+}

@@ -1,0 +1,258 @@
+// Modulator, wave digital filter and biquads.
+use biquad::biquad::Biquad;
+use biquad::biquad_clamp::BiquadClamp;
+use biquad::direct_form1::DirectForm1;
+use biquad::direct_form2_transposed::DirectForm2Transposed;
+use dsm::Dsm;
+use fixed::dither::DirectForm1Dither;
+use fixed::wide::DirectForm1Wide;
+use wdf::filter::Wdf;
+ghost use mathlib.Core.Path.{_≡_};
+ghost use Rattle.blocks.specs.Scan.{scan};
+ghost use Rattle.blocks.specs.Blocks.{blockNumber, unless};
+ghost use Rattle.dsm.specs.Modulator.{outOf, nextOf};
+ghost use Rattle.dsm.specs.Calls.{madeOf};
+ghost use Rattle.dsm.specs.Calls as Modulator;
+ghost use Rattle.wdf.specs.Calls.{number, answer, next};
+ghost use Rattle.biquad.specs.Forms.{zero1, sum1, next1, held1, onward1, zero2, sum2, next2, held2, onward2};
+ghost use Rattle.biquad.specs.Answers.{limitNumber};
+ghost use Rattle.fixed.specs.Forms.{wideOut, wideNext, wideHeld, wideOnward, ditherOut, ditherNext, ditherHeld, ditherOnward};
+ghost use Rattle.fixed.specs.Answers.{fractionNumber, clampNumber};
+ghost use Rattle.bench_exports.specs.Fresh.{alike, still, quiet, floats, limits, words, within};
+
+// A modulator's block.
+#[no_mangle]
+pub extern "C" fn bench_dsm(order: usize, xs: &[u32], ys: &mut [i16])
+    ensures { λ _. ⌜ now (ys .exit) ≡ unless (Modulator.blockNumber (madeOf order .state) (now (xs .entry)) (now (ys .entry))) (now (ys .entry))
+        (scan outOf nextOf (madeOf order .state) (now (xs .entry))) ⌝ }
+{
+    let made = Dsm::new(order);
+    let filter = made.state;
+    filter.block(xs, ys);
+}
+
+// A wave digital filter's block; every section has the coefficient a.
+#[no_mangle]
+pub extern "C" fn bench_wdf(sections: usize, architecture: u32, a: i32, xs: &[i32], ys: &mut [i32])
+    ensures { λ _. ⌜ now (ys .exit) ≡ unless (blockNumber (number (alike sections architecture a)) (now (xs .entry)) (now (ys .entry))) (now (ys .entry))
+        (scan answer next (alike sections architecture a) (now (xs .entry))) ⌝ }
+{
+    let made = Wdf::new(sections, architecture, [a; 8]);
+    let filter = made.state;
+    filter.block(xs, ys);
+}
+
+// Blocks of the biquads, from a state of zeros.
+#[no_mangle]
+pub extern "C" fn bench_df1(b0: f64, b1: f64, b2: f64, a1: f64, a2: f64, xs: &[f64], ys: &mut [f64])
+    ensures { λ _. ⌜ now (ys .exit) ≡ unless (blockNumber 0 (now (xs .entry)) (now (ys .entry))) (now (ys .entry))
+        (scan (sum1 (floats b0 b1 b2 a1 a2)) (next1 (floats b0 b1 b2 a1 a2)) zero1 (now (xs .entry))) ⌝ }
+{
+    DirectForm1::default().block(Biquad { b0, b1, b2, a1, a2 }, xs, ys);
+}
+
+#[no_mangle]
+pub extern "C" fn bench_df2t(
+    b0: f64,
+    b1: f64,
+    b2: f64,
+    a1: f64,
+    a2: f64,
+    xs: &[f64],
+    ys: &mut [f64],
+)
+    ensures { λ _. ⌜ now (ys .exit) ≡ unless (blockNumber 0 (now (xs .entry)) (now (ys .entry))) (now (ys .entry))
+        (scan (sum2 (floats b0 b1 b2 a1 a2)) (next2 (floats b0 b1 b2 a1 a2)) zero2 (now (xs .entry))) ⌝ }
+{
+    DirectForm2Transposed::default().block(Biquad { b0, b1, b2, a1, a2 }, xs, ys);
+}
+
+#[no_mangle]
+pub extern "C" fn bench_df1_clamp(
+    b0: f64,
+    b1: f64,
+    b2: f64,
+    a1: f64,
+    a2: f64,
+    u: f64,
+    min: f64,
+    max: f64,
+    xs: &[f64],
+    ys: &mut [f64],
+)
+    ensures { λ _. ⌜ now (ys .exit) ≡ unless (blockNumber (limitNumber (limits b0 b1 b2 a1 a2 u min max)) (now (xs .entry)) (now (ys .entry))) (now (ys .entry))
+        (scan (held1 (limits b0 b1 b2 a1 a2 u min max)) (onward1 (limits b0 b1 b2 a1 a2 u min max)) zero1 (now (xs .entry))) ⌝ }
+{
+    DirectForm1::default().block_clamp(
+        BiquadClamp {
+            b0,
+            b1,
+            b2,
+            a1,
+            a2,
+            u,
+            min,
+            max,
+        },
+        xs,
+        ys,
+    );
+}
+
+#[no_mangle]
+pub extern "C" fn bench_df2t_clamp(
+    b0: f64,
+    b1: f64,
+    b2: f64,
+    a1: f64,
+    a2: f64,
+    u: f64,
+    min: f64,
+    max: f64,
+    xs: &[f64],
+    ys: &mut [f64],
+)
+    ensures { λ _. ⌜ now (ys .exit) ≡ unless (blockNumber (limitNumber (limits b0 b1 b2 a1 a2 u min max)) (now (xs .entry)) (now (ys .entry))) (now (ys .entry))
+        (scan (held2 (limits b0 b1 b2 a1 a2 u min max)) (onward2 (limits b0 b1 b2 a1 a2 u min max)) zero2 (now (xs .entry))) ⌝ }
+{
+    DirectForm2Transposed::default().block_clamp(
+        BiquadClamp {
+            b0,
+            b1,
+            b2,
+            a1,
+            a2,
+            u,
+            min,
+            max,
+        },
+        xs,
+        ys,
+    );
+}
+
+// Coefficients of words, and the same with an offset and limits.
+fn coefficients(b0: i32, b1: i32, b2: i32, a1: i32, a2: i32, f: u32) -> fixed::biquad::Biquad
+    ensures { λ r. ⌜ r ≡ words b0 b1 b2 a1 a2 f ⌝ }
+{
+    fixed::biquad::Biquad {
+        b0,
+        b1,
+        b2,
+        a1,
+        a2,
+        f,
+    }
+}
+
+fn bounded(coeff: fixed::biquad::Biquad, u: i32, min: i32, max: i32) -> fixed::biquad::BiquadClamp
+    ensures { λ r. ⌜ r ≡ within coeff u min max ⌝ }
+{
+    fixed::biquad::BiquadClamp { coeff, u, min, max }
+}
+
+#[no_mangle]
+pub extern "C" fn bench_wide(
+    b0: i32,
+    b1: i32,
+    b2: i32,
+    a1: i32,
+    a2: i32,
+    f: u32,
+    xs: &[i32],
+    ys: &mut [i32],
+)
+    ensures { λ _. ⌜ now (ys .exit) ≡ unless (blockNumber (fractionNumber 0 (words b0 b1 b2 a1 a2 f)) (now (xs .entry)) (now (ys .entry))) (now (ys .entry))
+        (scan (wideOut (words b0 b1 b2 a1 a2 f)) (wideNext (words b0 b1 b2 a1 a2 f)) still (now (xs .entry))) ⌝ }
+{
+    let state = DirectForm1Wide {
+        x1: 0,
+        x2: 0,
+        y1: 0,
+        y2: 0,
+    };
+    let coeff = coefficients(b0, b1, b2, a1, a2, f);
+    state.block(coeff, xs, ys);
+}
+
+#[no_mangle]
+pub extern "C" fn bench_dither(
+    b0: i32,
+    b1: i32,
+    b2: i32,
+    a1: i32,
+    a2: i32,
+    f: u32,
+    xs: &[i32],
+    ys: &mut [i32],
+)
+    ensures { λ _. ⌜ now (ys .exit) ≡ unless (blockNumber (fractionNumber 1 (words b0 b1 b2 a1 a2 f)) (now (xs .entry)) (now (ys .entry))) (now (ys .entry))
+        (scan (ditherOut (words b0 b1 b2 a1 a2 f)) (ditherNext (words b0 b1 b2 a1 a2 f)) quiet (now (xs .entry))) ⌝ }
+{
+    let state = DirectForm1Dither {
+        x1: 0,
+        x2: 0,
+        y1: 0,
+        y2: 0,
+        e: 0,
+    };
+    let coeff = coefficients(b0, b1, b2, a1, a2, f);
+    state.block(coeff, xs, ys);
+}
+
+#[no_mangle]
+pub extern "C" fn bench_wide_clamp(
+    b0: i32,
+    b1: i32,
+    b2: i32,
+    a1: i32,
+    a2: i32,
+    f: u32,
+    u: i32,
+    min: i32,
+    max: i32,
+    xs: &[i32],
+    ys: &mut [i32],
+)
+    ensures { λ _. ⌜ now (ys .exit) ≡ unless (blockNumber (clampNumber 0 (within (words b0 b1 b2 a1 a2 f) u min max)) (now (xs .entry)) (now (ys .entry))) (now (ys .entry))
+        (scan (wideHeld (within (words b0 b1 b2 a1 a2 f) u min max)) (wideOnward (within (words b0 b1 b2 a1 a2 f) u min max)) still (now (xs .entry))) ⌝ }
+{
+    let state = DirectForm1Wide {
+        x1: 0,
+        x2: 0,
+        y1: 0,
+        y2: 0,
+    };
+    let coeff = coefficients(b0, b1, b2, a1, a2, f);
+    let limited = bounded(coeff, u, min, max);
+    state.block_clamp(limited, xs, ys);
+}
+
+#[no_mangle]
+pub extern "C" fn bench_dither_clamp(
+    b0: i32,
+    b1: i32,
+    b2: i32,
+    a1: i32,
+    a2: i32,
+    f: u32,
+    u: i32,
+    min: i32,
+    max: i32,
+    xs: &[i32],
+    ys: &mut [i32],
+)
+    ensures { λ _. ⌜ now (ys .exit) ≡ unless (blockNumber (clampNumber 1 (within (words b0 b1 b2 a1 a2 f) u min max)) (now (xs .entry)) (now (ys .entry))) (now (ys .entry))
+        (scan (ditherHeld (within (words b0 b1 b2 a1 a2 f) u min max)) (ditherOnward (within (words b0 b1 b2 a1 a2 f) u min max)) quiet (now (xs .entry))) ⌝ }
+{
+    let state = DirectForm1Dither {
+        x1: 0,
+        x2: 0,
+        y1: 0,
+        y2: 0,
+        e: 0,
+    };
+    let coeff = coefficients(b0, b1, b2, a1, a2, f);
+    let limited = bounded(coeff, u, min, max);
+    state.block_clamp(limited, xs, ys);
+}
