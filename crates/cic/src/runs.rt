@@ -4,13 +4,9 @@ use crate::interpolating::raise;
 use crate::state::Cic;
 use crate::steps::joined;
 ghost use mathlib.Core.Path.{_≡_};
-ghost use Prim.Native.Nat.{_+_, _-_, _≤_, _<_};
-ghost use lib.ListN.{length};
 ghost use Rattle.sums.specs.Runs.{needed, blockOut, fillOut, settledNumber, settledPart};
 ghost use Rattle.cic.specs.Reading.{i32Ops, stateOf};
 ghost use Rattle.cic.specs.Answers.{decimatedOf, filledOf};
-ghost use Rattle.cic.specs.Turns.{apart, Ready, Drives, Fills};
-ghost use Rattle.cic.specs.Stretches.{Ring, ringed, Reaches, Rests, Feeds, Coasts};
 
 // What a decimator's block wrote: the count of its outputs, and the unsettled count found before it, so that
 // output i of the block is settled exactly where that count is at most i. Or the number of a refusal.
