@@ -3,6 +3,8 @@
 // through specs/Reading and specs/Answers here: `stateOf` reads a `Cic` as the rules' state, `cicOf` goes
 // back, and each answer has one definition by number and value.
 mod cascade;
+mod decimating;
+mod interpolating;
 pub mod questions;
 pub mod runs;
 pub mod settling;

@@ -2,6 +2,7 @@
 // cells stay in place until the block ends.
 use crate::cascade::comb;
 use crate::cascade::integrate;
+use crate::steps::Numbers;
 use words::signed::sub_i32;
 ghost use mathlib.Core.Path.{_≡_};
 ghost use Prim.Native.Nat.{_+_, _≤_, _<_};
@@ -11,6 +12,20 @@ ghost use Rattle.sums.proofs.Stretches.{ran, lastOf};
 ghost use Rattle.sums.proofs.Rings.{turned, rolledAt};
 ghost use Rattle.cic.specs.Reading.{i32Ops};
 ghost use Rattle.cic.specs.Stretches.{Stores, Follows, Climbs};
+
+// A block on lent arrays: the numbers after it, and how many low-rate samples it wrote or read.
+pub(crate) struct Ran {
+    pub numbers: Numbers,
+    pub count: usize,
+}
+
+// A block on lent arrays whose delay lines are rings: the numbers after it, the place of the oldest cells, and
+// how many low-rate samples it wrote or read.
+pub(crate) struct Strode {
+    pub numbers: Numbers,
+    pub at: usize,
+    pub count: usize,
+}
 
 // The first n integrators over the inputs from..to. The cells are copied to a local and back, so that the
 // compiler keeps them in registers where n is a constant.

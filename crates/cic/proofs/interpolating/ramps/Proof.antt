@@ -6,39 +6,39 @@ use Rattle.cic.specs.Turns.{apart}
 use Rattle.cic.specs.Stretches.{Ring}
 use Rattle.cic.proofs.Turning.{fit}
 use Rattle.cic.proofs.Striding.{eighth}
-use Rattle.cic.proofs.runs.strides.Statement.{statement}
-use Rattle.cic.proofs.runs.strides.Tie as tie
+use Rattle.cic.proofs.interpolating.ramps.Statement.{statement}
+use Rattle.cic.proofs.interpolating.ramps.Tie as tie
 
 -- the state as the block begins
 abbrev begun : tie.Start → State ℤ
 begun p = apart (p .args .first) (p .args .integrators .now) (p .args .combs .now)
 
-stride-requires : tie.Need-stride-requires
-stride-requires c κs = search needs
+ramp-requires : tie.Need-ramp-requires
+ramp-requires c κs = search needs
 
-stride-requires-2 : tie.Need-stride-requires-2
-stride-requires-2 c κs = search needs
+ramp-requires-2 : tie.Need-ramp-requires-2
+ramp-requires-2 c κs = search needs
 
-stride-requires-3 : tie.Need-stride-requires-3
-stride-requires-3 c κs = search needs
+ramp-requires-3 : tie.Need-ramp-requires-3
+ramp-requires-3 c κs = search needs
 
-stride-requires-4 : tie.Need-stride-requires-4
-stride-requires-4 c κs = search needs
+ramp-requires-4 : tie.Need-ramp-requires-4
+ramp-requires-4 c κs = search needs
 
-stride-requires-5 : tie.Need-stride-requires-5
-stride-requires-5 c κs = search needs
+ramp-requires-5 : tie.Need-ramp-requires-5
+ramp-requires-5 c κs = search needs
 
-stride-requires-6 : tie.Need-stride-requires-6
-stride-requires-6 c κs = search needs
+ramp-requires-6 : tie.Need-ramp-requires-6
+ramp-requires-6 c κs = search needs
 
-stride-requires-7 : tie.Need-stride-requires-7
-stride-requires-7 c κs = search needs
+ramp-requires-7 : tie.Need-ramp-requires-7
+ramp-requires-7 c κs = search needs
 
-stride-requires-8 : tie.Need-stride-requires-8
-stride-requires-8 c κs = search needs
+ramp-requires-8 : tie.Need-ramp-requires-8
+ramp-requires-8 c κs = search needs
 
-stride-requires-9 : tie.Need-stride-requires-9
-stride-requires-9 c κs =
+ramp-requires-9 : tie.Need-ramp-requires-9
+ramp-requires-9 c κs =
     let m = c .before .before .before in let p = m .before in
     (eighth (p .args .first .order) (fit (begun p) (p .pre .0) .good .few) (m .match .rest), p .pre .0, p .pre .1)
 
@@ -97,22 +97,22 @@ returns-9 : tie.Need-returns-9
 returns-9 c =
     let m = c .before .before .before .before .before in let p = m .before in
     let e : 8 ≡ p .args .first .order = eighth (p .args .first .order) (fit (begun p) (p .pre .0) .good .few) (m .match .rest) in
-    let t = c .before .stride9 in
+    let t = c .before .ramp9 in
     (subst (λ n. Ring n (t .result .at) (t .result .numbers) (t .last .1 .0)) e (t .ensures .0), t .ensures .1)
 
-pub strides-spec : {M : Type 1} → statement M
-strides-spec =
+pub ramps-spec : {M : Type 1} → statement M
+ramps-spec =
     tie.close
     (tie.spec
-    stride-requires
-    stride-requires-2
-    stride-requires-3
-    stride-requires-4
-    stride-requires-5
-    stride-requires-6
-    stride-requires-7
-    stride-requires-8
-    stride-requires-9
+    ramp-requires
+    ramp-requires-2
+    ramp-requires-3
+    ramp-requires-4
+    ramp-requires-5
+    ramp-requires-6
+    ramp-requires-7
+    ramp-requires-8
+    ramp-requires-9
     same-length
     returns
     same-length-2

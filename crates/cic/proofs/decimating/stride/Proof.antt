@@ -14,8 +14,8 @@ use Rattle.cic.specs.Turns.{apart}
 use Rattle.cic.specs.Stretches.{Ring, ringed}
 use Rattle.cic.proofs.Turning.{fit, ready}
 use Rattle.cic.proofs.Running.{drive-none, drive-room, drive-one, drive-ends}
-use Rattle.cic.proofs.runs.stride.Statement.{statement}
-use Rattle.cic.proofs.runs.stride.Tie as tie
+use Rattle.cic.proofs.decimating.stride.Statement.{statement}
+use Rattle.cic.proofs.decimating.stride.Tie as tie
 
 abbrev Inv-loop : tie.InvT-loop
 Inv-loop integrators₀ combs₀ n input out₀ numbers₀ at₀ k₀ i₀ integrators combs out numbers at k i =

@@ -2,8 +2,8 @@ use borrow.Author.Needs.{needs}
 use mathlib.Core.Path.{_≡_, refl}
 use mir.Syntax.{w32}
 use mir.Val.{toZ, ofZ}
-use Rattle.cic.proofs.runs.coast.Statement.{statement}
-use Rattle.cic.proofs.runs.coast.Tie as tie
+use Rattle.cic.proofs.interpolating.coast.Statement.{statement}
+use Rattle.cic.proofs.interpolating.coast.Tie as tie
 
 held : (c : tie.After-struct-told) → toZ w32 (ofZ w32 (c .before .before .before .args .first .hold)) ≡ c .before .before .before .args .first .hold
 held c = search needs

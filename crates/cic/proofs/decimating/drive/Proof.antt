@@ -1,6 +1,6 @@
 use borrow.Author.Needs.{needs}
-use Rattle.cic.proofs.runs.drive.Statement.{statement}
-use Rattle.cic.proofs.runs.drive.Tie as tie
+use Rattle.cic.proofs.decimating.drive.Statement.{statement}
+use Rattle.cic.proofs.decimating.drive.Tie as tie
 
 strides-requires : tie.Need-strides-requires
 strides-requires c κs = search needs

@@ -9,10 +9,10 @@ use Rattle.words.proofs.Reading.{read}
 use Rattle.sums.proofs.Stretches.{ran-length}
 use Rattle.cic.specs.Reading.{i32Ops}
 use Rattle.cic.proofs.Striding.{reaches}
-use Rattle.cic.proofs.runs.stretch.Statement.{statement}
-use Rattle.cic.proofs.runs.stretch.Tie as tie
-use Rattle.cic.proofs.runs.stretch.Reads as reads
-use Rattle.cic.proofs.runs.stretch.Lts as lts
+use Rattle.cic.proofs.decimating.stretch.Statement.{statement}
+use Rattle.cic.proofs.decimating.stretch.Tie as tie
+use Rattle.cic.proofs.decimating.stretch.Reads as reads
+use Rattle.cic.proofs.decimating.stretch.Lts as lts
 use Rattle.cic.proofs.steps.lowered.Reads as lowered-reads
 use Rattle.cic.proofs.stretches.following.Reads as following-reads
 use Rattle.cic.proofs.stretches.last.Reads as last-reads

@@ -1,6 +1,6 @@
 use borrow.Author.Needs.{needs}
-use Rattle.cic.proofs.runs.raise.Statement.{statement}
-use Rattle.cic.proofs.runs.raise.Tie as tie
+use Rattle.cic.proofs.interpolating.raise.Statement.{statement}
+use Rattle.cic.proofs.interpolating.raise.Tie as tie
 
 ramps-requires : tie.Need-ramps-requires
 ramps-requires c κs = search needs

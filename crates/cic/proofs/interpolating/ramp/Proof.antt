@@ -16,8 +16,8 @@ use Rattle.cic.specs.Turns.{apart}
 use Rattle.cic.specs.Stretches.{Ring, ringed}
 use Rattle.cic.proofs.Turning.{fit}
 use Rattle.cic.proofs.Running.{raise-turn, raise-same, raise-ends}
-use Rattle.cic.proofs.runs.ramp.Statement.{statement}
-use Rattle.cic.proofs.runs.ramp.Tie as tie
+use Rattle.cic.proofs.interpolating.ramp.Statement.{statement}
+use Rattle.cic.proofs.interpolating.ramp.Tie as tie
 
 abbrev Inv-loop : tie.InvT-loop
 Inv-loop integrators₀ combs₀ n input out₀ numbers₀ at₀ k₀ i₀ integrators combs out numbers at k i =

@@ -3,8 +3,8 @@ use mir.Syntax.{w32}
 use mir.ValLaws.{toZ-ofZ}
 use Rattle.words.proofs.Reading.{read}
 use Rattle.cic.proofs.Striding.{feeds}
-use Rattle.cic.proofs.runs.feed.Statement.{statement}
-use Rattle.cic.proofs.runs.feed.Tie as tie
+use Rattle.cic.proofs.interpolating.feed.Statement.{statement}
+use Rattle.cic.proofs.interpolating.feed.Tie as tie
 
 ring-requires : tie.Need-ring-requires
 ring-requires c κs = search needs
