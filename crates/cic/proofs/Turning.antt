@@ -98,20 +98,3 @@ module _ (s : State ℤ) where
   unfolding riseNumber
   rise-state k e h (some x) = rw (← e, ne-eqb k 0 h)
   rise-state k e h none = rw (← e, ne-eqb k 0 h)
-
-  module _ (z : refusal s ≡ 0) where
-    pub needless : (x : ℤ) → 0 < s .countdown → riseNumber s (some x) ≡ 21
-    unfolding riseNumber
-    needless x h = rw (z, ne-eqb (s .countdown) 0 (λ e. omega arith))
-
-    pub missed : s .countdown ≡ 0 → riseNumber s none ≡ 22
-    unfolding riseNumber
-    missed h = rw (z, h)
-
-    pub due-taken : (x : ℤ) → s .countdown ≤ 0 → riseNumber s (some x) ≡ 0
-    unfolding riseNumber
-    due-taken x h = let e : s .countdown ≡ 0 = omega arith in rw (z, e)
-
-    pub none-taken : (s .countdown ≡ 0 → ⊥) → riseNumber s none ≡ 0
-    unfolding riseNumber
-    none-taken h = rw (z, ne-eqb (s .countdown) 0 h)

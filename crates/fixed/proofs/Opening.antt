@@ -10,7 +10,7 @@ use mir.Syntax.{w32, w64}
 use mir.Val.{SFits}
 use Rattle.words.specs.Words.{floorDiv}
 use Rattle.words.proofs.Reading.{wrap-is, wrap-fits}
-use Rattle.words.proofs.Sizes.{high-fits}
+use Rattle.words.proofs.Sizes.{high-fits, not-below, not-above}
 use Rattle.fixed.specs.declared.biquad.Biquad.{Biquad}
 use Rattle.fixed.specs.declared.biquad.BiquadClamp.{BiquadClamp}
 use Rattle.fixed.specs.declared.wide.DirectForm1Wide.{DirectForm1Wide}
@@ -21,15 +21,6 @@ use Rattle.words.proofs.Floors.{halves}
 -- the crate's default
 abbrev pub openOf : Biquad → BiquadClamp
 openOf c = record { coeff = c; u = pos 0; min = negsuc 2147483647; max = pos 2147483647 }
-
--- a word lies between the least and the greatest
-not-below : (y : ℤ) → SFits w32 y → ltZ y (negsuc 2147483647) ≡ false
-not-below (pos n) h = refl
-not-below (negsuc n) h = le-ltb 2147483647 n (let k = h .sfits in omega arith)
-
-not-above : (y : ℤ) → SFits w32 y → ltZ (pos 2147483647) y ≡ false
-not-above (pos n) h = le-ltb 2147483647 n (let k = h .sfits in omega arith)
-not-above (negsuc n) h = refl
 
 passes : (c : Biquad) (y : ℤ) → SFits w32 y → limited (openOf c) y ≡ y
 passes c y h = rw (+ℤ-idr y, wrap-is w32 y h, not-below y h, not-above y h)

@@ -14,7 +14,7 @@ use lib.ListN.{length, take, drop, length-append, take-append-drop}
 use lib.Seq.{length-take-le}
 use borrow.Author.Tests.{ltb-false, eq-eqb, ne-eqb}
 use Rattle.sums.specs.Ops.{Ops}
-use Rattle.sums.specs.State.{State}
+use Rattle.sums.specs.State.{State, refusal}
 use Rattle.sums.specs.Calls.{riseNumber, riseState, risenOf}
 use Rattle.sums.specs.Runs.{needed, dueSample, unread, fillNumber, fillState, risings, risenAfter}
 use Rattle.sums.specs.Demands.{along, ends, Raise, rise, fill, samples, lifts, yields}
@@ -97,23 +97,23 @@ module _ {A : Type 0} (o : Ops A) where
       (parts n (riseState o s none) (rise-waits-fit o s f h) m (x ∷ xs) rest (omega (arith, w n (x ∷ xs) .counts))))
       (down (s .countdown))
 
--- the number of a step, by what is due
-module _ {A : Type 0} (s : State A) (f : Fit s) where
-  due-number : (x : A) → s .countdown ≡ 0 → riseNumber s (some x) ≡ 0
+-- the number of a step of an accepted state, by what is due
+module _ {A : Type 0} (s : State A) (e : refusal s ≡ 0) where
+  pub due-number : (x : A) → s .countdown ≡ 0 → riseNumber s (some x) ≡ 0
   unfolding riseNumber
-  due-number x z = rw (accepted s f, eq-eqb (s .countdown) 0 z)
+  due-number x z = rw (e, eq-eqb (s .countdown) 0 z)
 
-  early-number : (x : A) → 0 < s .countdown → riseNumber s (some x) ≡ 21
+  pub early-number : (x : A) → 0 < s .countdown → riseNumber s (some x) ≡ 21
   unfolding riseNumber
-  early-number x h = rw (accepted s f, ne-eqb (s .countdown) 0 (λ z. omega arith))
+  early-number x h = rw (e, ne-eqb (s .countdown) 0 (λ z. omega arith))
 
-  missing-number : s .countdown ≡ 0 → riseNumber s none ≡ 22
+  pub missing-number : s .countdown ≡ 0 → riseNumber s none ≡ 22
   unfolding riseNumber
-  missing-number z = rw (accepted s f, eq-eqb (s .countdown) 0 z)
+  missing-number z = rw (e, eq-eqb (s .countdown) 0 z)
 
-  held-number : 0 < s .countdown → riseNumber s none ≡ 0
+  pub held-number : 0 < s .countdown → riseNumber s none ≡ 0
   unfolding riseNumber
-  held-number h = rw (accepted s f, ne-eqb (s .countdown) 0 (λ z. omega arith))
+  held-number h = rw (e, ne-eqb (s .countdown) 0 (λ z. omega arith))
 
 -- calls from s that read xs and give ys leave t
 pub record Climbed (o : Ops ℤ) (s : State ℤ) (xs ys : List ℤ) (t : State ℤ) : Type 0 where
@@ -171,18 +171,18 @@ module _ (o : Ops ℤ) where
   unfolding samples yields lifts risings risenAfter
   rise-climbed s f (some x) (inl z) =
       let d = onward-due o s f z 0 x [] in
-      rw (due-number s f x z)
+      rw (due-number s (accepted s f) x z)
       (record {
         steps = 1;
         counts = sym (needed-give 0 (s .countdown) (s .rate) z ∙ ap suc (needed-none (s .rate) (s .rate)));
         gave = sym (d .outs);
         left = sym (d .state);
       })
-  rise-climbed s f (some x) (inr h) = rw (early-number s f x h, stays s (some x) 20 (early-number s f x h)) (none-climbed s)
-  rise-climbed s f none (inl z) = rw (missing-number s f z, stays s none 21 (missing-number s f z)) (none-climbed s)
+  rise-climbed s f (some x) (inr h) = rw (early-number s (accepted s f) x h, stays s (some x) 20 (early-number s (accepted s f) x h)) (none-climbed s)
+  rise-climbed s f none (inl z) = rw (missing-number s (accepted s f) z, stays s none 21 (missing-number s (accepted s f) z)) (none-climbed s)
   rise-climbed s f none (inr h) =
       let d = onward-wait o s f h 0 [] in
-      rw (held-number s f h)
+      rw (held-number s (accepted s f) h)
       (record {
         steps = 1;
         counts = sym (needed-wait 0 (s .countdown) (s .rate) h ∙ needed-none (s .countdown - 1) (s .rate));

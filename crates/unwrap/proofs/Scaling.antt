@@ -14,7 +14,7 @@ use mir.Val.{SFits}
 use Rattle.words.specs.Words.{wrap, floorDiv}
 use Rattle.words.proofs.Reading.{wrap-is}
 use Rattle.words.proofs.Sums.{equal, wrapped, same-add, wrap-same}
-use Rattle.words.proofs.Sizes.{mag-add}
+use Rattle.words.proofs.Sizes.{mag-add, not-below}
 use Rattle.unwrap.specs.Scales.{extended, clipped}
 
 -- shift 32: what is left of lo is its sign
@@ -25,10 +25,6 @@ sign-of (negsuc l) f e = absurd (true≢false (sym e))
 sign-below : (lo : ℤ) → SFits w32 lo → leZ (pos 0) lo ≡ false → floorDiv lo (2 ^ 31) ≡ negsuc 0
 sign-below (pos l) f e = let k = leb-false 0 l e in absurd (omega arith)
 sign-below (negsuc l) f e = let h = f .sfits in let z : l / 2 ^ 31 ≡ 0 = omega arith in ap negsuc z
-
-not-below : (z : ℤ) → SFits w32 z → ltZ z (negsuc 2147483647) ≡ false
-not-below (pos n) f = refl
-not-below (negsuc n) f = let h = f .sfits in le-ltb 2147483647 n (omega arith)
 
 module _ (lo hi : ℤ) (fl : SFits w32 lo) (fh : SFits w32 hi) where
   pub extend-none : leZ (pos 0) lo ≡ true → hi ≡ extended lo hi

@@ -7,13 +7,22 @@ use native.Mathlib.Nat.{mul-le-mul}
 use native.Mathlib.Omega.{arith}
 use lib.Dec.{ltb}
 use lib.IntN.{ℤ, pos, negsuc, negℤ, subℕ, _+ℤ_, _-ℤ_, _*ℤ_}
-use lib.Signed.{mag, shrZ}
-use borrow.Author.Tests.{ltb-true, ltb-false}
+use lib.Signed.{mag, ltZ, shrZ}
+use borrow.Author.Tests.{ltb-true, ltb-false, le-ltb}
 use mir.Syntax.{w32, w64}
 use mir.Val.{SFits}
 
 pub widen : {z : ℤ} → SFits w32 z → SFits w64 z
 widen h = record { sfits = omega (arith, h .sfits) }
+
+-- a word lies between the least and the greatest
+pub not-below : (z : ℤ) → SFits w32 z → ltZ z (negsuc 2147483647) ≡ false
+not-below (pos n) h = refl
+not-below (negsuc n) h = le-ltb 2147483647 n (let k = h .sfits in omega arith)
+
+pub not-above : (z : ℤ) → SFits w32 z → ltZ (pos 2147483647) z ≡ false
+not-above (pos n) h = le-ltb 2147483647 n (let k = h .sfits in omega arith)
+not-above (negsuc n) h = refl
 
 -- z + B, where z is not below - B
 abbrev pub off : ℕ → ℤ → ℕ

@@ -7,7 +7,8 @@ use Rattle.sums.specs.State.{refusal}
 use Rattle.cic.specs.declared.steps.Sample.the-variants.{Given, Missing}
 use Rattle.cic.specs.Reading.{stateOf}
 use Rattle.cic.specs.Answers.{sampleOf}
-use Rattle.cic.proofs.Turning.{rise-refuses, rise-takes, rise-state, needless, missed, due-taken, none-taken, not-due, is-due}
+use Rattle.cic.proofs.Turning.{rise-refuses, rise-takes, rise-state, not-due, is-due}
+use Rattle.sums.proofs.Rising.{due-number, early-number, missing-number, held-number}
 use Rattle.cic.proofs.state.Cic.interpolate.Statement.{statement}
 use Rattle.cic.proofs.state.Cic.interpolate.Tie as tie
 
@@ -32,7 +33,7 @@ returns-2 : tie.Need-returns-2
 returns-2 c =
     let e = c .before .before .before in let a = e .before .before .args in
     let none-given : a .sample ≡ Missing = c .before .enum-told .given .1 in
-    rise-refuses (a .self) (a .sample) 22 (rw none-given (sym (missed (stateOf (a .self)) (accepted e) (c .if2 .taken)))) (λ z. omega arith)
+    rise-refuses (a .self) (a .sample) 22 (rw none-given (sym (missing-number (stateOf (a .self)) (accepted e) (c .if2 .taken)))) (λ z. omega arith)
 
 lifted-requires : tie.Need-lifted-requires
 lifted-requires c κs = search needs
@@ -42,13 +43,13 @@ returns-3 c =
     let k = c .before in let e = k .before .before .before in let a = e .before .before .args in let s = stateOf (a .self) in
     let none-given : a .sample ≡ Missing = k .before .enum-told .given .1 in
     rise-takes (a .self) (a .sample) (c .lifted .result) _ (c .lifted .ensures)
-    (rw none-given (not-due (s .countdown) _ (omega (arith, k .if2 .left)))) (rw none-given (none-taken s (accepted e) (k .if2 .left)))
+    (rw none-given (not-due (s .countdown) _ (omega (arith, k .if2 .left)))) (rw none-given (held-number s (accepted e) (omega (arith, k .if2 .left))))
 
 returns-4 : tie.Need-returns-4
 returns-4 c =
     let k = c .before .before in let e = k .before .before in let a = e .before .before .args in
     let given : a .sample ≡ Given (k .sample .given .0 .0) = k .sample .given .1 in
-    rise-refuses (a .self) (a .sample) 21 (rw given (sym (needless (stateOf (a .self)) (accepted e) (k .sample .given .0 .0) (c .if3 .taken)))) (λ z. omega arith)
+    rise-refuses (a .self) (a .sample) 21 (rw given (sym (early-number (stateOf (a .self)) (accepted e) (k .sample .given .0 .0) (c .if3 .taken)))) (λ z. omega arith)
 
 lifted-requires-2 : tie.Need-lifted-requires-2
 lifted-requires-2 c κs = search needs
@@ -60,7 +61,7 @@ returns-5 c =
     let given : a .sample ≡ Given x = k .sample .given .1 in
     let read-x : toZ w32 (ofZ w32 x) ≡ x = search needs in
     rise-takes (a .self) (a .sample) (c .lifted2 .result) _ (rw read-x at (c .lifted2 .ensures))
-    (rw given (is-due (s .countdown) x (h .if3 .left))) (rw given (due-taken s (accepted e) x (h .if3 .left)))
+    (rw given (is-due (s .countdown) x (h .if3 .left))) (rw given (due-number s (accepted e) x (omega (arith, h .if3 .left))))
 
 pub interpolate-spec : {M : Type 1} → statement M
 interpolate-spec =
