@@ -1,3 +1,4 @@
+-- A stretch is a jump to the next output: Striding puts the calls' promises together.
 use borrow.Author.Needs.{needs}
 use mathlib.Core.Path.{ap, _∙_}
 use Prim.Native.Nat.{_+_}

@@ -1,3 +1,4 @@
+-- What is left to run, `Held` of sums Blocks, on the state that the rings stand for; a turn is the jump of a stretch.
 use borrow.Author.Needs.{needs}
 use Prim.Native.Nat.{_-_, _*_, _^_, _<_}
 use native.Mathlib.Omega.{arith}

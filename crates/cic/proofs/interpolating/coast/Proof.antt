@@ -1,3 +1,4 @@
+-- The hold's outputs to the end of the slice.
 use borrow.Author.Needs.{needs}
 use mathlib.Core.Path.{_≡_, refl}
 use mir.Syntax.{w32}

@@ -1,3 +1,4 @@
+-- A comb step in the rings, as Striding has it for both directions.
 use borrow.Author.Needs.{needs}
 use mir.Syntax.{w32}
 use mir.ValLaws.{toZ-ofZ}

@@ -1,3 +1,4 @@
+-- The integrators and the outputs, said by what is left to write (sums Stretches, `climb-cells`, `climb-wrote`).
 use borrow.Author.Needs.{needs}
 use mathlib.Core.Path.{_≡_, refl, sym, ap, _∙_}
 use mathlib.Core.List.{_++_}

@@ -1,3 +1,4 @@
+-- The rows that are left, and what is handed on to them (sums Rings, `sweep-turn`, `hand-turn`).
 use borrow.Author.Needs.{needs}
 use mathlib.Core.Path.{_≡_, sym, ap, _∙_}
 use mathlib.Core.List.{_++_}

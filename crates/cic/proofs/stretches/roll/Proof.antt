@@ -1,3 +1,4 @@
+-- A line turned by one with each push of its own oldest cell (sums Rings, `roll-turn`).
 use borrow.Author.Needs.{needs}
 use mathlib.Core.Path.{_≡_, ap, _∙_}
 use Prim.Native.Nat.{_+_, _-_, _≤_}

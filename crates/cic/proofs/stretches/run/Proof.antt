@@ -1,3 +1,4 @@
+-- The integrators, said by what is left of the inputs (sums Stretches, `ran-turn`).
 use borrow.Author.Needs.{needs}
 use mathlib.Core.Path.{_≡_, refl, sym, ap, _∙_}
 use Prim.Native.Nat.{_+_, _-_, _≤_}

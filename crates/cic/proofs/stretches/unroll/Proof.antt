@@ -1,3 +1,4 @@
+-- The rows that are left to turn (sums Rings, `sweep-turn`).
 use borrow.Author.Needs.{needs}
 use mathlib.Core.Path.{_≡_, refl, sym, _∙_}
 use mathlib.Core.List.{_++_}
