@@ -73,15 +73,20 @@ fn clamp_all(s: ClampWrap, xs: &[i32], ys: &mut [i32]) -> ClampWrap
     ensures { λ r. ⌜ (r ≡ ends clampOut clampNext s (now (xs .entry)))
         × (now (ys .exit) ≡ scan clampOut clampNext s (now (xs .entry))) ⌝ }
 {
-    let mut t = s;
+    let mut x0 = s.x0;
+    let first = s.clamp;
+    let mut clamp = first;
     let mut i: usize = 0;
     while i < xs.len() {
-        let step = t.process(xs[i]);
+        let x = xs[i];
+        let step = ClampWrap { x0, clamp }.process(x);
         let y = step.y;
         ys[i] = y;
         let next = step.state;
-        t = next;
+        let c = next.clamp;
+        clamp = c;
+        x0 = x;
         i += 1;
     }
-    t
+    ClampWrap { x0, clamp }
 }

@@ -15,14 +15,14 @@ impl Wrap {
     pub fn add(self, rhs: Wrap) -> Wrap
         ensures { λ r. ⌜ r ≡ joined self rhs ⌝ }
     {
-        match self {
-            Wrap::Negative => match rhs {
+        match rhs {
+            Wrap::None => self,
+            Wrap::Negative => match self {
                 Wrap::Negative => Wrap::Negative,
                 Wrap::None => Wrap::Negative,
                 Wrap::Positive => Wrap::None,
             },
-            Wrap::None => rhs,
-            Wrap::Positive => match rhs {
+            Wrap::Positive => match self {
                 Wrap::Negative => Wrap::None,
                 Wrap::None => Wrap::Positive,
                 Wrap::Positive => Wrap::Positive,

@@ -6,7 +6,7 @@ use Rattle.unwrap.specs.Phases.{joined}
 use Rattle.unwrap.proofs.wrapping.Wrap.add.Statement.{statement}
 use Rattle.unwrap.proofs.wrapping.Wrap.add.Tie as tie
 
-join-none : (s : Wrap) → joined None s ≡ s
+join-none : (s : Wrap) → joined s None ≡ s
 join-none Negative = refl
 join-none None = refl
 join-none Positive = refl
@@ -39,7 +39,7 @@ enum-told-9 : tie.Need-enum-told-9
 enum-told-9 c = search needs
 
 returns : tie.Need-returns
-returns c = search needs
+returns c = rw (c .enum-told .given .1) (sym (join-none (c .before .before .args .self)))
 
 returns-2 : tie.Need-returns-2
 returns-2 c = search needs
@@ -48,7 +48,7 @@ returns-3 : tie.Need-returns-3
 returns-3 c = search needs
 
 returns-4 : tie.Need-returns-4
-returns-4 c = rw (c .enum-told5 .given .1) (sym (join-none (c .before .before .args .rhs)))
+returns-4 c = search needs
 
 returns-5 : tie.Need-returns-5
 returns-5 c = search needs
