@@ -6,25 +6,22 @@
 SRC is the folder of the crate's text, by default ../shared/docs/src from the project's root; --sizes adds the decimator's block from
 1,024 to 16 million inputs. The proved library is the archive of `rt staticlib bench_exports`, the crate is built by cargo in release
 as oracle/run does, and the program stops where two outputs differ. On x86-64 it prints nanoseconds, the least of 60 rounds. On another
-processor the archive runs only under an emulator, where a time says nothing: there it counts the instructions between two marks by a
-plugin (count.c), with Debian's rustc-web, its std for x86-64 and Debian's qemu-user, fetched into target/bench/debian.
+processor the archive runs only under an emulator, where a time says nothing: there it counts the instructions between two marks
+(../x86.py).
 """
 import glob
 import os
-import platform
 import re
 import shutil
 import subprocess
 import sys
-import urllib.request
+import tempfile
 
 HERE = os.path.dirname(os.path.abspath(__file__))
-ROOT = os.path.dirname(os.path.dirname(HERE))
-WORK = os.path.join(ROOT, "target", "bench")
-DEBIAN = os.path.join(WORK, "debian")
-NATIVE = platform.machine() == "x86_64"
-TARGET = "x86_64-unknown-linux-gnu"
-TOOLS = ["rustc-web", "libstd-rust-web-1.85", "libstd-rust-web-dev", "libllvm19", "qemu-user", "libcapstone4", "liburing2"]
+sys.path.insert(0, os.path.dirname(HERE))
+import x86
+from x86 import DEBIAN, NATIVE, ROOT, TARGET, WORK
+
 CRATES = ["librust-num-traits-dev", "librust-autocfg-dev"]
 REGISTRY = "usr/share/cargo/registry"
 
@@ -33,60 +30,12 @@ def run(words, **more):
     return subprocess.run(words, check=True, **more)
 
 
-def unpack(package, foreign=False):
-    """A Debian package's files, below DEBIAN; a foreign one is x86-64's."""
-    said = subprocess.check_output(["apt-get", "download", "--print-uris", package], text=True)
-    url = re.search(r"'(\S+)'", said).group(1)
-    if foreign:
-        url = re.sub(r"_[a-z0-9]+\.deb$", "_amd64.deb", url)
-    kept = os.path.join(DEBIAN, os.path.basename(url))
-    if not os.path.exists(kept):
-        os.makedirs(DEBIAN, exist_ok=True)
-        urllib.request.urlretrieve(url, kept + ".part")
-        os.rename(kept + ".part", kept)
-        run(["dpkg", "-x", kept, DEBIAN])
-
-
 def registry():
     if glob.glob("/%s/num-traits-*" % REGISTRY):
         return "/" + REGISTRY
     for package in CRATES:
-        unpack(package)
+        x86.unpack(package)
     return os.path.join(DEBIAN, REGISTRY)
-
-
-def script(name, text):
-    path = os.path.join(WORK, name)
-    with open(path, "w") as out:
-        out.write("#!/bin/sh\n" + text)
-    os.chmod(path, 0o755)
-    return path
-
-
-def kit():
-    home = os.path.dirname(os.path.dirname(subprocess.check_output(["rt", "doc"], text=True).strip()))
-    return os.path.join(home, "on", platform.machine(), "toolchain")
-
-
-def cross():
-    """Another processor: a rustc with a std for x86-64, and the toolchain's linker and C library. Gives cargo's settings."""
-    for package in TOOLS:
-        unpack(package)
-    unpack("libstd-rust-web-dev", foreign=True)
-    libraries = glob.glob(os.path.join(DEBIAN, "usr", "lib", "*-linux-gnu"))[0]
-    tools, link = kit(), os.path.join(WORK, "link")
-    os.makedirs(link, exist_ok=True)
-    for name, of in [("libc.so", "libc.so.6"), ("libm.so", "libm.so.6"), ("libgcc_s.so", "libgcc_s.so.1")]:
-        if not os.path.lexists(os.path.join(link, name)):
-            os.symlink(os.path.join(tools, "lib", of), os.path.join(link, name))
-    for name in ["util", "rt", "pthread", "dl"]:
-        run([os.path.join(tools, "bin", "llvm-ar"), "crs", os.path.join(link, "lib%s.a" % name)])
-    own = "LD_LIBRARY_PATH=%s exec %s/usr/bin/%%s \"$@\"\n" % (libraries, DEBIAN)
-    script("qemu", own % "qemu-x86_64")
-    start = " ".join(os.path.join(tools, "lib", o) for o in ["Scrt1.o", "crti.o", "crtbeginS.o"])
-    end = " ".join(os.path.join(tools, "lib", o) for o in ["libc_nonshared.a", "crtendS.o", "crtn.o"])
-    linker = script("ld", '[ "$1" != -flavor ] || shift 2\nexec %s/bin/ld.lld -dynamic-linker /lib64/ld-linux-x86-64.so.2 -L %s %s "$@" -lgcc_s -lc %s\n' % (tools, link, start, end))
-    return {"RUSTC": script("rustc", own % "rustc"), "CARGO_TARGET_X86_64_UNKNOWN_LINUX_GNU_LINKER": linker}
 
 
 def build(src):
@@ -102,7 +51,7 @@ def build(src):
     flags = "-L native=%s -l static=bench_exports" % os.path.join(ROOT, "target", "staticlib")
     env = dict(os.environ)
     if not NATIVE:
-        env.update(cross())
+        env.update({"RUSTC": x86.debian()[0], "CARGO_TARGET_X86_64_UNKNOWN_LINUX_GNU_LINKER": x86.linker()})
         flags += " -C linker-flavor=ld.lld"
     env["CARGO_TARGET_X86_64_UNKNOWN_LINUX_GNU_RUSTFLAGS"] = flags
     run(["cargo", "build", "--offline", "--quiet", "--release", "--target", TARGET], cwd=harness, env=env)
@@ -114,13 +63,10 @@ def measured(program, words):
     if NATIVE:
         said = subprocess.check_output([program] + words, text=True)
         return [(name, int(size), float(a), float(b)) for name, size, a, b in (l.split("\t") for l in said.splitlines())]
-    plugin, counts, tools = os.path.join(WORK, "count.so"), os.path.join(WORK, "counts"), kit()
-    run(["cc", "-O2", "-shared", "-fPIC", "-o", plugin, os.path.join(HERE, "count.c")])
-    loader = [os.path.join(tools, "lib", "ld-linux-x86-64.so.2"), "--library-path", os.path.join(tools, "lib")]
-    words = [os.path.join(WORK, "qemu"), "-plugin", plugin] + loader + [program, "--count"] + words
-    said = subprocess.check_output(words, env=dict(os.environ, COUNTS=counts), text=True)
-    marks = [int(line) for line in open(counts)]
-    rows = [l.split("\t") for l in said.splitlines()]
+    with tempfile.TemporaryFile("w+") as said:
+        marks = x86.counts(program, ["--count"] + words, stdout=said)
+        said.seek(0)
+        rows = [line.split("\t") for line in said.read().splitlines()]
     return [(name, int(size), marks[3 * i + 1] - marks[3 * i], marks[3 * i + 2] - marks[3 * i + 1]) for i, (name, size) in enumerate(rows)]
 
 

@@ -3,8 +3,8 @@
 
     rt check replay && python3 bench/replay/bench.py
 
-Wants rustc. Programs are compiled for x86-64. On another processor their instructions are counted under an emulator (../x86.py says
-what that wants); the time there says nothing, so for the bytes a second the program's LLVM module is compiled for this processor by
+Programs are compiled for x86-64. On another processor their instructions are counted under an emulator, and the twin's rustc is the
+one that ../x86.py fetches; on x86-64 it wants rustc. The time under an emulator says nothing, so for the bytes a second the program's LLVM module is compiled for this processor by
 the toolchain's own clang at -O3, and both programs run natively: the same module and flags, another back end.
 """
 import os
@@ -17,9 +17,9 @@ import sys
 import tempfile
 
 HERE = os.path.dirname(os.path.abspath(__file__))
-ROOT = os.path.dirname(os.path.dirname(HERE))
 sys.path.insert(0, os.path.dirname(HERE))
 import x86
+from x86 import ROOT
 
 LIBRARIES = ["playback", "records", "text", "words", "blocks", "sums", "cic"]
 KIT_LIBRARIES = ["std", "check", "io", "libc"]
@@ -86,20 +86,28 @@ def best(program, path):
     return min(times)
 
 
-def instructions(program, plugin, path, want):
+def instructions(program, path, want):
     with open(path, "rb") as recorded, tempfile.TemporaryFile() as gave:
-        count = x86.counts(program, [], plugin, recorded, gave)[-1]
+        count = x86.counts(program, [], recorded, gave)[-1]
         gave.seek(0)
         if gave.read() != want:
             sys.exit("%s gives something else under the emulator" % program)
     return count
 
 
+def compiled(work, name, words=()):
+    """The twin."""
+    program = os.path.join(work, name)
+    rustc = "rustc" if x86.NATIVE else x86.debian()[0]
+    words = [rustc, "--edition", "2021", "-C", "opt-level=3"] + list(words)
+    subprocess.run(words + ["-o", program, os.path.join(HERE, "twin.rs")], check=True)
+    return program
+
+
 def emulated(work):
-    """The plugin that counts, the program as it is, and the twin for the same processor."""
-    twin = os.path.join(work, "twin_x86")
-    x86.rust(os.path.join(HERE, "twin.rs"), twin, work)
-    return x86.counter(work), [os.path.join(ROOT, "target", "bin", "replay"), twin]
+    """The program as it is, and the twin for the same processor."""
+    words = ["--target", x86.TARGET, "-C", "linker=" + x86.linker(), "-C", "linker-flavor=ld.lld"]
+    return [os.path.join(ROOT, "target", "bin", "replay"), compiled(work, "twin_x86", words)]
 
 
 def memory(program, path):
@@ -114,7 +122,7 @@ def memory(program, path):
     return peak
 
 
-def measure(rate, work, native, plugin, counted):
+def measure(rate, work, native, counted):
     path, small = os.path.join(work, "recording"), os.path.join(work, "small")
     size = recording(path, rate, 20_000_000)
     recording(small, rate, 2_000_000)
@@ -125,7 +133,7 @@ def measure(rate, work, native, plugin, counted):
     print("rate %2d, %d bytes" % (rate, size))
     print("  proved %.0f MB/s, Rust %.0f MB/s, time %.2f of the Rust's" % (size / fast[0] / 1e6, size / fast[1] / 1e6, fast[0] / fast[1]))
     if counted:
-        a, b = [instructions(p, plugin, path, outputs[0]) for p in counted]
+        a, b = [instructions(p, path, outputs[0]) for p in counted]
         print("  x86-64 instructions a byte under the emulator: proved %.1f, Rust %.1f, %.2f of the Rust's" % (a / size, b / size, a / b))
     print("  peak memory of the proved program: %d KB on 2 MB, %d KB on 20 MB" % (memory(native[0], small), memory(native[0], path)))
 
@@ -133,14 +141,13 @@ def measure(rate, work, native, plugin, counted):
 def main():
     work = tempfile.mkdtemp()
     try:
-        here = platform.machine() == "x86_64"
-        proved = os.path.join(ROOT, "target", "bin", "replay") if here else retargeted(work)
-        twin = os.path.join(work, "twin")
-        subprocess.run([x86.RUSTC, "--edition", "2021", "-C", "opt-level=3", "-o", twin, os.path.join(HERE, "twin.rs")], check=True)
-        plugin, counted = (None, []) if here else emulated(work)
-        print("processor %s, %s" % (platform.machine(), subprocess.check_output([x86.RUSTC, "--version"], text=True).strip()))
+        os.makedirs(x86.WORK, exist_ok=True)
+        proved = os.path.join(ROOT, "target", "bin", "replay") if x86.NATIVE else retargeted(work)
+        twin = compiled(work, "twin")
+        counted = [] if x86.NATIVE else emulated(work)
+        print("processor %s" % platform.machine())
         for rate in [0, 63]:
-            measure(rate, work, [proved, twin], plugin, counted)
+            measure(rate, work, [proved, twin], counted)
     finally:
         shutil.rmtree(work)
 
