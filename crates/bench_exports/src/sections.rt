@@ -16,7 +16,8 @@ ghost use Rattle.dsm.specs.Calls as Modulator;
 ghost use Rattle.wdf.specs.Calls.{number, answer, next};
 ghost use Rattle.biquad.specs.Forms.{zero1, sum1, next1, held1, onward1, zero2, sum2, next2, held2, onward2};
 ghost use Rattle.biquad.specs.Answers.{limitNumber};
-ghost use Rattle.fixed.specs.Forms.{wideOut, wideNext, wideHeld, wideOnward, ditherOut, ditherNext, ditherHeld, ditherOnward};
+ghost use Rattle.fixed.specs.Forms.{wideOut, wideNext, wideHeld, wideOnward};
+ghost use Rattle.fixed.specs.Forms.{ditherOut, ditherNext, ditherHeld, ditherOnward};
 ghost use Rattle.fixed.specs.Answers.{fractionNumber, clampNumber};
 ghost use Rattle.bench_exports.specs.Fresh.{alike, still, quiet, floats, limits, words, within};
 
@@ -81,7 +82,8 @@ pub extern "C" fn bench_df1_clamp(
     ys: &mut [f64],
 )
     ensures { λ _. ⌜ now (ys .exit) ≡ unless (blockNumber (limitNumber (limits b0 b1 b2 a1 a2 u min max)) (now (xs .entry)) (now (ys .entry))) (now (ys .entry))
-        (scan (held1 (limits b0 b1 b2 a1 a2 u min max)) (onward1 (limits b0 b1 b2 a1 a2 u min max)) zero1 (now (xs .entry))) ⌝ }
+        (scan (held1 (limits b0 b1 b2 a1 a2 u min max)) (onward1 (limits b0 b1 b2 a1 a2 u min max))
+        zero1 (now (xs .entry))) ⌝ }
 {
     DirectForm1::default().block_clamp(
         BiquadClamp {
@@ -113,7 +115,8 @@ pub extern "C" fn bench_df2t_clamp(
     ys: &mut [f64],
 )
     ensures { λ _. ⌜ now (ys .exit) ≡ unless (blockNumber (limitNumber (limits b0 b1 b2 a1 a2 u min max)) (now (xs .entry)) (now (ys .entry))) (now (ys .entry))
-        (scan (held2 (limits b0 b1 b2 a1 a2 u min max)) (onward2 (limits b0 b1 b2 a1 a2 u min max)) zero2 (now (xs .entry))) ⌝ }
+        (scan (held2 (limits b0 b1 b2 a1 a2 u min max)) (onward2 (limits b0 b1 b2 a1 a2 u min max))
+        zero2 (now (xs .entry))) ⌝ }
 {
     DirectForm2Transposed::default().block_clamp(
         BiquadClamp {
@@ -215,7 +218,8 @@ pub extern "C" fn bench_wide_clamp(
     ys: &mut [i32],
 )
     ensures { λ _. ⌜ now (ys .exit) ≡ unless (blockNumber (clampNumber 0 (within (words b0 b1 b2 a1 a2 f) u min max)) (now (xs .entry)) (now (ys .entry))) (now (ys .entry))
-        (scan (wideHeld (within (words b0 b1 b2 a1 a2 f) u min max)) (wideOnward (within (words b0 b1 b2 a1 a2 f) u min max)) still (now (xs .entry))) ⌝ }
+        (scan (wideHeld (within (words b0 b1 b2 a1 a2 f) u min max))
+        (wideOnward (within (words b0 b1 b2 a1 a2 f) u min max)) still (now (xs .entry))) ⌝ }
 {
     let state = DirectForm1Wide {
         x1: 0,
@@ -243,7 +247,8 @@ pub extern "C" fn bench_dither_clamp(
     ys: &mut [i32],
 )
     ensures { λ _. ⌜ now (ys .exit) ≡ unless (blockNumber (clampNumber 1 (within (words b0 b1 b2 a1 a2 f) u min max)) (now (xs .entry)) (now (ys .entry))) (now (ys .entry))
-        (scan (ditherHeld (within (words b0 b1 b2 a1 a2 f) u min max)) (ditherOnward (within (words b0 b1 b2 a1 a2 f) u min max)) quiet (now (xs .entry))) ⌝ }
+        (scan (ditherHeld (within (words b0 b1 b2 a1 a2 f) u min max))
+        (ditherOnward (within (words b0 b1 b2 a1 a2 f) u min max)) quiet (now (xs .entry))) ⌝ }
 {
     let state = DirectForm1Dither {
         x1: 0,

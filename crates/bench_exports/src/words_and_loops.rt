@@ -104,7 +104,8 @@ fn lock_all(c: RPLLConfig, s: RPLL, xs: &[i32], ys: &mut [i32])
 #[no_mangle]
 pub extern "C" fn bench_rpll(dt2: u8, frequency: u8, lock: u8, xs: &[i32], ys: &mut [i32])
     ensures { λ _. ⌜ now (ys .exit) ≡ unless (blockNumber 0 (now (xs .entry)) (now (ys .entry))) (now (ys .entry))
-        (scan (loopOut (configured dt2 frequency lock)) (loopNext (configured dt2 frequency lock)) unlocked (now (xs .entry))) ⌝ }
+        (scan (loopOut (configured dt2 frequency lock)) (loopNext (configured dt2 frequency lock))
+        unlocked (now (xs .entry))) ⌝ }
 {
     if xs.len() != ys.len() {
         return;

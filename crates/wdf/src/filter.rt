@@ -141,7 +141,8 @@ fn run_two(architecture: u32, a: &[i32; 8], z: &mut [i32; 8], xs: &[i32], ys: &m
     }
 }
 
-// The same, once for each pair of the adapters A to D: in its arm both are known, and no section is told apart at run time.
+// The same, once for each pair of the adapters A to D: in its arm both are known, and no section is told apart at
+// run time.
 fn run_by_pair(architecture: u32, a: &[i32; 8], z: &mut [i32; 8], xs: &[i32], ys: &mut [i32])
     requires { ⌜ (length (now z) ≡ 8) × (length (now xs) ≡ length (now ys)) ⌝ }
     ensures { λ r. ⌜ (filter 2 architecture (now (a .entry)) (now (z .exit))
