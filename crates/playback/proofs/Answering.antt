@@ -23,10 +23,6 @@ use Rattle.blocks.specs.declared.Verdict.the-variants.{Done, Refused}
 pub short : (n : ℕ) → length (decimalOf n) ≤ 20
 short n = spelt-short 20 n
 
-pub output-most : (v : ℤ) (settled : Bool) → SFits w32 v → length (outputLine v settled) ≤ 16
-unfolding outputLine
-output-most v settled f = simp length-append (omega (arith, signed-most v f))
-
 module _ (o : List ℕ) (at : ℕ) where
   pub output-wrote : (v : ℤ) (settled : Bool) (m a b r : ℕ) (o₁ o₂ o₃ : List ℕ) → SFits w32 v → at + 16 ≤ length o → m ≡ cond settled 49 48
       → Puts o at (121 ∷ 9 ∷ []) a o₁ → Puts o₁ a (signedOf v) b o₂ → Puts o₂ b (9 ∷ m ∷ 10 ∷ []) r o₃ → Wrote o at (outputLine v settled) r o₃ × (r ≤ at + 16)

@@ -34,6 +34,12 @@ pub(crate) fn print_all() {
         clamped(1.0, 1.0),
     );
     row(
+        b"a NaN for lower limit",
+        clamped(0.0 / 0.0, 1.0),
+        b"0",
+        clamped(0.0, 1.0),
+    );
+    row(
         b"input_offset at gain 0",
         input_offset(0.0),
         b"at gain 1",

@@ -102,9 +102,6 @@ module _ {A : Type 0} (c : List A) (b i : ℕ) (d : A) where
   unfolding shifted moved
   shifted-moved = sym (append-assoc (take b c) (take i (drop (suc b) c)) (drop (b + i) c))
 
-  pub shifted-length : b + i < length c → length (shifted b i c) ≡ length c
-  shifted-length h = ap length shifted-moved ∙ simp (length-append, length-drop) (omega (arith, moved-length h))
-
   shift-read : b + suc i < length c → getD (shifted b i c) (b + suc i) d ≡ getD c (b + suc i) d
   shift-read h =
       let at-one : b + suc i ≡ length moved + 1 = rw (moved-length (omega arith)) (omega arith) in

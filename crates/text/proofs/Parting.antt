@@ -79,9 +79,6 @@ module _ (sep : ℕ) where
       by false (p ∷ ps) h = h
 
 module _ (sep : ℕ) (l : List ℕ) (from : ℕ) (within : from ≤ length l) where
-  pub end-low : from ≤ endOf sep l from
-  end-low = omega arith
-
   pub end-high : endOf sep l from ≤ length l
   end-high = omega (arith, before-short sep (drop from l), length-drop from l)
 

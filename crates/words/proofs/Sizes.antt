@@ -59,13 +59,6 @@ off-minus B a b h =
     let f = off-neg B b (omega arith) in
     omega arith
 
--- two numbers at the same distance are one
-pub off-same : (B : ℕ) (a b : ℤ) → mag a + 1 ≤ B → mag b + 1 ≤ B → off B a ≡ off B b → a ≡ b
-off-same B (pos m) (pos n) h k e = let f : m ≡ n = omega arith in ap pos f
-off-same B (pos m) (negsuc n) h k e = absurd (omega arith)
-off-same B (negsuc m) (pos n) h k e = absurd (omega arith)
-off-same B (negsuc m) (negsuc n) h k e = let f : m ≡ n = omega arith in ap negsuc f
-
 mag-sub : (m n : ℕ) → mag (subℕ m n) ≤ m + n
 mag-sub m n = pick (ltb m n) refl
   where
@@ -96,9 +89,6 @@ mag-minus (negsuc m) (negsuc n) = let h = mag-sub2 n m in omega arith
 
 pub sum-fits : (a b : ℤ) → SFits w32 a → SFits w32 b → SFits w64 (a +ℤ b)
 sum-fits a b ha hb = let h = mag-add a b in let p = ha .sfits in let q = hb .sfits in record { sfits = omega arith }
-
-pub difference-fits : (a b : ℤ) → SFits w32 a → SFits w32 b → SFits w64 (a -ℤ b)
-difference-fits a b ha hb = let h = mag-minus a b in let p = ha .sfits in let q = hb .sfits in record { sfits = omega arith }
 
 -- two words' product is below 2 ^ 64
 pub words-product : {a b : ℕ} → a < 2 ^ 32 → b < 2 ^ 32 → a * b < 2 ^ 64
