@@ -7,6 +7,7 @@ import glob
 import os
 import platform
 import re
+import shutil
 import subprocess
 import urllib.request
 
@@ -61,6 +62,11 @@ def debian():
     return script("rustc", own % "rustc"), script("qemu", own % "qemu-x86_64")
 
 
+def emulator():
+    """An emulator that takes plugins: the machine's own where it has one, else Debian's."""
+    return shutil.which("qemu-x86_64") or debian()[1]
+
+
 def linker():
     """A script that links for x86-64. The C library holds what the last four of the names that rustc asks for held once."""
     at, link = tools(), os.path.join(WORK, "link")
@@ -80,7 +86,8 @@ def counts(program, words, stdin=None, stdout=None):
     """Runs a program under the emulator and gives the instruction counts that it wrote: at each getpid, and at its end."""
     plugin, said, at = os.path.join(WORK, "count.so"), os.path.join(WORK, "counts"), os.path.join(tools(), "lib")
     subprocess.run(["cc", "-shared", "-fPIC", "-O2", "-o", plugin, os.path.join(HERE, "count.c")], check=True)
-    run = [debian()[1], "-plugin", plugin, os.path.join(at, "ld-linux-x86-64.so.2"), "--library-path", at, program]
+    loader = [] if NATIVE else [os.path.join(at, "ld-linux-x86-64.so.2"), "--library-path", at]
+    run = [emulator(), "-plugin", plugin] + loader + [program]
     subprocess.run(run + words, env=dict(os.environ, COUNTS=said), stdin=stdin, stdout=stdout, check=True)
     with open(said) as lines:
         return [int(line) for line in lines]

@@ -1,13 +1,13 @@
 #!/usr/bin/env python3
 """What each proved filter costs beside the Rust crate's own text, in one program, by turns, on the same inputs.
 
-    python3 bench/filters/bench.py [SRC] [--sizes]
+    python3 bench/filters/bench.py [SRC] [--sizes] [--instructions]
 
 SRC is the folder of the crate's text, by default ../shared/docs/src from the project's root; --sizes adds the decimator's block from
 1,024 to 16 million inputs. The proved library is the archive of `rt staticlib bench_exports`, the crate is built by cargo in release
 as oracle/run does, and the program stops where two outputs differ. On x86-64 it prints nanoseconds, the least of 60 rounds. On another
-processor the archive runs only under an emulator, where a time says nothing: there it counts the instructions between two marks
-(../x86.py).
+processor the archive runs only under an emulator, where a time says nothing: there, and on x86-64 with --instructions, it counts the
+instructions between two marks (../x86.py).
 """
 import glob
 import os
@@ -58,9 +58,9 @@ def build(src):
     return os.path.join(harness, "target", TARGET, "release", "harness")
 
 
-def measured(program, words):
+def measured(program, words, timed):
     """Rows: name, size, cost of the proved and of the Rust."""
-    if NATIVE:
+    if timed:
         said = subprocess.check_output([program] + words, text=True)
         return [(name, int(size), float(a), float(b)) for name, size, a, b in (l.split("\t") for l in said.splitlines())]
     with tempfile.TemporaryFile("w+") as said:
@@ -81,9 +81,10 @@ def frames():
 def main():
     words = sys.argv[1:]
     src = next((w for w in words if not w.startswith("--")), os.path.join("..", "shared", "docs", "src"))
-    rows = measured(build(src), [w for w in words if w.startswith("--")])
+    timed = NATIVE and "--instructions" not in words
+    rows = measured(build(src), [w for w in words if w == "--sizes"], timed)
     _, _, spare_a, spare_b = rows[0]
-    unit = "ns" if NATIVE else "instructions"
+    unit = "ns" if timed else "instructions"
     print("| filter | block | proved, %s a sample | Rust | ratio |\n|---|---|---|---|---|" % unit)
     for name, size, a, b in rows[1:]:
         a, b = a - spare_a, b - spare_b
