@@ -11,7 +11,7 @@ use Rattle.blocks.specs.declared.Verdict.{Verdict}
 use Rattle.blocks.specs.declared.Verdict.the-variants.{Done, Refused}
 use Rattle.blocks.specs.Verdicts.{verdictOf}
 use Rattle.blocks.specs.Scan.{scan, ends}
-use Rattle.blocks.specs.Blocks.{Blocked, blockNumber}
+use Rattle.blocks.specs.Blocks.{Blocked, lengthsNumber}
 use Rattle.biquad.specs.declared.biquad.Biquad.{Biquad}
 use Rattle.biquad.specs.declared.biquad_clamp.BiquadClamp.{BiquadClamp}
 use Rattle.biquad.specs.declared.biquad_clamp.Answer.the-variants.{Value}

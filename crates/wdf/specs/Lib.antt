@@ -1,3 +1,4 @@
 pub mod Adapters
 pub mod Sections
 pub mod Calls
+pub mod Lent

@@ -28,9 +28,6 @@ mul-overflowing-add c = omega arith
 element-copy-out-overflowing-add : tie.Need-element-copy-out-overflowing-add Inv-loop μ-loop
 element-copy-out-overflowing-add c = omega arith
 
-overflowing-add-requires : tie.Need-overflowing-add-requires Inv-loop μ-loop
-overflowing-add-requires c κs = search needs
-
 mul-a : tie.Need-mul-a Inv-loop μ-loop
 mul-a c = omega arith
 
@@ -70,19 +67,5 @@ returns c =
 
 pub accumulate-spec : {M : Type 1} → statement M
 accumulate-spec =
-    tie.close
-    (tie.spec
-    Inv-loop
-    μ-loop
-    loop-holds
-    mul-overflowing-add
-    element-copy-out-overflowing-add
-    overflowing-add-requires
-    mul-a
-    element-write-a
-    mul-d
-    add-d
-    add-i
-    loop-less
-    loop-again
-    returns)
+    tie.close (tie.spec Inv-loop μ-loop loop-holds mul-overflowing-add element-copy-out-overflowing-add
+    (λ c κs. search needs) mul-a element-write-a mul-d add-d add-i loop-less loop-again returns)

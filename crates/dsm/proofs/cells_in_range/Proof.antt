@@ -67,17 +67,5 @@ returns-2 c =
 
 pub cells-in-range-spec : {M : Type 1} → statement M
 cells-in-range-spec =
-    tie.close
-    (tie.spec
-    Inv-loop
-    μ-loop
-    loop-holds
-    add-loop
-    mul-in-range
-    array-copy-out-in-range
-    in-range-requires
-    returns
-    add-i
-    loop-less
-    loop-again
-    returns-2)
+    tie.close (tie.spec Inv-loop μ-loop loop-holds add-loop mul-in-range array-copy-out-in-range in-range-requires
+    returns add-i loop-less loop-again returns-2)

@@ -33,9 +33,6 @@ cell-read : (c : tie.After-old Inv-loop μ-loop) → toZ w16 (ofZ w16 (getD (c .
     ≡ getD (c .before .before .loop .c) (c .before .before .loop .j) (pos 0)
 cell-read c = read w16 (getD (c .before .before .loop .c) (c .before .before .loop .j) (pos 0)) (c .old .given)
 
-bit-requires : tie.Need-bit-requires Inv-loop μ-loop
-bit-requires c κs = search needs
-
 loop-holds : tie.Need-loop-holds Inv-loop μ-loop
 loop-holds c =
     let s = c .before in let p = s .pre in (
@@ -90,19 +87,5 @@ returns c =
 
 pub combine-spec : {M : Type 1} → statement M
 combine-spec =
-    tie.close
-    (tie.spec
-    Inv-loop
-    μ-loop
-    bit-requires
-    loop-holds
-    add-loop
-    mul-old
-    element-copy-out-old
-    mul-y
-    element-set-from-y
-    joined-requires
-    add-j
-    loop-less
-    loop-again
-    returns)
+    tie.close (tie.spec Inv-loop μ-loop (λ c κs. search needs) loop-holds add-loop mul-old element-copy-out-old mul-y
+    element-set-from-y joined-requires add-j loop-less loop-again returns)

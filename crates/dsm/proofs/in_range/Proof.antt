@@ -17,9 +17,6 @@ high-read c = read w16 (c .top .result) (c .top .ok) ∙ c .top .ensures
 low-fits : (c : tie.Start) → SFits w16 (pos 1 -ℤ pos (2 ^ c .args .j))
 low-fits c = record { sfits = omega (arith, low-size (c .args .j) (pos 0) (c .pre)) }
 
-top-requires : tie.Need-top-requires
-top-requires c κs = search needs
-
 sub-if1 : tie.Need-sub-if1
 sub-if1 c = rw (high-read c) (low-fits (c .before))
 
@@ -42,4 +39,4 @@ returns-2 c =
     )
 
 pub in-range-spec : {M : Type 1} → statement M
-in-range-spec = tie.close (tie.spec top-requires sub-if1 returns returns-2)
+in-range-spec = tie.close (tie.spec (λ c κs. search needs) sub-if1 returns returns-2)

@@ -5,12 +5,6 @@ use borrow.Author.Needs.{needs}
 use Rattle.dsm.proofs.turn.Statement.{statement}
 use Rattle.dsm.proofs.turn.Tie as tie
 
-accumulate-requires : tie.Need-accumulate-requires
-accumulate-requires c κs = search needs
-
-combine-requires : tie.Need-combine-requires
-combine-requires c κs = search needs
-
 returns : tie.Need-returns
 returns c =
     let k = c .combine .ensures in let a = c .before .before .accumulate .ensures in
@@ -23,4 +17,4 @@ returns c =
     }
 
 pub turn-spec : {M : Type 1} → statement M
-turn-spec = tie.close (tie.spec accumulate-requires combine-requires returns)
+turn-spec = tie.close (tie.spec (λ c κs. search needs) (λ c κs. search needs) returns)

@@ -19,17 +19,8 @@ abbrev μ-loop : tie.MeasureT-loop
 loop-holds : tie.Need-loop-holds Inv-loop μ-loop
 loop-holds c = start _ _ _ _ _ (sym (c .before .before .pre))
 
-mul-process : tie.Need-mul-process Inv-loop μ-loop
-mul-process c = search needs
-
 shared-slice-read-process : tie.Need-shared-slice-read-process Inv-loop μ-loop
 shared-slice-read-process c = omega arith
-
-process-requires : tie.Need-process-requires Inv-loop μ-loop
-process-requires c κs = search needs
-
-mul-ys : tie.Need-mul-ys Inv-loop μ-loop
-mul-ys c = search needs
 
 slice-write-ys : tie.Need-slice-write-ys Inv-loop μ-loop
 slice-write-ys c = omega arith
@@ -56,18 +47,5 @@ returns c = done _ _ _ _ _ _ _ (c .loop-test .left) (c .before .loop .inv)
 
 pub process-all-spec : {M : Type 1} → statement M
 process-all-spec =
-    tie.close
-    (tie.spec
-    Inv-loop
-    μ-loop
-    loop-holds
-    mul-process
-    shared-slice-read-process
-    process-requires
-    mul-ys
-    slice-write-ys
-    add-i
-    loop-less
-    loop-again
-    same-length
-    returns)
+    tie.close (tie.spec Inv-loop μ-loop loop-holds (λ c. search needs) shared-slice-read-process (λ c κs. search needs)
+    (λ c. search needs) slice-write-ys add-i loop-less loop-again same-length returns)

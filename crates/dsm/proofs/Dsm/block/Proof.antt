@@ -24,9 +24,6 @@ returns-2 c =
     block-refused (a .self) (a .xs .now) (a .ys .now) 31
     (block-unlike (a .self) (a .xs .now) (a .ys .now) (c .before .if1 .left) (c .if2 .taken)) (λ e. omega arith)
 
-cells-in-range-requires : tie.Need-cells-in-range-requires
-cells-in-range-requires c κs = search needs
-
 returns-3 : tie.Need-returns-3
 returns-3 c =
     let k = c .before .before .before in let a = k .before .before .before .args in
@@ -39,9 +36,6 @@ modulate-requires c κs =
     let k = c .before .before .before .before in
     (k .if2 .left, none (k .before .before .before .args .self) (k .before .if1 .left) (found (c .before)))
 
-same-length : tie.Need-same-length
-same-length c = search needs
-
 returns-4 : tie.Need-returns-4
 returns-4 c =
     let e = c .before .before .before in let k = e .before .before .before in let a = k .before .before .before .args in
@@ -50,5 +44,5 @@ returns-4 c =
 
 pub block-spec : {M : Type 1} → statement M
 block-spec =
-    tie.close
-    (tie.spec returns returns-2 cells-in-range-requires returns-3 modulate-requires same-length returns-4)
+    tie.close (tie.spec returns returns-2 (λ c κs. search needs) returns-3 modulate-requires (λ c. search needs)
+    returns-4)

@@ -29,9 +29,6 @@ low-fits c = record { sfits = omega (arith, low-size (c .before .before .before 
 returns : tie.Need-returns
 returns c = rw (over (c .before .args .self) (c .if1 .taken)) (unranged 30 _ (λ e. omega arith))
 
-cells-in-range-requires : tie.Need-cells-in-range-requires
-cells-in-range-requires c κs = search needs
-
 returns-2 : tie.Need-returns-2
 returns-2 c =
     let s = c .before .before .before .before .args .self in
@@ -41,12 +38,6 @@ returns-2 c =
 returns-3 : tie.Need-returns-3
 returns-3 c =
     rw (fine (c .before), c .if3 .taken) (ranged 0)
-
-sub-top : tie.Need-sub-top
-sub-top c = search needs
-
-top-requires : tie.Need-top-requires
-top-requires c κs = search needs
 
 sub-t8 : tie.Need-sub-t8
 sub-t8 c = rw (high-read c) (low-fits c)
@@ -58,5 +49,5 @@ returns-4 c =
 
 pub output-range-spec : {M : Type 1} → statement M
 output-range-spec =
-    tie.close
-    (tie.spec returns cells-in-range-requires returns-2 returns-3 sub-top top-requires sub-t8 returns-4)
+    tie.close (tie.spec returns (λ c κs. search needs) returns-2 returns-3 (λ c. search needs) (λ c κs. search needs)
+    sub-t8 returns-4)

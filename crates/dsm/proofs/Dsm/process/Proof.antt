@@ -26,9 +26,6 @@ returns c =
     let s = c .before in
     step-refused (s .args .self) (s .args .x) 30 (over (s .args .self) (c .if1 .taken)) (λ e. omega arith)
 
-cells-in-range-requires : tie.Need-cells-in-range-requires
-cells-in-range-requires c κs = search needs
-
 returns-2 : tie.Need-returns-2
 returns-2 c =
     let s = c .before .before .before .before in
@@ -50,4 +47,4 @@ returns-3 c =
     (none (s .args .self) (e .before .before .before .if1 .left) (found e)) (c .turn .ensures))
 
 pub process-spec : {M : Type 1} → statement M
-process-spec = tie.close (tie.spec returns cells-in-range-requires returns-2 turn-requires returns-3)
+process-spec = tie.close (tie.spec returns (λ c κs. search needs) returns-2 turn-requires returns-3)

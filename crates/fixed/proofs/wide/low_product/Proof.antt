@@ -8,12 +8,6 @@ use Rattle.words.proofs.Sizes.{low-product-fits}
 use Rattle.fixed.proofs.wide.low_product.Statement.{statement}
 use Rattle.fixed.proofs.wide.low_product.Tie as tie
 
-low-of-requires : tie.Need-low-of-requires
-low-of-requires c κs = search needs
-
-i32-as-i64-requires : tie.Need-i32-as-i64-requires
-i32-as-i64-requires c κs = search needs
-
 mul-result : tie.Need-mul-result
 mul-result c =
     let k = c .before in let s = k .before in let y = s .args .y in let a = s .args .a in
@@ -41,4 +35,5 @@ returns c =
     )
 
 pub low-product-spec : {M : Type 1} → statement M
-low-product-spec = tie.close (tie.spec low-of-requires i32-as-i64-requires mul-result returns)
+low-product-spec =
+    tie.close (tie.spec (λ c κs. search needs) (λ c κs. search needs) mul-result returns)

@@ -8,24 +8,6 @@ use Rattle.pll.specs.Loops.{trackedPhase, trackedNext}
 use Rattle.pll.proofs.PLL.process.Statement.{statement}
 use Rattle.pll.proofs.PLL.process.Tie as tie
 
-predict-requires : tie.Need-predict-requires
-predict-requires c κs = search needs
-
-add-i32-requires : tie.Need-add-i32-requires
-add-i32-requires c κs = search needs
-
-process-requires : tie.Need-process-requires
-process-requires c κs = search needs
-
-add-i32-requires-2 : tie.Need-add-i32-requires-2
-add-i32-requires-2 c κs = search needs
-
-lead-lag-requires : tie.Need-lead-lag-requires
-lead-lag-requires c κs = search needs
-
-add-i64-requires : tie.Need-add-i64-requires
-add-i64-requires c κs = search needs
-
 returns : tie.Need-returns
 unfolding trackedPhase trackedNext
 returns c =
@@ -68,12 +50,5 @@ returns c =
 
 pub process-spec : {M : Type 1} → statement M
 process-spec =
-    tie.close
-    (tie.spec
-    predict-requires
-    add-i32-requires
-    process-requires
-    add-i32-requires-2
-    lead-lag-requires
-    add-i64-requires
-    returns)
+    tie.close (tie.spec (λ c κs. search needs) (λ c κs. search needs) (λ c κs. search needs) (λ c κs. search needs)
+    (λ c κs. search needs) (λ c κs. search needs) returns)

@@ -4,12 +4,6 @@ use Rattle.words.proofs.Reading.{read}
 use Rattle.pll.proofs.PLLState.predict.Statement.{statement}
 use Rattle.pll.proofs.PLLState.predict.Tie as tie
 
-frequency-requires : tie.Need-frequency-requires
-frequency-requires c κs = search needs
-
-add-i32-requires : tie.Need-add-i32-requires
-add-i32-requires c κs = search needs
-
 returns : tie.Need-returns
 returns c =
     let a = c .before .before in let t = a .before in let g = t .before in let s = g .before .args .self in
@@ -27,4 +21,4 @@ returns c =
     )
 
 pub predict-spec : {M : Type 1} → statement M
-predict-spec = tie.close (tie.spec frequency-requires add-i32-requires returns)
+predict-spec = tie.close (tie.spec (λ c κs. search needs) (λ c κs. search needs) returns)

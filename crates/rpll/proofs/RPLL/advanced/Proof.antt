@@ -6,12 +6,6 @@ use Rattle.rpll.proofs.Coasting.{added}
 use Rattle.rpll.proofs.RPLL.advanced.Statement.{statement}
 use Rattle.rpll.proofs.RPLL.advanced.Tie as tie
 
-u32-as-i32-requires : tie.Need-u32-as-i32-requires
-u32-as-i32-requires c κs = search needs
-
-add-i32-requires : tie.Need-add-i32-requires
-add-i32-requires c κs = search needs
-
 returns : tie.Need-returns
 returns c =
     let a = c .before in let t = a .before in let u = t .before in let s = u .before .args .self in
@@ -26,4 +20,4 @@ returns c =
     )
 
 pub advanced-spec : {M : Type 1} → statement M
-advanced-spec = tie.close (tie.spec u32-as-i32-requires add-i32-requires returns)
+advanced-spec = tie.close (tie.spec (λ c κs. search needs) (λ c κs. search needs) returns)

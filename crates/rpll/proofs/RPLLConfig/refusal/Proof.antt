@@ -24,9 +24,6 @@ returns-4 c =
     let d = c .before .before in let b = d .before .before in
     rw (le-ltb _ _ (b .before .before .if1 .left), lt-leb _ _ (b .if2 .left), le-ltb _ _ (d .if3 .left), lt-ltb _ _ (c .if4 .taken))
 
-add-if5 : tie.Need-add-if5
-add-if5 c = search needs
-
 returns-5 : tie.Need-returns-5
 unfolding refusalOf
 returns-5 c =
@@ -53,4 +50,4 @@ returns-6 c =
 
 pub refusal-spec : {M : Type 1} → statement M
 refusal-spec =
-    tie.close (tie.spec returns returns-2 returns-3 returns-4 add-if5 returns-5 returns-6)
+    tie.close (tie.spec returns returns-2 returns-3 returns-4 (λ c. search needs) returns-5 returns-6)

@@ -34,9 +34,6 @@ pair : (c : tie.After-sub-i32) {w : Wrap} → w ≡ differenceOf (c .before .arg
 unfolding differenceOf
 pair c e = rw (delta c, e)
 
-sub-i32-requires : tie.Need-sub-i32-requires
-sub-i32-requires c κs = search needs
-
 returns : tie.Need-returns
 returns c = let k = c .before .before in pair k (found k true true (c .before .if1 .taken) (c .if2 .taken))
 
@@ -50,4 +47,5 @@ returns-4 : tie.Need-returns-4
 returns-4 c = let k = c .before .before in pair k (found k false false (c .before .if1 .left) (c .if3 .left))
 
 pub overflowing-sub-spec : {M : Type 1} → statement M
-overflowing-sub-spec = tie.close (tie.spec sub-i32-requires returns returns-2 returns-3 returns-4)
+overflowing-sub-spec =
+    tie.close (tie.spec (λ c κs. search needs) returns returns-2 returns-3 returns-4)

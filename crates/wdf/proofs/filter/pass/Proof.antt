@@ -26,18 +26,6 @@ returns : tie.Need-returns Inv-loop μ-loop
 unfolding sectionsOf passed
 returns c = rw (c .if1 .taken, toZ-ofZ w32 (c .before .args .x) (c .before .fits .x)) (refl, refl)
 
-sub-last : tie.Need-sub-last Inv-loop μ-loop
-sub-last c = search needs
-
-element-copy-out-section : tie.Need-element-copy-out-section Inv-loop μ-loop
-element-copy-out-section c = search needs
-
-element-copy-out-section-2 : tie.Need-element-copy-out-section-2 Inv-loop μ-loop
-element-copy-out-section-2 c = search needs
-
-section-requires : tie.Need-section-requires Inv-loop μ-loop
-section-requires c κs = search needs
-
 loop-holds : tie.Need-loop-holds Inv-loop μ-loop
 loop-holds c =
     let k = c .before in let f = k .before in let h = f .before in let s = h .before .before in let a = s .args in
@@ -52,33 +40,6 @@ loop-holds c =
       rw (read w32 (p .1) (c .struct-told .given .1 .0 .1))
           (begin (a .sections - 1) (a .architecture) (a .a .now) (a .z .now) (toZ w32 (ofZ w32 (a .x))) (omega arith) p e),
     )
-
-add-at : tie.Need-add-at Inv-loop μ-loop
-add-at c = search needs
-
-mul-section : tie.Need-mul-section Inv-loop μ-loop
-mul-section c = search needs
-
-element-copy-out-section-3 : tie.Need-element-copy-out-section-3 Inv-loop μ-loop
-element-copy-out-section-3 c = search needs
-
-mul-section-2 : tie.Need-mul-section-2 Inv-loop μ-loop
-mul-section-2 c = search needs
-
-element-copy-out-section-4 : tie.Need-element-copy-out-section-4 Inv-loop μ-loop
-element-copy-out-section-4 c = search needs
-
-section-requires-2 : tie.Need-section-requires-2 Inv-loop μ-loop
-section-requires-2 c κs = search needs
-
-mul-back : tie.Need-mul-back Inv-loop μ-loop
-mul-back c = search needs
-
-element-set-from-back : tie.Need-element-set-from-back Inv-loop μ-loop
-element-set-from-back c = search needs
-
-loop-less : tie.Need-loop-less Inv-loop μ-loop
-loop-less c = search needs
 
 loop-again : tie.Need-loop-again Inv-loop μ-loop
 loop-again c =
@@ -97,12 +58,6 @@ loop-again c =
           (at .before .before .section .result .0) (l .z) (toZ w32 (l .going)) (l .left) (l .i) (l .inv .1) p (omega (arith, m .loop-test .taken)) e),
     )
 
-mul-going : tie.Need-mul-going Inv-loop μ-loop
-mul-going c = search needs
-
-element-set-from-going : tie.Need-element-set-from-going Inv-loop μ-loop
-element-set-from-going c = search needs
-
 returns-2 : tie.Need-returns-2 Inv-loop μ-loop
 returns-2 c =
     let at = c .before .before in let l = at .loop in let k = at .before .before in
@@ -116,26 +71,7 @@ returns-2 c =
 
 pub pass-spec : {M : Type 1} → statement M
 pass-spec =
-    tie.close
-    (tie.spec
-    Inv-loop
-    μ-loop
-    returns
-    sub-last
-    element-copy-out-section
-    element-copy-out-section-2
-    section-requires
-    loop-holds
-    add-at
-    mul-section
-    element-copy-out-section-3
-    mul-section-2
-    element-copy-out-section-4
-    section-requires-2
-    mul-back
-    element-set-from-back
-    loop-less
-    loop-again
-    mul-going
-    element-set-from-going
-    returns-2)
+    tie.close (tie.spec Inv-loop μ-loop returns (λ c. search needs) (λ c. search needs) (λ c. search needs)
+    (λ c κs. search needs) loop-holds (λ c. search needs) (λ c. search needs) (λ c. search needs) (λ c. search needs)
+    (λ c. search needs) (λ c κs. search needs) (λ c. search needs) (λ c. search needs) (λ c. search needs) loop-again
+    (λ c. search needs) (λ c. search needs) returns-2)

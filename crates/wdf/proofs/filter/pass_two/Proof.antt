@@ -13,30 +13,6 @@ use borrow.Author.Needs.{needs}
 use Rattle.wdf.proofs.filter.pass_two.Statement.{statement}
 use Rattle.wdf.proofs.filter.pass_two.Tie as tie
 
-element-copy-out-section : tie.Need-element-copy-out-section
-element-copy-out-section c = search needs
-
-element-copy-out-section-2 : tie.Need-element-copy-out-section-2
-element-copy-out-section-2 c = search needs
-
-section-requires : tie.Need-section-requires
-section-requires c κs = search needs
-
-element-copy-out-section-3 : tie.Need-element-copy-out-section-3
-element-copy-out-section-3 c = search needs
-
-element-copy-out-section-4 : tie.Need-element-copy-out-section-4
-element-copy-out-section-4 c = search needs
-
-section-requires-2 : tie.Need-section-requires-2
-section-requires-2 c κs = search needs
-
-element-set-from-back : tie.Need-element-set-from-back
-element-set-from-back c = search needs
-
-element-set-from-on : tie.Need-element-set-from-on
-element-set-from-on c = search needs
-
 returns : tie.Need-returns
 returns c =
     let u = c .before in let t = u .before in let q = t .before in let f = q .before in let h = f .before in let m = h .before in
@@ -64,14 +40,5 @@ returns c =
 
 pub pass-two-spec : {M : Type 1} → statement M
 pass-two-spec =
-    tie.close
-    (tie.spec
-    element-copy-out-section
-    element-copy-out-section-2
-    section-requires
-    element-copy-out-section-3
-    element-copy-out-section-4
-    section-requires-2
-    element-set-from-back
-    element-set-from-on
-    returns)
+    tie.close (tie.spec (λ c. search needs) (λ c. search needs) (λ c κs. search needs) (λ c. search needs)
+    (λ c. search needs) (λ c κs. search needs) (λ c. search needs) (λ c. search needs) returns)

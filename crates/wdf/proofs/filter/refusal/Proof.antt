@@ -11,12 +11,6 @@ returns : tie.Need-returns
 unfolding numberOf
 returns c = rw (lt-ltb 8 (c .before .args .sections) (c .if1 .taken))
 
-mul-if2 : tie.Need-mul-if2
-mul-if2 c = search needs
-
-shr-if2 : tie.Need-shr-if2
-shr-if2 c = search needs
-
 returns-2 : tie.Need-returns-2
 unfolding numberOf
 returns-2 c =
@@ -32,4 +26,5 @@ returns-3 c =
     rw (le-ltb 8 s (c .before .if1 .left), eq-eqb (m / 16 ^ s) 0 (rw (four-bits s) at k))
 
 pub refusal-spec : {M : Type 1} → statement M
-refusal-spec = tie.close (tie.spec returns mul-if2 shr-if2 returns-2 returns-3)
+refusal-spec =
+    tie.close (tie.spec returns (λ c. search needs) (λ c. search needs) returns-2 returns-3)

@@ -5,12 +5,6 @@ use Rattle.words.proofs.Reading.{read}
 use Rattle.wdf.proofs.tpa.scale.Statement.{statement}
 use Rattle.wdf.proofs.tpa.scale.Tie as tie
 
-product-requires : tie.Need-product-requires
-product-requires c κs = search needs
-
-i64-high-requires : tie.Need-i64-high-requires
-i64-high-requires c κs = search needs
-
 returns : tie.Need-returns
 returns c =
     let k = c .before in let s = k .before in
@@ -24,4 +18,4 @@ returns c =
     )
 
 pub scale-spec : {M : Type 1} → statement M
-scale-spec = tie.close (tie.spec product-requires i64-high-requires returns)
+scale-spec = tie.close (tie.spec (λ c κs. search needs) (λ c κs. search needs) returns)

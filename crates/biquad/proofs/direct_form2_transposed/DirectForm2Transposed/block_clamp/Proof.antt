@@ -11,9 +11,6 @@ returns c =
     let a = c .before .before .before .args in
     unlike (limitNumber (a .c)) (held2 (a .c)) (onward2 (a .c)) (a .self) (a .xs .now) (a .ys .now) (c .if1 .taken)
 
-limits-requires : tie.Need-limits-requires
-limits-requires c κs = search needs
-
 returns-2 : tie.Need-returns-2
 returns-2 c =
     let e = c .before .limits .ensures in
@@ -21,12 +18,6 @@ returns-2 c =
     let a = if1 .before .before .before .args in
     rw e
     (own (limitNumber (a .c)) (held2 (a .c)) (onward2 (a .c)) (a .self) (a .xs .now) (a .ys .now) (if1 .if1 .left) (λ z. c .if2 .taken (e ∙ z)))
-
-hold-all-requires : tie.Need-hold-all-requires
-hold-all-requires c κs = search needs
-
-same-length : tie.Need-same-length
-same-length c = search needs
 
 returns-3 : tie.Need-returns-3
 returns-3 c =
@@ -39,4 +30,4 @@ returns-3 c =
 
 pub block-clamp-spec : {M : Type 1} → statement M
 block-clamp-spec =
-    tie.close (tie.spec returns limits-requires returns-2 hold-all-requires same-length returns-3)
+    tie.close (tie.spec returns (λ c κs. search needs) returns-2 (λ c κs. search needs) (λ c. search needs) returns-3)

@@ -5,12 +5,6 @@ use Rattle.words.proofs.Reading.{read}
 use Rattle.fixed.proofs.biquad.BiquadClamp.limit.Statement.{statement}
 use Rattle.fixed.proofs.biquad.BiquadClamp.limit.Tie as tie
 
-add-i32-requires : tie.Need-add-i32-requires
-add-i32-requires c κs = search needs
-
-clamp-requires : tie.Need-clamp-requires
-clamp-requires c κs = search needs
-
 returns : tie.Need-returns
 returns c =
     let k = c .before .before .before in let t = k .before in let s = t .before in
@@ -27,4 +21,4 @@ returns c =
     )
 
 pub limit-spec : {M : Type 1} → statement M
-limit-spec = tie.close (tie.spec add-i32-requires clamp-requires returns)
+limit-spec = tie.close (tie.spec (λ c κs. search needs) (λ c κs. search needs) returns)

@@ -8,9 +8,6 @@ use Rattle.fixed.proofs.Wraps.{tested-lt}
 use Rattle.fixed.proofs.biquad.BiquadClamp.refusal.Statement.{statement}
 use Rattle.fixed.proofs.biquad.BiquadClamp.refusal.Tie as tie
 
-fraction-requires : tie.Need-fraction-requires
-fraction-requires c κs = search needs
-
 returns : tie.Need-returns
 returns c =
     let k = c .before in let a = k .before .before .args in
@@ -36,4 +33,4 @@ returns-3 c =
     )
 
 pub refusal-spec : {M : Type 1} → statement M
-refusal-spec = tie.close (tie.spec fraction-requires returns returns-2 returns-3)
+refusal-spec = tie.close (tie.spec (λ c κs. search needs) returns returns-2 returns-3)

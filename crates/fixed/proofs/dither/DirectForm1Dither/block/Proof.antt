@@ -11,9 +11,6 @@ returns c =
     let a = c .before .args in
     unlike (fractionNumber 1 (a .c)) (ditherOut (a .c)) (ditherNext (a .c)) (a .self) (a .xs .now) (a .ys .now) (c .if1 .taken)
 
-fraction-requires : tie.Need-fraction-requires
-fraction-requires c κs = search needs
-
 returns-2 : tie.Need-returns-2
 returns-2 c =
     let k = c .before in let e = k .before in let a = e .before .args in
@@ -21,9 +18,6 @@ returns-2 c =
 
 turn-all-requires : tie.Need-turn-all-requires
 turn-all-requires c κs = (c .before .before .before .if1 .left, sym (c .before .before .fraction .ensures) ∙ c .before .if2 .left)
-
-same-length : tie.Need-same-length
-same-length c = search needs
 
 returns-3 : tie.Need-returns-3
 returns-3 c =
@@ -33,5 +27,4 @@ returns-3 c =
 
 pub block-spec : {M : Type 1} → statement M
 block-spec =
-    tie.close
-    (tie.spec returns fraction-requires returns-2 turn-all-requires same-length returns-3)
+    tie.close (tie.spec returns (λ c κs. search needs) returns-2 turn-all-requires (λ c. search needs) returns-3)

@@ -10,9 +10,6 @@ use Rattle.fixed.proofs.dither.DirectForm1Dither.turn_clamp.Tie as tie
 turn-requires : tie.Need-turn-requires
 turn-requires c κs = accepted 1 (c .before .args .c) (c .before .pre)
 
-limit-requires : tie.Need-limit-requires
-limit-requires c κs = search needs
-
 returns : tie.Need-returns
 returns c =
     let l = c .before .before in let t = l .before in let k = t .before in let s = k .before .before in
@@ -30,4 +27,4 @@ returns c =
     (refl, refl)
 
 pub turn-clamp-spec : {M : Type 1} → statement M
-turn-clamp-spec = tie.close (tie.spec turn-requires limit-requires returns)
+turn-clamp-spec = tie.close (tie.spec turn-requires (λ c κs. search needs) returns)

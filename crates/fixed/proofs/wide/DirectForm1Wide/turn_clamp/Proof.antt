@@ -10,12 +10,6 @@ use Rattle.fixed.proofs.wide.DirectForm1Wide.turn_clamp.Tie as tie
 turn-requires : tie.Need-turn-requires
 turn-requires c κs = accepted 0 (c .before .args .c) (c .before .pre)
 
-limit-requires : tie.Need-limit-requires
-limit-requires c κs = search needs
-
-overwrite-requires : tie.Need-overwrite-requires
-overwrite-requires c κs = search needs
-
 returns : tie.Need-returns
 returns c =
     let o = c .before .before in let l = o .before in let t = l .before in let k = t .before in let s = k .before .before in
@@ -33,4 +27,5 @@ returns c =
     (refl, refl)
 
 pub turn-clamp-spec : {M : Type 1} → statement M
-turn-clamp-spec = tie.close (tie.spec turn-requires limit-requires overwrite-requires returns)
+turn-clamp-spec =
+    tie.close (tie.spec turn-requires (λ c κs. search needs) (λ c κs. search needs) returns)

@@ -5,15 +5,6 @@ use Rattle.words.proofs.Reading.{read}
 use Rattle.unwrap.proofs.clamp_wrap.ClampWrap.process.Statement.{statement}
 use Rattle.unwrap.proofs.clamp_wrap.ClampWrap.process.Tie as tie
 
-overflowing-sub-requires : tie.Need-overflowing-sub-requires
-overflowing-sub-requires c κs = search needs
-
-add-requires : tie.Need-add-requires
-add-requires c κs = search needs
-
-held-to-requires : tie.Need-held-to-requires
-held-to-requires c κs = search needs
-
 returns : tie.Need-returns
 returns c =
     let k = c .before in let o = k .before in let t = o .before in let s = t .before in
@@ -27,4 +18,5 @@ returns c =
     )
 
 pub process-spec : {M : Type 1} → statement M
-process-spec = tie.close (tie.spec overflowing-sub-requires add-requires held-to-requires returns)
+process-spec =
+    tie.close (tie.spec (λ c κs. search needs) (λ c κs. search needs) (λ c κs. search needs) returns)

@@ -4,13 +4,10 @@ use Rattle.words.proofs.Reading.{read}
 use Rattle.unwrap.proofs.unwrapper.Unwrapper.phase.Statement.{statement}
 use Rattle.unwrap.proofs.unwrapper.Unwrapper.phase.Tie as tie
 
-i64-as-i32-requires : tie.Need-i64-as-i32-requires
-i64-as-i32-requires c κs = search needs
-
 returns : tie.Need-returns
 returns c =
     let t = c .before in let y = t .before .args .self .y in
     rw (read w32 (c .i64-as-i32 .result) (c .i64-as-i32 .ok), c .i64-as-i32 .ensures, read w64 y (t .struct-told .given .0 .1))
 
 pub phase-spec : {M : Type 1} → statement M
-phase-spec = tie.close (tie.spec i64-as-i32-requires returns)
+phase-spec = tie.close (tie.spec (λ c κs. search needs) returns)

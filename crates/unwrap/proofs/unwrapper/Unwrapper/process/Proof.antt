@@ -5,18 +5,6 @@ use Rattle.words.proofs.Reading.{read}
 use Rattle.unwrap.proofs.unwrapper.Unwrapper.process.Statement.{statement}
 use Rattle.unwrap.proofs.unwrapper.Unwrapper.process.Tie as tie
 
-i64-as-i32-requires : tie.Need-i64-as-i32-requires
-i64-as-i32-requires c κs = search needs
-
-sub-i32-requires : tie.Need-sub-i32-requires
-sub-i32-requires c κs = search needs
-
-i32-as-i64-requires : tie.Need-i32-as-i64-requires
-i32-as-i64-requires c κs = search needs
-
-add-i64-requires : tie.Need-add-i64-requires
-add-i64-requires c κs = search needs
-
 returns : tie.Need-returns
 returns c =
     let k = c .before in let d = k .before in let n = d .before in let t = n .before in let a = t .before .args in
@@ -35,5 +23,5 @@ returns c =
 
 pub process-spec : {M : Type 1} → statement M
 process-spec =
-    tie.close
-    (tie.spec i64-as-i32-requires sub-i32-requires i32-as-i64-requires add-i64-requires returns)
+    tie.close (tie.spec (λ c κs. search needs) (λ c κs. search needs) (λ c κs. search needs) (λ c κs. search needs)
+    returns)

@@ -11,15 +11,6 @@ use Rattle.unwrap.proofs.Counting.{one-more, as-it-is}
 use Rattle.unwrap.proofs.unwrapper.Unwrapper.wraps.Statement.{statement}
 use Rattle.unwrap.proofs.unwrapper.Unwrapper.wraps.Tie as tie
 
-i64-high-requires : tie.Need-i64-high-requires
-i64-high-requires c κs = search needs
-
-i64-as-i32-requires : tie.Need-i64-as-i32-requires
-i64-as-i32-requires c κs = search needs
-
-add-i32-requires : tie.Need-add-i32-requires
-add-i32-requires c κs = search needs
-
 -- the test is that of the phase
 phase-sign : (c : tie.After-i64-as-i32) (b : Bool) → ltZ (toZ w32 (ofZ w32 (c .i64-as-i32 .result))) (pos 0) ≡ b
     → ltZ (phaseOf (c .before .before .before .args .self .y)) (pos 0) ≡ b
@@ -48,4 +39,4 @@ returns-2 c =
 
 pub wraps-spec : {M : Type 1} → statement M
 wraps-spec =
-    tie.close (tie.spec i64-high-requires i64-as-i32-requires add-i32-requires returns returns-2)
+    tie.close (tie.spec (λ c κs. search needs) (λ c κs. search needs) (λ c κs. search needs) returns returns-2)

@@ -11,9 +11,6 @@ returns c =
     let a = c .before .args in
     unlike (number (a .self)) answer next (a .self) (a .xs .now) (a .ys .now) (c .if1 .taken)
 
-refusal-requires : tie.Need-refusal-requires
-refusal-requires c κs = search needs
-
 returns-2 : tie.Need-returns-2
 returns-2 c =
     let k = c .before .refusal in let d = c .before .before in let a = d .before .args in
@@ -23,9 +20,6 @@ run-block-requires : tie.Need-run-block-requires
 run-block-requires c κs =
     let e = c .before .before .before .before .before in let k = e .before .refusal in let d = e .before .before in let a = d .before .args in
     (few (a .self .sections) (a .self .architecture) (rw (k .ensures) at (e .if2 .left)), search needs, d .if1 .left)
-
-same-length : tie.Need-same-length
-same-length c = search needs
 
 returns-3 : tie.Need-returns-3
 returns-3 c =
@@ -37,5 +31,4 @@ returns-3 c =
 
 pub block-spec : {M : Type 1} → statement M
 block-spec =
-    tie.close
-    (tie.spec returns refusal-requires returns-2 run-block-requires same-length returns-3)
+    tie.close (tie.spec returns (λ c κs. search needs) returns-2 run-block-requires (λ c. search needs) returns-3)

@@ -6,9 +6,6 @@ use Rattle.wdf.specs.Calls.{made}
 use Rattle.wdf.proofs.filter.Wdf.new.Statement.{statement}
 use Rattle.wdf.proofs.filter.Wdf.new.Tie as tie
 
-refusal-requires : tie.Need-refusal-requires
-refusal-requires c κs = search needs
-
 returns : tie.Need-returns
 unfolding made
 returns c = let k = c .before .refusal in rw (← k .ensures, ne-eqb (k .result) 0 (c .if1 .taken), ← refused (k .result) (c .if1 .taken))
@@ -18,4 +15,4 @@ unfolding made verdictOf
 returns-2 c = let k = c .before .refusal in rw (← k .ensures, c .if1 .left)
 
 pub new-spec : {M : Type 1} → statement M
-new-spec = tie.close (tie.spec refusal-requires returns returns-2)
+new-spec = tie.close (tie.spec (λ c κs. search needs) returns returns-2)

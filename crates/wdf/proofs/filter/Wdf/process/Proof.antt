@@ -6,9 +6,6 @@ use Rattle.wdf.proofs.Steps.{few, refuses, gives}
 use Rattle.wdf.proofs.filter.Wdf.process.Statement.{statement}
 use Rattle.wdf.proofs.filter.Wdf.process.Tie as tie
 
-refusal-requires : tie.Need-refusal-requires
-refusal-requires c κs = search needs
-
 returns : tie.Need-returns
 returns c =
     let k = c .before .refusal in let a = c .before .before .args in
@@ -27,4 +24,4 @@ returns-2 c =
     (gives (a .self) (a .x) (rw (k .ensures) at (e .if1 .left)))
 
 pub process-spec : {M : Type 1} → statement M
-process-spec = tie.close (tie.spec refusal-requires returns pass-requires returns-2)
+process-spec = tie.close (tie.spec (λ c κs. search needs) returns pass-requires returns-2)

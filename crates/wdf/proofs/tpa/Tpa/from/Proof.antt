@@ -47,5 +47,4 @@ returns-8 c =
 
 pub from-spec : {M : Type 1} → statement M
 from-spec =
-    tie.close
-    (tie.spec returns returns-2 returns-3 returns-4 returns-5 returns-6 returns-7 returns-8)
+    tie.close (tie.spec returns returns-2 returns-3 returns-4 returns-5 returns-6 returns-7 returns-8)
