@@ -86,20 +86,6 @@ fn pass(sections: usize, architecture: u32, a: &[i32; 8], z: &mut [i32; 8], x: i
     head.0
 }
 
-// The same through two sections.
-fn pass_two(architecture: u32, a: &[i32; 8], z: &mut [i32; 8], x: i32) -> i32
-    requires { ⌜ length (now z) ≡ 8 ⌝ }
-    ensures { λ r. ⌜ Passes (filter 2 architecture (now (a .entry)) (now (z .entry))) x r (now (z .exit)) ⌝ }
-{
-    let head = section(architecture, x, z[0], a[0]);
-    let tail = section(architecture / 16, head.1, z[1], a[1]);
-    let back = tail.0;
-    let on = tail.1;
-    z[0] = back;
-    z[1] = on;
-    head.0
-}
-
 // The steps of a block in turn, over lent cells.
 fn run_any(
     sections: usize,
@@ -128,7 +114,7 @@ fn run_two(architecture: u32, a: &[i32; 8], z: &mut [i32; 8], xs: &[i32], ys: &m
     let mut i: usize = 0;
     while i < xs.len() {
         let x = xs[i];
-        ys[i] = pass_two(architecture, a, z, x);
+        ys[i] = pass(2, architecture, a, z, x);
         i += 1;
     }
 }

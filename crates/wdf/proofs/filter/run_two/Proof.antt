@@ -32,9 +32,9 @@ loop-again c =
     let s = filter 2 (a .architecture) (a .a .now) (l .z) in
     let x : ℤ = getD (a .xs .now) (l .i) (pos 0) in
     let b = read w32 x (c .before .before .x .given) in
-    let z : c .pass-two .last .1 .1 .0 ≡ next s x .z = rw b at (c .pass-two .ensures .1) in (
+    let z : c .pass .last .1 .1 .1 .0 ≡ next s x .z = rw b at (c .pass .ensures .1) in (
       ap length z ∙ next-length s x (omega (arith, l .inv .0)) ∙ l .inv .0,
-      rw (read w32 (c .pass-two .result) (c .pass-two .ok), c .pass-two .ensures .0, b, z)
+      rw (read w32 (c .pass .result) (c .pass .ok), c .pass .ensures .0, b, z)
           (turn answer next s₀ (a .xs .now) (l .ys) s (l .i) (pos 0) (m .loop-test .taken) (l .inv .1)),
     )
 
