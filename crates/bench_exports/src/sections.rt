@@ -10,8 +10,8 @@ use wdf::filter::Wdf;
 ghost use mathlib.Core.Path.{_≡_};
 ghost use Rattle.blocks.specs.Scan.{scan};
 ghost use Rattle.blocks.specs.Blocks.{lengthsNumber, unless};
-ghost use Rattle.dsm.specs.Modulator.{outOf, nextOf};
-ghost use Rattle.dsm.specs.Calls.{madeOf};
+ghost use Rattle.dsm.specs.Modulator.{modulatorOut, nextOf};
+ghost use Rattle.dsm.specs.Calls.{modulatorOf};
 ghost use Rattle.dsm.specs.Calls as Modulator;
 ghost use Rattle.wdf.specs.Calls.{number, answer, next};
 ghost use Rattle.biquad.specs.Forms.{zero1, sum1, next1, held1, onward1, zero2, sum2, next2, held2, onward2};
@@ -24,8 +24,8 @@ ghost use Rattle.bench_exports.specs.Fresh.{alike, still, quiet, floats,
 // A modulator's block.
 #[no_mangle]
 pub extern "C" fn bench_dsm(order: usize, xs: &[u32], ys: &mut [i16])
-    ensures { λ _. ⌜ now (ys .exit) ≡ unless (Modulator.blockNumber (madeOf order .state) (now (xs .entry)) (now (ys .entry))) (now (ys .entry))
-        (scan outOf nextOf (madeOf order .state) (now (xs .entry))) ⌝ }
+    ensures { λ _. ⌜ now (ys .exit) ≡ unless (Modulator.runNumber (modulatorOf order .state) (now (xs .entry)) (now (ys .entry))) (now (ys .entry))
+        (scan modulatorOut nextOf (modulatorOf order .state) (now (xs .entry))) ⌝ }
 {
     let made = Dsm::new(order);
     let filter = made.state;

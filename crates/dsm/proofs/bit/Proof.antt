@@ -1,3 +1,4 @@
+-- A remainder by two fits 16 bits.
 use Prim.Native.Nat.{_%_, _^_, _<_}
 use native.Mathlib.Omega.{arith}
 use mir.Syntax.{w16}

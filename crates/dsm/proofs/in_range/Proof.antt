@@ -1,3 +1,4 @@
+-- The two tests of the code are the definition's, once each bound is read back as a number.
 use mathlib.Core.Path.{_≡_, _∙_}
 use Prim.Native.Nat.{_^_}
 use native.Mathlib.Omega.{arith}
@@ -25,7 +26,12 @@ returns c =
     let s = c .before .before in
     rw (
       not-less (s .args .cell) (pos 1 -ℤ pos (2 ^ s .args .j)),
-      rw (toZ-ofZ w16 (s .args .cell) (s .fits .cell), high-read (c .before), toZ-ofZ w16 (pos 1 -ℤ pos (2 ^ s .args .j)) (low-fits s)) at (c .if1 .taken),
+      rw (
+        toZ-ofZ w16 (s .args .cell) (s .fits .cell),
+        high-read (c .before),
+        toZ-ofZ w16 (pos 1 -ℤ pos (2 ^ s .args .j))
+            (low-fits s),
+      ) at (c .if1 .taken),
     )
 
 returns-2 : tie.Need-returns-2
@@ -33,7 +39,12 @@ returns-2 c =
     let s = c .before .before in
     rw (
       not-less (s .args .cell) (pos 1 -ℤ pos (2 ^ s .args .j)),
-      rw (toZ-ofZ w16 (s .args .cell) (s .fits .cell), high-read (c .before), toZ-ofZ w16 (pos 1 -ℤ pos (2 ^ s .args .j)) (low-fits s)) at (c .if1 .left),
+      rw (
+        toZ-ofZ w16 (s .args .cell) (s .fits .cell),
+        high-read (c .before),
+        toZ-ofZ w16 (pos 1 -ℤ pos (2 ^ s .args .j))
+            (low-fits s),
+      ) at (c .if1 .left),
       toZ-ofZ w16 (s .args .cell) (s .fits .cell),
       high-read (c .before),
     )

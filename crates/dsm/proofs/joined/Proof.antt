@@ -1,3 +1,4 @@
+-- Three numbers of at most 64 add up well inside 16 bits.
 use mathlib.Core.Path.{_≡_, _∙_}
 use Prim.Native.Nat.{_%_}
 use native.Mathlib.Omega.{arith}

@@ -1,3 +1,4 @@
+-- What is written and what the rest would give are the whole (Running, over blocks Turns).
 use mathlib.Core.Path.{_≡_, sym, _∙_}
 use Prim.Native.Nat.{_-_}
 use lib.ListN.{length}
@@ -18,16 +19,19 @@ abbrev μ-loop : tie.MeasureT-loop
 loop-holds : tie.Need-loop-holds Inv-loop μ-loop
 loop-holds c =
     let a = c .before .args in let p = c .before .pre in
-    running-start (cells (a .order) (a .a .now) (a .c .now)) (a .xs .now) (p .accepted) (a .ys .now) (sym (p .alike)) (p .accumulators) (p .retained)
+    running-start (cells (a .order) (a .a .now) (a .c .now)) (a .xs .now) (p .accepted) (a .ys .now) (sym (p .alike))
+    (p .accumulators) (p .retained)
 
 turn-requires : tie.Need-turn-requires Inv-loop μ-loop
 turn-requires c κs =
-    let l = c .before .before .before .before .loop in let s = c .before .before .before .before .before .before in let a = s .args in
-    running-ready (cells (a .order) (a .a .now) (a .c .now)) (a .xs .now) (s .pre .accepted) (l .ys) (cells (a .order) (l .a) (l .c)) (l .i) (l .inv)
+    let turn = c .before .before .before in let l = turn .before .loop in let s = turn .before .before .before in let a = s .args in
+    running-ready (cells (a .order) (a .a .now) (a .c .now)) (a .xs .now) (s .pre .accepted) (l .ys) (cells (a .order) (l .a) (l .c))
+    (l .i) (l .inv)
 
 loop-again : tie.Need-loop-again Inv-loop μ-loop
 loop-again c =
-    let m = c .before .before .before .before in let l = m .before .loop in let s = m .before .before .before in let a = s .args in
+    let after-turn-arg2 = c .before .before in let m = after-turn-arg2 .before .before in let l = m .before .loop in
+    let s = m .before .before .before in let a = s .args in
     rw (read w16 (c .turn .result) (c .turn .ok))
     (running-turn (cells (a .order) (a .a .now) (a .c .now)) (a .xs .now) (s .pre .accepted) (l .ys) (cells (a .order) (l .a) (l .c)) (l .i)
     (c .turn .last .0) (c .turn .last .1 .0) (c .turn .result) (m .loop-test .taken) (l .inv) (c .turn .ensures))

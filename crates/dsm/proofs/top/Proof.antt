@@ -1,3 +1,4 @@
+-- 2^j is at most 128, so neither the shift nor the cast loses a bit.
 use mathlib.Core.Path.{_≡_}
 use Prim.Native.Nat.{_*_, _%_, _^_, _≤_}
 use native.Mathlib.Nat.{mod-eq-of-lt}

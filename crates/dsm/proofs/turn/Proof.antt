@@ -1,3 +1,4 @@
+-- The carries that the accumulators leave as bits are those that the retained cells meet.
 use mathlib.Core.Path.{_∙_}
 use mir.Syntax.{w16}
 use Rattle.words.proofs.Reading.{read}

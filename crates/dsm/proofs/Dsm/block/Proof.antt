@@ -1,3 +1,4 @@
+-- Each early return is one of the numbers in ascending order (Refusals, Ways); else the modulated run is the promise.
 use mathlib.Core.Path.{_≡_, sym, _∙_}
 use mathlib.Core.Bool.{true}
 use Prim.Native.Nat.{_-_}
@@ -10,7 +11,10 @@ use borrow.Author.Needs.{needs}
 use Rattle.dsm.proofs.Dsm.block.Statement.{statement}
 use Rattle.dsm.proofs.Dsm.block.Tie as tie
 
-found : (c : tie.Else3) → lying (c .before .before .before .before .before .before .args .self) ≡ true
+abbrev begin : tie.Else3 → tie.Start
+begin c = let alike = c .before .before .before in alike .before .before .before
+
+found : (c : tie.Else3) → lying (begin c .args .self) ≡ true
 found c = sym (c .before .cells-in-range .ensures) ∙ not-false (c .before .cells-in-range .result) (c .if3 .left)
 
 returns : tie.Need-returns
@@ -33,7 +37,7 @@ returns-3 c =
 
 modulate-requires : tie.Need-modulate-requires
 modulate-requires c κs =
-    let k = c .before .before .before .before in
+    let after-cells-in-range = c .before .before in let k = after-cells-in-range .before .before in
     (k .if2 .left, none (k .before .before .before .args .self) (k .before .if1 .left) (found (c .before)))
 
 returns-4 : tie.Need-returns-4

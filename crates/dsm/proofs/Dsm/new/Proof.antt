@@ -1,3 +1,4 @@
+-- The order's test is the refusal's number; the state is zeros either way.
 use borrow.Author.Tests.{lt-ltb, le-ltb}
 use Rattle.blocks.specs.Verdicts.{verdictOf}
 use borrow.Author.Needs.{needs}

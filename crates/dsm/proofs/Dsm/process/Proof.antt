@@ -1,3 +1,4 @@
+-- Three ways out by number (Ways); an accepted state has a step that runs on its cells (Running).
 use mathlib.Core.Path.{_≡_, sym, _∙_}
 use mathlib.Core.Bool.{true}
 use Prim.Native.Nat.{_-_}
@@ -18,7 +19,10 @@ accumulators c = sym (length-map (c .args .self .accumulators) (λ v. v)) ∙ c 
 retained : (c : tie.Start) → length (c .args .self .retained) ≡ 8
 retained c = sym (length-map (c .args .self .retained) (λ v. v)) ∙ c .good .0 .1 .1 .1 .1 .0 .1 .0 .1
 
-found : (c : tie.Else2) → lying (c .before .before .before .before .args .self) ≡ true
+abbrev begin : tie.Else2 → tie.Start
+begin c = let after-c = c .before .before in after-c .before .before
+
+found : (c : tie.Else2) → lying (begin c .args .self) ≡ true
 found c = sym (c .before .cells-in-range .ensures) ∙ not-false (c .before .cells-in-range .result) (c .if2 .left)
 
 returns : tie.Need-returns
@@ -28,7 +32,7 @@ returns c =
 
 returns-2 : tie.Need-returns-2
 returns-2 c =
-    let s = c .before .before .before .before in
+    let after-c = c .before .before in let s = after-c .before .before in
     step-refused (s .args .self) (s .args .x) 32
     (stray (s .args .self) (c .before .before .before .if1 .left)
     (sym (c .before .cells-in-range .ensures) ∙ not-true (c .before .cells-in-range .result) (c .if2 .taken)))
@@ -36,12 +40,12 @@ returns-2 c =
 
 turn-requires : tie.Need-turn-requires
 turn-requires c κs =
-    let e = c .before .before .before in let s = e .before .before .before .before in
+    let e = c .before .before .before in let s = begin e in
     (e .before .before .before .if1 .left, accumulators s, retained s, found e)
 
 returns-3 : tie.Need-returns-3
 returns-3 c =
-    let e = c .before .before .before .before in let s = e .before .before .before .before in
+    let after-a2 = c .before .before in let e = after-a2 .before .before in let s = begin e in
     rw (read w16 (c .turn .result) (c .turn .ok))
     (step-taken (s .args .self) (s .args .x) (c .turn .last .0) (c .turn .last .1 .0) (c .turn .result) (omega (arith, accumulators s))
     (none (s .args .self) (e .before .before .before .if1 .left) (found e)) (c .turn .ensures))

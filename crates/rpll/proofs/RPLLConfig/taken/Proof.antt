@@ -10,13 +10,13 @@ use Rattle.rpll.proofs.RPLLConfig.taken.Tie as tie
 
 frequency-lock-requires : tie.Need-frequency-lock-requires
 frequency-lock-requires c κs =
-    let s = c .before .before .before .before in
+    let after-struct-told = c .before .before in let s = after-struct-told .before .before in
     let a = accepted (s .args .self) (s .pre) in
     (a .frequency-above, a .frequency-small)
 
 phase-error-requires : tie.Need-phase-error-requires
 phase-error-requires c κs =
-    let s = c .before .before .before .before .before .before .before in
+    let after-struct-known2 = c .before .before .before in let after-struct-told = after-struct-known2 .before .before in let s = after-struct-told .before .before in
     let a = accepted (s .args .self) (s .pre) in
     (a .dt2-small, a .phase-above, a .phase-small)
 

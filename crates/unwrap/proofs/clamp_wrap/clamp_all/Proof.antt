@@ -29,16 +29,13 @@ loop-holds c = start _ _ _ _ _ (sym (c .before .pre))
 
 loop-again : tie.Need-loop-again Inv-loop μ-loop
 loop-again c =
-    let k = c .before .before in let l = c .before .before .before .before .before .loop in let a = c .before .before .before .before .before .before .before .args in
+    let k = c .before .before in let after-x = c .before .before .before in let l = after-x .before .before .loop in let at₁ = after-x .before .before in let a = at₁ .before .before .args in
     let x = getD (a .xs .now) (l .i) (pos 0) in
     let b = read w32 x (k .before .x .given) in
     let e : k .process .result ≡ clampedOf (state (l .x0) (l .clamp)) x = rw b at (k .process .ensures) in
     rw (read w32 (k .process .result .y) (c .before .struct-told2 .given .0 .1), e, b)
     (turn clampOut clampNext (state (ofZ w32 (a .s .x0)) (a .s .clamp)) (a .xs .now) (l .ys) (state (l .x0) (l .clamp)) (l .i) (pos 0)
     (k .before .before .loop-test .taken) (l .inv))
-
-same-length : tie.Need-same-length Inv-loop μ-loop
-same-length c = omega arith
 
 returns : tie.Need-returns Inv-loop μ-loop
 returns c =
@@ -48,4 +45,5 @@ returns c =
 pub clamp-all-spec : {M : Type 1} → statement M
 clamp-all-spec =
     tie.close (tie.spec Inv-loop μ-loop loop-holds (λ c. search needs) (λ c. search needs) (λ c κs. search needs)
-    (λ c. search needs) (λ c. search needs) (λ c. search needs) (λ c. search needs) loop-again same-length returns)
+    (λ c. search needs) (λ c. search needs) (λ c. search needs) (λ c. search needs) loop-again (λ c. omega arith)
+    returns)

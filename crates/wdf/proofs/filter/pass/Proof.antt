@@ -44,7 +44,7 @@ loop-holds c =
 loop-again : tie.Need-loop-again Inv-loop μ-loop
 loop-again c =
     let q = c .before in let k = q .before in let f = k .before in let h = f .before in let m = h .before in let at = m .before in
-    let l = at .loop in let s = at .before .before .before .before .before .before in let a = s .args in
+    let l = at .loop in let after-section-arg2 = at .before .before .before in let s = after-section-arg2 .before .before .before in let a = s .args in
     let p : Ports = k .section2 .result in
     let e : p ≡ section (l .left) (l .i + 1) (a .a .now) (l .z) (toZ w32 (l .going)) =
     rw (
@@ -61,7 +61,7 @@ loop-again c =
 returns-2 : tie.Need-returns-2 Inv-loop μ-loop
 returns-2 c =
     let at = c .before .before in let l = at .loop in let k = at .before .before in
-    let s = k .before .before .before .before in let a = s .args in
+    let after-section-arg = k .before .before in let s = after-section-arg .before .before in let a = s .args in
     let y : ℤ = k .section .result .0 in
     let n : a .sections - 1 + 1 ≡ a .sections = l .inv .0 .2 in
     let f = finish (a .sections - 1) (a .architecture) (a .a .now) (a .z .now) (toZ w32 (ofZ w32 (a .x))) (omega (arith, l .inv .0))

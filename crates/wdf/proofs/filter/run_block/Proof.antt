@@ -3,7 +3,7 @@ use Rattle.wdf.proofs.filter.run_block.Statement.{statement}
 use Rattle.wdf.proofs.filter.run_block.Tie as tie
 
 returns : tie.Need-returns
-returns c = rw (c .before .before .before .before .if1 .taken) (c .before .run-by-pair .ensures)
+returns c = let after-run-by-pair-arg2 = c .before .before in rw (after-run-by-pair-arg2 .before .before .if1 .taken) (c .before .run-by-pair .ensures)
 
 pub run-block-spec : {M : Type 1} → statement M
 run-block-spec =

@@ -5,7 +5,7 @@ use Rattle.biquad.proofs.direct_form2_transposed.DirectForm2Transposed.
 
 returns : tie.Need-returns
 unfolding sum2
-returns c = rw (c .fed .ensures, c .before .limited .ensures, c .before .before .before .before .coeff .ensures)
+returns c = let after-struct-known2 = c .before .before in rw (c .fed .ensures, c .before .limited .ensures, after-struct-known2 .before .before .coeff .ensures)
 
 pub held-spec : {M : Type 1} → statement M
 held-spec =

@@ -12,7 +12,7 @@ returns c =
 
 returns-2 : tie.Need-returns-2
 returns-2 c =
-    let k = c .before in let a = c .before .before .before .before .args in
+    let k = c .before in let after-clamp-all-arg = c .before .before in let a = after-clamp-all-arg .before .before .args in
     taken 0 clampOut clampNext (a .self) (a .xs .now) (a .ys .now) (k .clamp-all .result) _ (search needs) refl (k .clamp-all .ensures .0) (k .clamp-all .ensures .1)
 
 pub block-spec : {M : Type 1} → statement M

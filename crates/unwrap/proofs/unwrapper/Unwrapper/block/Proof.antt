@@ -12,7 +12,7 @@ returns c =
 
 returns-2 : tie.Need-returns-2
 returns-2 c =
-    let k = c .before in let a = c .before .before .before .before .args in
+    let k = c .before in let after-unwrap-all-arg = c .before .before in let a = after-unwrap-all-arg .before .before .args in
     taken 0 stepOf grown (a .self) (a .xs .now) (a .dxs .now) (k .unwrap-all .result) _ (search needs) refl (k .unwrap-all .ensures .0) (k .unwrap-all .ensures .1)
 
 pub block-spec : {M : Type 1} → statement M

@@ -18,12 +18,12 @@ returns-2 c =
 
 run-block-requires : tie.Need-run-block-requires
 run-block-requires c κs =
-    let e = c .before .before .before .before .before in let k = e .before .refusal in let d = e .before .before in let a = d .before .args in
+    let after-z = c .before .before .before in let e = after-z .before .before in let k = e .before .refusal in let d = e .before .before in let a = d .before .args in
     (few (a .self .sections) (a .self .architecture) (rw (k .ensures) at (e .if2 .left)), search needs, d .if1 .left)
 
 returns-3 : tie.Need-returns-3
 returns-3 c =
-    let b = c .before in let e = b .before .before .before .before .before .before in
+    let b = c .before in let after-a2 = b .before .before .before in let e = after-a2 .before .before .before in
     let k = e .before .refusal in let d = e .before .before in let a = d .before .args in
     taken (number (a .self)) answer next (a .self) (a .xs .now) (a .ys .now)
     (filter (a .self .sections) (a .self .architecture) (a .self .a) (b .run-block .last .1 .1 .1 .0)) (b .run-block .last .1 .1 .1 .1 .1 .0)

@@ -13,12 +13,12 @@ returns c =
 
 pass-requires : tie.Need-pass-requires
 pass-requires c κs =
-    let e = c .before .before .before .before in let k = e .before .refusal in let a = e .before .before .args in
+    let after-z = c .before .before in let e = after-z .before .before in let k = e .before .refusal in let a = e .before .before .args in
     (few (a .self .sections) (a .self .architecture) (rw (k .ensures) at (e .if1 .left)), search needs)
 
 returns-2 : tie.Need-returns-2
 returns-2 c =
-    let e = c .before .before .before .before .before in let k = e .before .refusal in let q = e .before .before in let a = q .args in
+    let after-z = c .before .before .before in let e = after-z .before .before in let k = e .before .refusal in let q = e .before .before in let a = q .args in
     let b = toZ-ofZ w32 (a .x) (q .fits .x) in
     rw (read w32 (c .pass .result) (c .pass .ok), c .pass .ensures .0, c .pass .ensures .1, b)
     (gives (a .self) (a .x) (rw (k .ensures) at (e .if1 .left)))
