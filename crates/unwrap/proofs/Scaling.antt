@@ -132,7 +132,8 @@ module _ (shift : ℕ) (some : 1 ≤ shift) (few : shift ≤ 31) where
     pub clip-low : leZ hi (negℤ (pos (2 ^ (shift - 1)))) ≡ true
         → wrap w32 (negsuc 2147483647 -ℤ negℤ (pos (2 ^ (shift - 1)))) ≡ clipped lo hi shift
     clip-low t =
-        rw t (subst (λ (p : ℕ). wrap w32 (negsuc 2147483647 -ℤ negℤ (pos p)) ≡ pos p -ℤ pos (2 ^ 31)) (sym P-suc) (least-end (P - 1) P-small))
+        rw t (subst (λ (p : ℕ). wrap w32 (negsuc 2147483647 -ℤ negℤ (pos p)) ≡ pos p -ℤ pos (2 ^ 31)) (sym P-suc)
+        (least-end (P - 1) P-small))
 
     pub clip-high : leZ hi (negℤ (pos (2 ^ (shift - 1)))) ≡ false → leZ (pos (2 ^ (shift - 1))) hi ≡ true
         → wrap w32 (negℤ (pos (2 ^ (shift - 1))) -ℤ negsuc 2147483647) ≡ clipped lo hi shift

@@ -12,7 +12,7 @@ returns c =
 
 returns-2 : tie.Need-returns-2
 returns-2 c =
-    let k = c .before in let after-track-all-arg = c .before .before in let a = after-track-all-arg .before .before .args in
+    let k = c .before in let a = k .before .before .before .args in
     taken 0 (trackedPhase (a .self)) (trackedNext (a .self)) (a .state) (a .xs .now) (a .ys .now)
     (k .track-all .result) _ (search needs) refl (k .track-all .ensures .0) (k .track-all .ensures .1)
 

@@ -1,3 +1,4 @@
+-- The loop's two numbers stand for a state; what is written and what the rest would give are the whole (blocks Turns).
 use mathlib.Core.Path.{_≡_, sym}
 use Prim.Native.Nat.{ℕ, _-_}
 use native.Mathlib.Omega.{arith}
@@ -29,11 +30,11 @@ loop-holds c = start _ _ _ _ _ (sym (c .before .pre))
 
 loop-again : tie.Need-loop-again Inv-loop μ-loop
 loop-again c =
-    let k = c .before .before in let after-x = c .before .before .before in let l = after-x .before .before .loop in let at₁ = after-x .before .before in let a = at₁ .before .before .args in
+    let k = c .before .before in let at = k .before .before .before in let l = at .loop in let a = at .before .before .args in
     let x = getD (a .xs .now) (l .i) (pos 0) in
     let b = read w32 x (k .before .x .given) in
     let e : k .process .result ≡ clampedOf (state (l .x0) (l .clamp)) x = rw b at (k .process .ensures) in
-    rw (read w32 (k .process .result .y) (c .before .struct-told2 .given .0 .1), e, b)
+    rw (read w32 (k .process .result .y) (c .before .struct-told2 .given .1 .0 .1), e, b)
     (turn clampOut clampNext (state (ofZ w32 (a .s .x0)) (a .s .clamp)) (a .xs .now) (l .ys) (state (l .x0) (l .clamp)) (l .i) (pos 0)
     (k .before .before .loop-test .taken) (l .inv))
 

@@ -1,3 +1,4 @@
+-- Each case of the clamp is a line of the definition.
 use borrow.Author.Needs.{needs}
 use mir.Syntax.{w32}
 use mir.ValLaws.{toZ-ofZ}

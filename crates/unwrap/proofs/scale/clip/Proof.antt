@@ -1,3 +1,4 @@
+-- The two tests are those of the definition, once 2^(shift - 1) is read back from its shift (Scaling).
 use mathlib.Core.Path.{_≡_}
 use mathlib.Core.Bool.{Bool, true, false}
 use Prim.Native.Nat.{_-_, _^_}
@@ -20,13 +21,16 @@ limit c =
 range : (c : tie.After-sub-i32) → toZ w32 (ofZ w32 (c .sub-i32 .result)) ≡ negℤ (pos (2 ^ (c .before .before .args .shift - 1)))
 range c =
     let s = c .before .before in
-    rw (read w32 (c .sub-i32 .result) (c .sub-i32 .ok), c .sub-i32 .ensures, limit (c .before)) (range-of (s .args .shift) (s .pre .0) (s .pre .1))
+    rw (read w32 (c .sub-i32 .result) (c .sub-i32 .ok), c .sub-i32 .ensures, limit (c .before))
+    (range-of (s .args .shift) (s .pre .0) (s .pre .1))
 
-under : (c : tie.After-sub-i32) (b : Bool) → leZ (toZ w32 (ofZ w32 (c .before .before .args .hi))) (toZ w32 (ofZ w32 (c .sub-i32 .result))) ≡ b
+under : (c : tie.After-sub-i32) (b : Bool) → leZ (toZ w32 (ofZ w32 (c .before .before .args .hi)))
+    (toZ w32 (ofZ w32 (c .sub-i32 .result))) ≡ b
     → leZ (c .before .before .args .hi) (negℤ (pos (2 ^ (c .before .before .args .shift - 1)))) ≡ b
 under c b e = let s = c .before .before in rw (toZ-ofZ w32 (s .args .hi) (s .fits .hi), range c) at e
 
-over : (c : tie.After-sub-i32) (b : Bool) → leZ (toZ w32 (ofZ w32 (c .before .shl-i32 .result))) (toZ w32 (ofZ w32 (c .before .before .args .hi))) ≡ b
+over : (c : tie.After-sub-i32) (b : Bool) → leZ (toZ w32 (ofZ w32 (c .before .shl-i32 .result)))
+    (toZ w32 (ofZ w32 (c .before .before .args .hi))) ≡ b
     → leZ (pos (2 ^ (c .before .before .args .shift - 1))) (c .before .before .args .hi) ≡ b
 over c b e = let s = c .before .before in rw (toZ-ofZ w32 (s .args .hi) (s .fits .hi), limit (c .before)) at e
 
@@ -44,7 +48,8 @@ returns-2 c =
 
 returns-3 : tie.Need-returns-3
 returns-3 c =
-    let q = c .before in let p = q .before in let u = p .before in let t = u .before in let r = t .before in let s = r .before .before in let a = s .args in
+    let q = c .before in let p = q .before in let u = p .before in
+    let t = u .before in let r = t .before in let s = r .before .before in let a = s .args in
     rw (
       read w32 (c .add-i32 .result) (c .add-i32 .ok),
       c .add-i32 .ensures,

@@ -1,3 +1,4 @@
+-- Each test of the shift is the definition's; the rest is the callee's promise.
 use borrow.Author.Tests.{eq-eqb, ne-eqb, lt-ltb, le-ltb}
 use mir.Syntax.{w32}
 use mir.ValLaws.{toZ-ofZ}

@@ -13,8 +13,7 @@ returns c =
       c .i64-as-u64 .ensures,
       read w64 (k .i32-as-i64 .result) (k .i32-as-i64 .ok),
       k .i32-as-i64 .ensures,
-      toZ-ofZ w32
-          (s .args .x) (s .fits .x),
+      toZ-ofZ w32 (s .args .x) (s .fits .x),
     )
 
 pub i32-as-u64-spec : {M : Type 1} → statement M

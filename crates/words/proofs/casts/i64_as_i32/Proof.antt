@@ -13,8 +13,7 @@ returns c =
       read w32 (c .u32-as-i32 .result) (c .u32-as-i32 .ok),
       c .u32-as-i32 .ensures,
       k .i64-as-u32 .ensures,
-      toZ-ofZ w64
-          (s .args .x) (s .fits .x),
+      toZ-ofZ w64 (s .args .x) (s .fits .x),
     ) (wrap-word w32 (s .args .x))
 
 pub i64-as-i32-spec : {M : Type 1} → statement M

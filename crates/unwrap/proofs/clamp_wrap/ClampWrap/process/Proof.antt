@@ -1,3 +1,4 @@
+-- The callees' promises put one into the other are the definition.
 use mir.Syntax.{w32}
 use mir.ValLaws.{toZ-ofZ}
 use borrow.Author.Needs.{needs}

@@ -1,3 +1,4 @@
+-- Each call's word is read back as its number; the sum of them is the definition.
 use borrow.Author.Needs.{needs}
 use mir.Syntax.{w32, w64}
 use mir.ValLaws.{toZ-ofZ}

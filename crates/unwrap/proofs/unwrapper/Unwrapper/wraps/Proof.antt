@@ -1,3 +1,4 @@
+-- The phase's sign says whether the high word is the count or one less (Counting).
 use mathlib.Core.Path.{_≡_}
 use mathlib.Core.Bool.{Bool, true, false}
 use lib.IntN.{pos}
@@ -16,7 +17,11 @@ phase-sign : (c : tie.After-i64-as-i32) (b : Bool) → ltZ (toZ w32 (ofZ w32 (c 
     → ltZ (phaseOf (c .before .before .before .args .self .y)) (pos 0) ≡ b
 phase-sign c b e =
     let t = c .before .before in
-    rw (read w32 (c .i64-as-i32 .result) (c .i64-as-i32 .ok), c .i64-as-i32 .ensures, read w64 (t .before .args .self .y) (t .struct-told .given .0 .1)) at e
+    rw (
+      read w32 (c .i64-as-i32 .result) (c .i64-as-i32 .ok),
+      c .i64-as-i32 .ensures,
+      read w64 (t .before .args .self .y) (t .struct-told .given .0 .1),
+    ) at e
 
 returns : tie.Need-returns
 returns c =

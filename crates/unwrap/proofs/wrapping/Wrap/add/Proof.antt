@@ -1,3 +1,4 @@
+-- Nine cases by computation; where one side is None the sum is the other.
 use borrow.Author.Needs.{needs}
 use mathlib.Core.Path.{_≡_, refl, sym}
 use Rattle.unwrap.specs.declared.wrapping.Wrap.{Wrap}
