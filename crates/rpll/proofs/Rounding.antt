@@ -65,7 +65,8 @@ lock ff dx dt2 shift p q e f =
 
 -- the phase error, from the bit b at dt2 and the machine's remainder by it
 pub miss : (f : ℕ) (x y : ℤ) (dt2 shift b : ℕ) → dt2 ≤ 30 → dt2 ≤ shift → shift ≤ dt2 + 31 → b ≡ 2 ^ dt2
-    → floorDiv (wrap w32 (wrap w32 (pos (word w32 (pos (f / 2 ^ (dt2 % 32)) *ℤ pos (word w32 (wrap w32 (pos 0 -ℤ x)) % b)))) -ℤ y)) (2 ^ ((shift - dt2) % 32))
+    → floorDiv (wrap w32 (wrap w32 (pos (word w32 (pos (f / 2 ^ (dt2 % 32)) *ℤ pos (word w32 (wrap w32 (pos 0 -ℤ x)) % b)))) -ℤ y))
+    (2 ^ ((shift - dt2) % 32))
     ≡ errorOf f x y dt2 shift
 unfolding errorOf
 miss f x y dt2 shift b h k l e =

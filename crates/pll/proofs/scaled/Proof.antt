@@ -1,3 +1,4 @@
+-- A word times a word of 32 bits fits 64 (low-fits), so the shift is the definition's floor.
 use Prim.Native.Nat.{_^_}
 use lib.IntN.{pos, _*ℤ_}
 use lib.Signed.{shrZ, mag-shr}

@@ -1,3 +1,4 @@
+-- What is written and what the rest would give are the whole (blocks Turns).
 use mathlib.Core.Path.{_≡_, sym}
 use Prim.Native.Nat.{_-_}
 use native.Mathlib.Omega.{arith}
@@ -26,8 +27,9 @@ loop-again c =
     let at = k .before .before .before in
     let a = at .before .args in
     let x = getD (a .xs .now) (at .loop .i) (pos 0) in
-    let e : k .process .result ≡ trackedOf (a .p) (at .loop .t) x = rw (read w32 x (k .before .process-arg .given)) at (k .process .ensures) in
-    rw (read w32 (k .process .result .y) (c .before .struct-told .given .0 .1), e)
+    let e : k .process .result ≡ trackedOf (a .p) (at .loop .t) x = rw (read w32 x (k .before .process-arg .given))
+    at (k .process .ensures) in
+    rw (read w32 (k .process .result .y) (c .before .struct-told .given .1 .0 .1), e)
     (turn (trackedPhase (a .p)) (trackedNext (a .p)) (a .s) (a .xs .now) (at .loop .ys) (at .loop .t) (at .loop .i) (pos 0)
     (k .before .before .loop-test .taken) (at .loop .inv))
 

@@ -1,3 +1,4 @@
+-- Sums modulo 2^64 and words of them keep the rounded quotient (Rounding).
 use mathlib.Core.Path.{_∙_}
 use Prim.Native.Nat.{_+_, _-_}
 use native.Mathlib.Omega.{arith}
@@ -31,7 +32,8 @@ returns c =
       d .i32-as-u64 .ensures,
       toZ-ofZ w32 (a .dx) (s .fits .dx),
     )
-    (signal (a .ff) (a .dx) (a .shift) (h .shl-u32 .result) (omega arith) (omega arith) (h .shl-u32 .ensures ∙ bit (a .shift - 1) (omega arith)))))
+    (signal (a .ff) (a .dx) (a .shift) (h .shl-u32 .result) (omega arith) (omega arith)
+    (h .shl-u32 .ensures ∙ bit (a .shift - 1) (omega arith)))))
 
 pub frequency-lock-spec : {M : Type 1} → statement M
 frequency-lock-spec =

@@ -1,3 +1,4 @@
+-- The phase is handed on; the frequency's bits are read as signed.
 use borrow.Author.Needs.{needs}
 use mir.Syntax.{w32}
 use Rattle.words.proofs.Reading.{read}

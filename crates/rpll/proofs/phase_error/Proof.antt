@@ -1,3 +1,4 @@
+-- Each value is read back as its number; wraps inside the product and the difference fall away (Rounding).
 use mathlib.Core.Path.{_∙_}
 use native.Mathlib.Omega.{arith}
 use lib.Pow.{pow-pos}

@@ -1,3 +1,4 @@
+-- The slices differ in length, or the loop's promise is the block's (blocks Ways).
 use mathlib.Core.Path.{refl}
 use borrow.Author.Needs.{needs}
 use Rattle.blocks.proofs.Ways.{unlike, taken}

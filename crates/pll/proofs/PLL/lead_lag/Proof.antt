@@ -1,3 +1,4 @@
+-- Wraps inside a wrapped sum fall away (Sums).
 use borrow.Author.Needs.{needs}
 use mir.Syntax.{w32, w64}
 use mir.ValLaws.{toZ-ofZ}

@@ -1,3 +1,4 @@
+-- The high word of the wide frequency by definition.
 use borrow.Author.Needs.{needs}
 use mir.Syntax.{w32, w64}
 use Rattle.words.proofs.Reading.{read}

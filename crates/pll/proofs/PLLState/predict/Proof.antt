@@ -1,3 +1,4 @@
+-- The phase's sum is read back; every other field is handed on.
 use borrow.Author.Needs.{needs}
 use mir.Syntax.{w32, w64}
 use Rattle.words.proofs.Reading.{read}

@@ -1,3 +1,4 @@
+-- The phase's sum is read back; every other field is handed on.
 use borrow.Author.Needs.{needs}
 use lib.IntN.{pos}
 use mir.Syntax.{w32}

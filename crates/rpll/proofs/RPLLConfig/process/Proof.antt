@@ -1,3 +1,4 @@
+-- The number's test, then the promise of the loop that the timestamp asks for.
 use borrow.Author.Needs.{needs}
 use mir.Syntax.{w32}
 use Rattle.words.proofs.Reading.{read}

@@ -1,3 +1,4 @@
+-- An accepted configuration is what both loops ask for (Ranges); their answers are the new frequencies.
 use borrow.Author.Needs.{needs}
 use mir.Syntax.{w32}
 use mir.ValLaws.{toZ-ofZ}
@@ -16,7 +17,7 @@ frequency-lock-requires c κs =
 
 phase-error-requires : tie.Need-phase-error-requires
 phase-error-requires c κs =
-    let after-struct-known2 = c .before .before .before in let after-struct-told = after-struct-known2 .before .before in let s = after-struct-told .before .before in
+    let locked = c .before .before .before in let after-struct-told = locked .before .before in let s = after-struct-told .before .before in
     let a = accepted (s .args .self) (s .pre) in
     (a .dt2-small, a .phase-above, a .phase-small)
 
