@@ -24,15 +24,15 @@ abbrev pub limitNumber : BiquadClamp → ℕ
 limitNumber c = cond (lt (c .max) (c .min) || isNan (c .min) || isNan (c .max)) 41 0
 
 -- 42: forward gain equal to zero, which -0.0 is too and a NaN is not
-abbrev pub gainNumber : BiquadClamp → ℕ
-gainNumber c = cond (eq (gainOf (coeffs c)) nought) 42 0
+abbrev pub zeroGainNumber : BiquadClamp → ℕ
+zeroGainNumber c = cond (eq (gainOf (coeffs c)) nought) 42 0
 
 abbrev pub offsetOf : BiquadClamp → Answer
-offsetOf c = answerOf (gainNumber c) (c .u ⊘ gainOf (coeffs c))
+offsetOf c = answerOf (zeroGainNumber c) (c .u ⊘ gainOf (coeffs c))
 
 -- a refused step hands back the given state
 abbrev pub clamped1 : BiquadClamp → DirectForm1 → Float → Clamped1
-clamped1 c s x = record { out = answerOf (limitNumber c) (held1 c s x); state = unless (limitNumber c) s (onward1 c s x) }
+clamped1 c s x = record { state = unless (limitNumber c) s (onward1 c s x); out = answerOf (limitNumber c) (held1 c s x) }
 
 abbrev pub clamped2 : BiquadClamp → DirectForm2Transposed → Float → Clamped2
-clamped2 c s x = record { out = answerOf (limitNumber c) (held2 c s x); state = unless (limitNumber c) s (onward2 c s x) }
+clamped2 c s x = record { state = unless (limitNumber c) s (onward2 c s x); out = answerOf (limitNumber c) (held2 c s x) }

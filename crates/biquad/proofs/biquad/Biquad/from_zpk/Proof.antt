@@ -1,3 +1,4 @@
+-- The two pairs' coefficients are the callee's promises.
 use borrow.Author.Needs.{needs}
 use Rattle.biquad.proofs.biquad.Biquad.from_zpk.Statement.{statement}
 use Rattle.biquad.proofs.biquad.Biquad.from_zpk.Tie as tie

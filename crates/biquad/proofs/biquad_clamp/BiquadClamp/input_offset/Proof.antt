@@ -1,3 +1,4 @@
+-- The test of the gain is the number's, once the gain is the callees' promise.
 use mathlib.Core.Path.{_∙_, ap}
 use borrow.Author.Needs.{needs}
 use Rattle.biquad.specs.Coefficients.{gainOf}

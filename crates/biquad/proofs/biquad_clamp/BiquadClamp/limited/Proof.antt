@@ -1,3 +1,4 @@
+-- The clamp's promise on the sum with the offset.
 use borrow.Author.Needs.{needs}
 use Rattle.biquad.proofs.biquad_clamp.BiquadClamp.limited.Statement.{statement}
 use Rattle.biquad.proofs.biquad_clamp.BiquadClamp.limited.Tie as tie

@@ -1,3 +1,4 @@
+-- The gain of the coefficients is the callees' promise.
 use borrow.Author.Needs.{needs}
 use Rattle.biquad.proofs.biquad_clamp.BiquadClamp.set_input_offset.Statement.{statement}
 use Rattle.biquad.proofs.biquad_clamp.BiquadClamp.set_input_offset.Tie as tie

@@ -1,3 +1,4 @@
+-- The callees' promises put one into the other are the definition.
 use borrow.Author.Needs.{needs}
 use Rattle.biquad.proofs.direct_form1.DirectForm1.held.Statement.{statement}
 use Rattle.biquad.proofs.direct_form1.DirectForm1.held.Tie as tie

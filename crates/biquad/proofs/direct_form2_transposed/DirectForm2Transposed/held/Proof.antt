@@ -1,3 +1,4 @@
+-- The callees' promises put one into the other are the definition.
 use borrow.Author.Needs.{needs}
 use Rattle.biquad.specs.Forms.{sum2}
 use Rattle.biquad.proofs.direct_form2_transposed.DirectForm2Transposed.held.Statement.{statement}
@@ -5,7 +6,9 @@ use Rattle.biquad.proofs.direct_form2_transposed.DirectForm2Transposed.
 
 returns : tie.Need-returns
 unfolding sum2
-returns c = let after-struct-known2 = c .before .before in rw (c .fed .ensures, c .before .limited .ensures, after-struct-known2 .before .before .coeff .ensures)
+returns c =
+    let limit = c .before in let made = limit .before .before .before in
+    rw (c .fed .ensures, limit .limited .ensures, made .coeff .ensures)
 
 pub held-spec : {M : Type 1} → statement M
 held-spec =

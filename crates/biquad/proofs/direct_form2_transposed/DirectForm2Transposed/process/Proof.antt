@@ -1,3 +1,4 @@
+-- The sum is the definition; the cells are the callee's promise.
 use borrow.Author.Needs.{needs}
 use Rattle.biquad.specs.Forms.{sum2}
 use Rattle.biquad.proofs.direct_form2_transposed.DirectForm2Transposed.process.Statement.{statement}

@@ -1,3 +1,4 @@
+-- Each kind of pair is a line of the definition.
 use borrow.Author.Needs.{needs}
 use Rattle.biquad.proofs.pair.Pair.coeff.Statement.{statement}
 use Rattle.biquad.proofs.pair.Pair.coeff.Tie as tie
