@@ -135,10 +135,10 @@ pub extern "C" fn bench_df2t_clamp(
 }
 
 // Coefficients of words, and the same with an offset and limits.
-fn coefficients(b0: i32, b1: i32, b2: i32, a1: i32, a2: i32, f: u32) -> fixed::biquad::Biquad
+fn coefficients(b0: i32, b1: i32, b2: i32, a1: i32, a2: i32, f: u32) -> fixed::coefficients::Biquad
     ensures { λ r. ⌜ r ≡ words b0 b1 b2 a1 a2 f ⌝ }
 {
-    fixed::biquad::Biquad {
+    fixed::coefficients::Biquad {
         b0,
         b1,
         b2,
@@ -148,10 +148,15 @@ fn coefficients(b0: i32, b1: i32, b2: i32, a1: i32, a2: i32, f: u32) -> fixed::b
     }
 }
 
-fn bounded(coeff: fixed::biquad::Biquad, u: i32, min: i32, max: i32) -> fixed::biquad::BiquadClamp
+fn bounded(
+    coeff: fixed::coefficients::Biquad,
+    u: i32,
+    min: i32,
+    max: i32,
+) -> fixed::coefficients::BiquadClamp
     ensures { λ r. ⌜ r ≡ within coeff u min max ⌝ }
 {
-    fixed::biquad::BiquadClamp { coeff, u, min, max }
+    fixed::coefficients::BiquadClamp { coeff, u, min, max }
 }
 
 #[no_mangle]

@@ -1,3 +1,4 @@
+-- The floor of a product is that of its low word's plus its high word's (Halves).
 use borrow.Author.Needs.{needs}
 use mir.Syntax.{w32, w64}
 use mir.ValLaws.{toZ-ofZ}

@@ -1,3 +1,4 @@
+-- A word of 32 bits times a coefficient fits 64 bits.
 use borrow.Author.Needs.{needs}
 use lib.IntN.{pos, _*ℤ_}
 use mir.Syntax.{w32, w64}

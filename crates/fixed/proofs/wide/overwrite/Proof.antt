@@ -1,3 +1,4 @@
+-- A word above and a word below make a number of 64 bits, so nothing wraps (Halves).
 use borrow.Author.Needs.{needs}
 use mir.Syntax.{w32, w64}
 use mir.ValLaws.{toZ-ofZ}

@@ -1,3 +1,4 @@
+-- The number picks the answer; without one it is the accepted step's.
 use borrow.Author.Needs.{needs}
 use mathlib.Core.Path.{_≡_, sym, _∙_}
 use mir.Syntax.{w32}
@@ -14,7 +15,12 @@ returns : tie.Need-returns
 returns c =
     let k = c .before in let a = k .before .args in let n = fractionNumber 1 (a .c) in
     let h : n ≡ 0 → ⊥ = λ z. c .if1 .taken (k .fraction .ensures ∙ z) in
-    rw (k .fraction .ensures, ← refused-answer n (ditherOut (a .c) (a .self) (a .x0)) h, ← kept n (a .self) (ditherNext (a .c) (a .self) (a .x0)) h)
+    rw (
+      k .fraction .ensures,
+      ← refused-answer n (ditherOut (a .c) (a .self) (a .x0)) h,
+      ← kept n (a .self)
+          (ditherNext (a .c) (a .self) (a .x0)) h,
+    )
 
 turn-requires : tie.Need-turn-requires
 turn-requires c κs = sym (c .before .fraction .ensures) ∙ c .if1 .left
@@ -23,7 +29,7 @@ returns-2 : tie.Need-returns-2
 returns-2 c =
     let k = c .before .before in let e = k .before in let s = e .before .before in let a = s .args in
     rw (
-      read w32 (k .turn .result .y) (c .struct-told .given .0 .1),
+      read w32 (k .turn .result .y) (c .struct-told .given .1 .0 .1),
       k .turn .ensures .0,
       k .turn .ensures .1,
       toZ-ofZ w32 (a .x0) (s .fits .x0),

@@ -1,3 +1,4 @@
+-- The free step's promise, its output limited; the error is the free step's.
 use borrow.Author.Needs.{needs}
 use mathlib.Core.Path.{refl}
 use mir.Syntax.{w32}
@@ -17,7 +18,7 @@ returns c =
     rw (
       read w32 (l .limit .result) (l .limit .ok),
       l .limit .ensures,
-      read w32 (k .turn .result .y) (t .struct-told .given .0 .1),
+      read w32 (k .turn .result .y) (t .struct-told .given .1 .0 .1),
       k .turn .ensures .0,
       k .turn .ensures .1,
       toZ-ofZ w32 (a .x0) (s .fits .x0),

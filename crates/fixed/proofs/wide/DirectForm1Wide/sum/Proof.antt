@@ -1,3 +1,4 @@
+-- Wraps inside a wrapped sum fall away (Wraps).
 use borrow.Author.Needs.{needs}
 use Prim.Native.Nat.{_^_}
 use lib.IntN.{_*ℤ_}
@@ -30,7 +31,8 @@ returns c =
       read w32 (a .c .a1) (k .1 .1 .1 .0 .1),
       read w32 (a .c .a2) (k .1 .1 .1 .1 .0 .1),
     )
-    (wrap-inner w64 (forward (a .c) (a .x0) (a .self .x1) (a .self .x2)) (floorDiv (a .self .y1 *ℤ a .c .a1) (2 ^ 32)) (floorDiv (a .self .y2 *ℤ a .c .a2) (2 ^ 32)))
+    (wrap-inner w64 (forward (a .c) (a .x0) (a .self .x1) (a .self .x2)) (floorDiv (a .self .y1 *ℤ a .c .a1) (2 ^ 32))
+    (floorDiv (a .self .y2 *ℤ a .c .a2) (2 ^ 32)))
 
 pub sum-spec : {M : Type 1} → statement M
 sum-spec =

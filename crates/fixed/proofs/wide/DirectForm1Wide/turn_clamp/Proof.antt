@@ -1,3 +1,4 @@
+-- The free step's promise, its output limited and put over the high word.
 use borrow.Author.Needs.{needs}
 use mathlib.Core.Path.{refl}
 use mir.Syntax.{w32, w64}
@@ -18,7 +19,7 @@ returns c =
       c .overwrite .ensures,
       read w32 (l .limit .result) (l .limit .ok),
       l .limit .ensures,
-      read w32 (k .turn .result .y) (t .struct-told .given .0 .1),
+      read w32 (k .turn .result .y) (t .struct-told .given .1 .0 .1),
       read w64 (k .turn .result .state .y1) (c .before .struct-told2 .given .1 .1 .0 .1),
       k .turn .ensures .0,
       k .turn .ensures .1,

@@ -1,6 +1,7 @@
+-- The two tests are the definition's.
 use borrow.Author.Tests.{lt-ltb, le-ltb}
-use Rattle.fixed.proofs.biquad.Biquad.fraction.Statement.{statement}
-use Rattle.fixed.proofs.biquad.Biquad.fraction.Tie as tie
+use Rattle.fixed.proofs.coefficients.Biquad.fraction.Statement.{statement}
+use Rattle.fixed.proofs.coefficients.Biquad.fraction.Tie as tie
 
 returns : tie.Need-returns
 returns c = let s = c .before .before in rw (lt-ltb (s .args .self .f) (s .args .least) (c .if1 .taken))

@@ -1,9 +1,10 @@
+-- The clamp's promise on the wrapped sum with the offset.
 use borrow.Author.Needs.{needs}
 use mir.Syntax.{w32}
 use mir.ValLaws.{toZ-ofZ}
 use Rattle.words.proofs.Reading.{read}
-use Rattle.fixed.proofs.biquad.BiquadClamp.limit.Statement.{statement}
-use Rattle.fixed.proofs.biquad.BiquadClamp.limit.Tie as tie
+use Rattle.fixed.proofs.coefficients.BiquadClamp.limit.Statement.{statement}
+use Rattle.fixed.proofs.coefficients.BiquadClamp.limit.Tie as tie
 
 returns : tie.Need-returns
 returns c =

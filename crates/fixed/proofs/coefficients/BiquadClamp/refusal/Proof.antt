@@ -1,3 +1,4 @@
+-- The fraction bits' number, else the test of the limits (Numbers).
 use borrow.Author.Needs.{needs}
 use mathlib.Core.Path.{sym, _∙_}
 use mathlib.Core.Bool.{cond}
@@ -5,8 +6,8 @@ use lib.Signed.{ltZ}
 use Rattle.blocks.proofs.Ways.{kept}
 use Rattle.fixed.specs.Answers.{fractionNumber}
 use Rattle.fixed.proofs.Wraps.{tested-lt}
-use Rattle.fixed.proofs.biquad.BiquadClamp.refusal.Statement.{statement}
-use Rattle.fixed.proofs.biquad.BiquadClamp.refusal.Tie as tie
+use Rattle.fixed.proofs.coefficients.BiquadClamp.refusal.Statement.{statement}
+use Rattle.fixed.proofs.coefficients.BiquadClamp.refusal.Tie as tie
 
 returns : tie.Need-returns
 returns c =

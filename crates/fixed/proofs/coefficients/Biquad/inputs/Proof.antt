@@ -1,11 +1,12 @@
+-- Wraps inside a wrapped sum fall away (Wraps).
 use borrow.Author.Needs.{needs}
 use lib.IntN.{_+ℤ_, _*ℤ_}
 use mir.Syntax.{w32, w64}
 use mir.ValLaws.{toZ-ofZ}
 use Rattle.words.proofs.Reading.{read}
 use Rattle.words.proofs.Sums.{wrap-left}
-use Rattle.fixed.proofs.biquad.Biquad.inputs.Statement.{statement}
-use Rattle.fixed.proofs.biquad.Biquad.inputs.Tie as tie
+use Rattle.fixed.proofs.coefficients.Biquad.inputs.Statement.{statement}
+use Rattle.fixed.proofs.coefficients.Biquad.inputs.Tie as tie
 
 returns : tie.Need-returns
 returns c =
