@@ -7,7 +7,7 @@ ghost use Prim.Native.Nat.{_%_, _≤_};
 ghost use lib.ListN.{length};
 ghost use Rattle.blocks.specs.Blocks.{Blocked};
 ghost use Rattle.wdf.specs.Adapters.{adapted, codeOf};
-ghost use Rattle.wdf.specs.Calls.{numberOf, number, filter, made, answer, next, stepped};
+ghost use Rattle.wdf.specs.Calls.{sectionsNumber, number, filter, made, answer, next, stepped};
 ghost use Rattle.wdf.specs.Lent.{Passes, Filters};
 
 // A filter. Coefficients and cells beyond its sections are kept and never matter.
@@ -42,7 +42,7 @@ pub struct Stepped {
 
 // The number of the first test that a filter fails, or 0.
 fn refusal(sections: usize, architecture: u32) -> u32
-    ensures { λ r. ⌜ r ≡ numberOf sections architecture ⌝ }
+    ensures { λ r. ⌜ r ≡ sectionsNumber sections architecture ⌝ }
 {
     if 8 < sections {
         return 50;
@@ -96,7 +96,8 @@ fn run_any(
     ys: &mut [i32],
 )
     requires { ⌜ (sections ≤ 8) × (length (now z) ≡ 8) × (length (now xs) ≡ length (now ys)) ⌝ }
-    ensures { λ _. ⌜ Filters (filter sections architecture (now (a .entry)) (now (z .entry))) (now (xs .entry)) (now (z .exit)) (now (ys .exit)) ⌝ }
+    ensures { λ _. ⌜ Filters (filter sections architecture (now (a .entry)) (now (z .entry)))
+        (now (xs .entry)) (now (z .exit)) (now (ys .exit)) ⌝ }
 {
     let mut i: usize = 0;
     while i < xs.len() {
@@ -109,7 +110,8 @@ fn run_any(
 // The same through two sections.
 fn run_two(architecture: u32, a: &[i32; 8], z: &mut [i32; 8], xs: &[i32], ys: &mut [i32])
     requires { ⌜ (length (now z) ≡ 8) × (length (now xs) ≡ length (now ys)) ⌝ }
-    ensures { λ _. ⌜ Filters (filter 2 architecture (now (a .entry)) (now (z .entry))) (now (xs .entry)) (now (z .exit)) (now (ys .exit)) ⌝ }
+    ensures { λ _. ⌜ Filters (filter 2 architecture (now (a .entry)) (now (z .entry)))
+        (now (xs .entry)) (now (z .exit)) (now (ys .exit)) ⌝ }
 {
     let mut i: usize = 0;
     while i < xs.len() {
@@ -123,7 +125,8 @@ fn run_two(architecture: u32, a: &[i32; 8], z: &mut [i32; 8], xs: &[i32], ys: &m
 // loop tells no section apart at run time.
 fn run_by_pair(architecture: u32, a: &[i32; 8], z: &mut [i32; 8], xs: &[i32], ys: &mut [i32])
     requires { ⌜ (length (now z) ≡ 8) × (length (now xs) ≡ length (now ys)) ⌝ }
-    ensures { λ _. ⌜ Filters (filter 2 architecture (now (a .entry)) (now (z .entry))) (now (xs .entry)) (now (z .exit)) (now (ys .exit)) ⌝ }
+    ensures { λ _. ⌜ Filters (filter 2 architecture (now (a .entry)) (now (z .entry)))
+        (now (xs .entry)) (now (z .exit)) (now (ys .exit)) ⌝ }
 {
     match architecture {
         0xaa => run_two(architecture, a, z, xs, ys),
@@ -156,7 +159,8 @@ fn run_block(
     ys: &mut [i32],
 )
     requires { ⌜ (sections ≤ 8) × (length (now z) ≡ 8) × (length (now xs) ≡ length (now ys)) ⌝ }
-    ensures { λ _. ⌜ Filters (filter sections architecture (now (a .entry)) (now (z .entry))) (now (xs .entry)) (now (z .exit)) (now (ys .exit)) ⌝ }
+    ensures { λ _. ⌜ Filters (filter sections architecture (now (a .entry)) (now (z .entry)))
+        (now (xs .entry)) (now (z .exit)) (now (ys .exit)) ⌝ }
 {
     if sections == 2 {
         run_by_pair(architecture, a, z, xs, ys);
@@ -225,7 +229,8 @@ impl Wdf {
     // Takes the inputs in turn and writes their outputs.
     // 31 where the slices differ in length, then 50 and 51: nothing is written or changed.
     pub fn block(self, xs: &[i32], ys: &mut [i32]) -> Answer
-        ensures { λ r. ⌜ Blocked (number self) answer next self (now (xs .entry)) (now (ys .entry)) (r .state) (r .verdict) (now (ys .exit)) ⌝ }
+        ensures { λ r. ⌜ Blocked (number self) answer next self (now (xs .entry)) (now (ys .entry))
+            (r .state) (r .verdict) (now (ys .exit)) ⌝ }
     {
         if xs.len() != ys.len() {
             return Answer {

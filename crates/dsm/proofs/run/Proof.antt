@@ -1,4 +1,4 @@
--- What is written and what the rest would give are the whole (Running, over blocks Turns).
+-- What is written and what the rest would give are the whole (Running).
 use mathlib.Core.Path.{_≡_, sym, _∙_}
 use Prim.Native.Nat.{_-_}
 use lib.ListN.{length}

@@ -1,4 +1,4 @@
--- Three ways out by number (Ways); an accepted state has a step that runs on its cells (Running).
+-- The number picks the answer (Refusals, Ways); an accepted state has a step on its cells.
 use mathlib.Core.Path.{_≡_, sym, _∙_}
 use mathlib.Core.Bool.{true}
 use Prim.Native.Nat.{_-_}

@@ -1,3 +1,4 @@
+-- A chain over the sections: what a section gives back goes to the cell before it (Passes).
 use borrow.Author.Needs.{needs}
 use mathlib.Core.Path.{_≡_, refl, _∙_}
 use Prim.Native.Nat.{_+_, _-_, _≤_}
@@ -44,7 +45,8 @@ loop-holds c =
 loop-again : tie.Need-loop-again Inv-loop μ-loop
 loop-again c =
     let q = c .before in let k = q .before in let f = k .before in let h = f .before in let m = h .before in let at = m .before in
-    let l = at .loop in let after-section-arg2 = at .before .before .before in let s = after-section-arg2 .before .before .before in let a = s .args in
+    let l = at .loop in let after-section-arg2 = at .before .before .before in let s = after-section-arg2 .before .before .before in
+    let a = s .args in
     let p : Ports = k .section2 .result in
     let e : p ≡ section (l .left) (l .i + 1) (a .a .now) (l .z) (toZ w32 (l .going)) =
     rw (
@@ -55,7 +57,8 @@ loop-again c =
       l .inv .0,
       rw (read w32 (p .0) (q .struct-told2 .given .0 .1), read w32 (p .1) (c .struct-told3 .given .1 .0 .1))
           (onward (a .sections - 1) (a .architecture) (a .a .now) (a .z .now) (toZ w32 (ofZ w32 (a .x))) (omega (arith, l .inv .0))
-          (at .before .before .section .result .0) (l .z) (toZ w32 (l .going)) (l .left) (l .i) (l .inv .1) p (omega (arith, m .loop-test .taken)) e),
+          (at .before .before .section .result .0) (l .z) (toZ w32 (l .going)) (l .left) (l .i) (l .inv .1) p
+          (omega (arith, m .loop-test .taken)) e),
     )
 
 returns-2 : tie.Need-returns-2 Inv-loop μ-loop

@@ -1,3 +1,4 @@
+-- What is written and what the rest would give are the whole (blocks Turns); a pass keeps the number of cells (Steps).
 use borrow.Author.Needs.{needs}
 use mathlib.Core.Path.{_≡_, sym, ap, _∙_}
 use Prim.Native.Nat.{_-_, _≤_}

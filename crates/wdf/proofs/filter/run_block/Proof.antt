@@ -1,9 +1,10 @@
+-- At two sections the pair's promise is that of any number.
 use borrow.Author.Needs.{needs}
 use Rattle.wdf.proofs.filter.run_block.Statement.{statement}
 use Rattle.wdf.proofs.filter.run_block.Tie as tie
 
 returns : tie.Need-returns
-returns c = let after-run-by-pair-arg2 = c .before .before in rw (after-run-by-pair-arg2 .before .before .if1 .taken) (c .before .run-by-pair .ensures)
+returns c = let two = c .before .before .before in rw (two .before .if1 .taken) (c .before .run-by-pair .ensures)
 
 pub run-block-spec : {M : Type 1} → statement M
 run-block-spec =

@@ -1,3 +1,4 @@
+-- As run_any, with two for the number of sections.
 use borrow.Author.Needs.{needs}
 use mathlib.Core.Path.{_≡_, sym, ap, _∙_}
 use Prim.Native.Nat.{_-_}

@@ -1,3 +1,4 @@
+-- The nibble's code, then the adapter's promise.
 use borrow.Author.Needs.{needs}
 use mir.Syntax.{w32}
 use mir.ValLaws.{toZ-ofZ}

@@ -1,3 +1,4 @@
+-- The high word of a whole product is its floor by 2^32.
 use borrow.Author.Needs.{needs}
 use mir.Syntax.{w32, w64}
 use mir.ValLaws.{toZ-ofZ}

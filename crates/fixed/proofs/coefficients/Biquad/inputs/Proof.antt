@@ -1,4 +1,4 @@
--- Wraps inside a wrapped sum fall away (Wraps).
+-- Wraps inside a wrapped sum fall away (words Sums).
 use borrow.Author.Needs.{needs}
 use lib.IntN.{_+ℤ_, _*ℤ_}
 use mir.Syntax.{w32, w64}

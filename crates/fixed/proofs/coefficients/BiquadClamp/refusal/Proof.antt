@@ -1,4 +1,4 @@
--- The fraction bits' number, else the test of the limits (Numbers).
+-- The fraction bits' number, else the test of the limits (Wraps).
 use borrow.Author.Needs.{needs}
 use mathlib.Core.Path.{sym, _∙_}
 use mathlib.Core.Bool.{cond}

@@ -1,4 +1,4 @@
--- Wraps inside a wrapped sum fall away (Wraps).
+-- Wraps inside a wrapped sum fall away (words Sums).
 use borrow.Author.Needs.{needs}
 use mathlib.Core.Path.{ap, _∙_}
 use lib.IntN.{ℤ, pos, _+ℤ_, _*ℤ_}

@@ -1,3 +1,4 @@
+-- The number picks the state and the verdict (blocks Ways).
 use borrow.Author.Needs.{needs}
 use borrow.Author.Tests.{ne-eqb}
 use Rattle.blocks.specs.Verdicts.{verdictOf}

@@ -1,3 +1,4 @@
+-- The number picks the answer (Steps); an accepted filter has few enough sections for the pass.
 use borrow.Author.Needs.{needs}
 use mir.Syntax.{w32}
 use mir.ValLaws.{toZ-ofZ}
@@ -18,7 +19,8 @@ pass-requires c κs =
 
 returns-2 : tie.Need-returns-2
 returns-2 c =
-    let after-z = c .before .before .before in let e = after-z .before .before in let k = e .before .refusal in let q = e .before .before in let a = q .args in
+    let after-z = c .before .before .before in let e = after-z .before .before in let k = e .before .refusal in
+    let q = e .before .before in let a = q .args in
     let b = toZ-ofZ w32 (a .x) (q .fits .x) in
     rw (read w32 (c .pass .result) (c .pass .ok), c .pass .ensures .0, c .pass .ensures .1, b)
     (gives (a .self) (a .x) (rw (k .ensures) at (e .if1 .left)))

@@ -1,3 +1,4 @@
+-- Each arm's calls, read back from the last to the first, are a line of the definition.
 use borrow.Author.Needs.{needs}
 use mathlib.Core.Path.{_≡_, _∙_}
 use lib.IntN.{ℤ}

@@ -1,3 +1,4 @@
+-- The code's arms are the definition's tests, one by one.
 use borrow.Author.Tests.{ne-eqb}
 use Rattle.wdf.specs.Adapters.{codeOf}
 use Rattle.wdf.proofs.tpa.Tpa.from.Statement.{statement}
