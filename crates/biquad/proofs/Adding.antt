@@ -4,7 +4,6 @@ use mathlib.Core.Path.{_≡_, refl, sym, ap, _∙_}
 use mathlib.Core.Bool.{Bool, true, false, _&&_, cond, Bool·beq, and-true, and-assoc, and-comm}
 use Prim.Native.Nat.{ℕ, zero, suc, zero-le, _+_, _-_, _*_, _<_}
 use native.Mathlib.Nat.{zero-mul, one-mul, mul-one, zero-add, add-zero, sub-zero, zero-lt-suc, mul-pos}
-use native.Mathlib.Omega.{arith}
 use borrow.Author.Tests.{lt-ltb, le-ltb}
 use lib.IntN.{ℤ, pos}
 use lib.Dec.{T, ltb}

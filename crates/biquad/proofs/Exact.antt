@@ -1,15 +1,13 @@
 -- A double that is rounded again stays as it is: its bits turn on its value alone, and what fits has one pattern of bits.
-use mathlib.Core.Path.{_≡_, refl, sym, ap, _∙_, subst}
-use mathlib.Core.Logic.{_⊎_, inl, inr}
+use mathlib.Core.Path.{_≡_, refl, sym, ap, _∙_}
 use mathlib.Core.Bool.{Bool, true, false, not, cond, _&&_}
 use Prim.Native.Nat.{ℕ, zero, suc, _+_, _-_, _*_, _/_, _%_, _^_, _≤_, _<_}
 use native.Mathlib.Nat.{zero-mul, mul-one, mul-assoc, mul-right-comm, add-comm, not-le-of-lt}
 use native.Mathlib.Omega.{arith}
-use native.Mathlib.Decide.{decLe}
 use lib.IntN.{ℤ, pos, negsuc}
 use lib.Dec.{T, eqb, leb, ltb, leb→le, nleb→lt, ltb→lt}
 use lib.Pow.{pow-add, pow-pos, pow-lt, shl-lt}
-use lib.Ieee.{Float, nan, inf, fin, Format, prec, emax, low, up, down, round, fits, toBits, ofBits, size, hid, top}
+use lib.Ieee.{Float, fin, Format, prec, emax, low, up, down, round, fits, toBits, ofBits, size, hid, top}
 use lib.Ieee.Fits.{and-l, and-r, down-pos, round-fits}
 use lib.Ieee.Exact.{HasValue, round-exact}
 use lib.Ieee.Bits.{ofBits-toBits}

@@ -1,5 +1,5 @@
 -- A block that is not refused is its steps in turn: each step's promise from the state that the one before gave.
-use mathlib.Core.Path.{_≡_, refl, sym, _∙_}
+use mathlib.Core.Path.{_≡_, refl}
 use mathlib.Core.Bool.{Bool, true, false, cond}
 use mathlib.Core.List.{List, [], _∷_}
 use Prim.Native.Nat.{ℕ, zero, suc}
@@ -7,11 +7,10 @@ use native.Mathlib.Omega.{arith}
 use lib.Dec.{eqb}
 use lib.ListN.{length}
 use lib.Ieee.{Float}
-use Rattle.blocks.specs.declared.Verdict.{Verdict}
-use Rattle.blocks.specs.declared.Verdict.the-variants.{Done, Refused}
+use Rattle.blocks.specs.declared.Verdict.the-variants.{Done}
 use Rattle.blocks.specs.Verdicts.{verdictOf}
 use Rattle.blocks.specs.Scan.{scan, ends}
-use Rattle.blocks.specs.Blocks.{Blocked, lengthsNumber}
+use Rattle.blocks.specs.Blocks.{Blocked}
 use Rattle.biquad.specs.declared.biquad.Biquad.{Biquad}
 use Rattle.biquad.specs.declared.biquad_clamp.BiquadClamp.{BiquadClamp}
 use Rattle.biquad.specs.declared.biquad_clamp.Answer.the-variants.{Value}

@@ -1,5 +1,5 @@
 -- 01, 'Refusal numbers' 41 and 42: what the clamped step and the offset answer, by number. 0 says that there is none.
-use mathlib.Core.Bool.{Bool, cond, _||_}
+use mathlib.Core.Bool.{cond, _||_}
 use Prim.Native.Nat.{ℕ, zero, suc}
 use lib.Ieee.{Float, lt, eq, isNan}
 use Rattle.blocks.specs.Blocks.{unless}

@@ -1,11 +1,7 @@
 -- With no offset and the widest limits the clamped forms are the plain ones: every output passes, and both halves are put back.
-use mathlib.Core.Path.{_≡_, refl, ap, _∙_}
-use mathlib.Core.Bool.{false}
+use mathlib.Core.Path.{_≡_, ap, _∙_}
 use Prim.Native.Nat.{_-_, _^_}
-use native.Mathlib.Omega.{arith}
-use borrow.Author.Tests.{le-ltb}
 use lib.IntN.{ℤ, pos, negsuc, _*ℤ_, +ℤ-idr}
-use lib.Signed.{ltZ}
 use mir.Syntax.{w32, w64}
 use mir.Val.{SFits}
 use Rattle.words.specs.Words.{floorDiv}

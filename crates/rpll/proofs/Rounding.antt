@@ -1,11 +1,9 @@
 -- The machine's words of 64 bits give the exact quotients: a word's high part is the floor's word, its low part the remainder.
-use mathlib.Core.Path.{_≡_, refl, sym, ap, _∙_}
-use Prim.Native.Nat.{ℕ, suc, _+_, _-_, _*_, _/_, _%_, _^_, _<_, _≤_}
-use native.Mathlib.Nat.{mod-lt, add-mul}
+use mathlib.Core.Path.{_≡_, refl, ap, _∙_}
+use Prim.Native.Nat.{ℕ, _+_, _-_, _*_, _/_, _%_, _^_, _<_, _≤_}
 use native.Mathlib.Omega.{arith}
-use lib.Arith.{mod-mul, digits-div}
 use lib.Pow.{pow-pos, pow-add, pow-lt}
-use lib.IntN.{ℤ, pos, negsuc, negℤ, _+ℤ_, _-ℤ_, _*ℤ_, +ℤ-idl}
+use lib.IntN.{ℤ, pos, negℤ, _+ℤ_, _-ℤ_, _*ℤ_, +ℤ-idl}
 use mir.Syntax.{w32, w64}
 use Rattle.words.specs.Words as W
 use Rattle.words.specs.Words.{modℤ, word, wrap, floorDiv}

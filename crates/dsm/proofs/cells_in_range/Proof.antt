@@ -4,7 +4,6 @@ use mathlib.Core.Bool.{Bool, true, false, _&&_}
 use native.Mathlib.Numerals.{add-one}
 use lib.IntN.{pos}
 use mir.Syntax.{w16}
-use mir.Val.{toZ, ofZ}
 use borrow.Author.Tests.{not-true, not-false}
 use Rattle.words.proofs.Reading.{read}
 use Rattle.dsm.proofs.Ranges.{inside-turn, inside-none}

@@ -1,5 +1,5 @@
 -- What is written and what the rest would give are the whole (Running).
-use mathlib.Core.Path.{_≡_, sym, _∙_}
+use mathlib.Core.Path.{sym, _∙_}
 use Prim.Native.Nat.{_-_}
 use lib.ListN.{length}
 use mir.Syntax.{w16}

@@ -1,9 +1,7 @@
 -- Each early return is one of the numbers in ascending order (Refusals, Ways); else the modulated run is the promise.
 use mathlib.Core.Path.{_≡_, sym, _∙_}
 use mathlib.Core.Bool.{true}
-use Prim.Native.Nat.{_-_}
 use native.Mathlib.Omega.{arith}
-use lib.ListN.{take}
 use borrow.Author.Tests.{not-true, not-false}
 use Rattle.dsm.proofs.Refusals.{lying, none, block-over, block-unlike, block-stray, block-none}
 use Rattle.dsm.proofs.Ways.{block-refused, block-done}

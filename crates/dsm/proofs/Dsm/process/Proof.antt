@@ -1,9 +1,8 @@
 -- The number picks the answer (Refusals, Ways); an accepted state has a step on its cells.
 use mathlib.Core.Path.{_≡_, sym, _∙_}
 use mathlib.Core.Bool.{true}
-use Prim.Native.Nat.{_-_}
 use native.Mathlib.Omega.{arith}
-use lib.ListN.{length, take, length-map}
+use lib.ListN.{length, length-map}
 use mir.Syntax.{w16}
 use borrow.Author.Tests.{not-true, not-false}
 use Rattle.words.proofs.Reading.{read}

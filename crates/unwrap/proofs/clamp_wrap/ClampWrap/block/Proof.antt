@@ -2,7 +2,7 @@
 use mathlib.Core.Path.{refl}
 use borrow.Author.Needs.{needs}
 use Rattle.blocks.proofs.Ways.{unlike, taken}
-use Rattle.unwrap.specs.Phases.{clampOut, clampNext, clampedOf}
+use Rattle.unwrap.specs.Phases.{clampOut, clampNext}
 use Rattle.unwrap.proofs.clamp_wrap.ClampWrap.block.Statement.{statement}
 use Rattle.unwrap.proofs.clamp_wrap.ClampWrap.block.Tie as tie
 
