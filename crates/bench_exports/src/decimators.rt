@@ -4,7 +4,7 @@ use cic::steps::Out;
 ghost use mathlib.Core.Path.{_≡_};
 ghost use lib.ListN.{length};
 ghost use Rattle.blocks.specs.Scan.{scan, ends};
-ghost use Rattle.blocks.specs.Blocks.{blockNumber, unless};
+ghost use Rattle.blocks.specs.Blocks.{lengthsNumber, unless};
 ghost use Rattle.sums.specs.Runs.{blockOut, fillOut};
 ghost use Rattle.cic.specs.Reading.{i32Ops, stateOf};
 ghost use Rattle.bench_exports.specs.Fresh.{fresh, givenIn, stepOut, stepNext};
@@ -67,7 +67,7 @@ fn step_all(s: Cic, xs: &[i32], ys: &mut [i32])
 // The same from a fresh filter; where the slices differ in length nothing is written.
 #[no_mangle]
 pub extern "C" fn bench_steps(order: usize, delay: usize, rate: u32, xs: &[i32], ys: &mut [i32])
-    ensures { λ _. ⌜ now (ys .exit) ≡ unless (blockNumber 0 (now (xs .entry)) (now (ys .entry))) (now (ys .entry))
+    ensures { λ _. ⌜ now (ys .exit) ≡ unless (lengthsNumber 0 (now (xs .entry)) (now (ys .entry))) (now (ys .entry))
         (scan stepOut stepNext (fresh order delay rate) (now (xs .entry))) ⌝ }
 {
     if xs.len() != ys.len() {

@@ -9,9 +9,9 @@ use fixed::wide::DirectForm1Wide;
 use wdf::filter::Wdf;
 ghost use mathlib.Core.Path.{_≡_};
 ghost use Rattle.blocks.specs.Scan.{scan};
-ghost use Rattle.blocks.specs.Blocks.{blockNumber, unless};
-ghost use Rattle.dsm.specs.Modulator.{outOf, nextOf};
-ghost use Rattle.dsm.specs.Calls.{madeOf};
+ghost use Rattle.blocks.specs.Blocks.{lengthsNumber, unless};
+ghost use Rattle.dsm.specs.Modulator.{modulatorOut, nextOf};
+ghost use Rattle.dsm.specs.Calls.{modulatorOf};
 ghost use Rattle.dsm.specs.Calls as Modulator;
 ghost use Rattle.wdf.specs.Calls.{number, answer, next};
 ghost use Rattle.biquad.specs.Forms.{zero1, sum1, next1, held1, onward1, zero2, sum2, next2, held2, onward2};
@@ -24,8 +24,8 @@ ghost use Rattle.bench_exports.specs.Fresh.{alike, still, quiet, floats,
 // A modulator's block.
 #[no_mangle]
 pub extern "C" fn bench_dsm(order: usize, xs: &[u32], ys: &mut [i16])
-    ensures { λ _. ⌜ now (ys .exit) ≡ unless (Modulator.blockNumber (madeOf order .state) (now (xs .entry)) (now (ys .entry))) (now (ys .entry))
-        (scan outOf nextOf (madeOf order .state) (now (xs .entry))) ⌝ }
+    ensures { λ _. ⌜ now (ys .exit) ≡ unless (Modulator.runNumber (modulatorOf order .state) (now (xs .entry)) (now (ys .entry))) (now (ys .entry))
+        (scan modulatorOut nextOf (modulatorOf order .state) (now (xs .entry))) ⌝ }
 {
     let made = Dsm::new(order);
     let filter = made.state;
@@ -35,7 +35,7 @@ pub extern "C" fn bench_dsm(order: usize, xs: &[u32], ys: &mut [i16])
 // A wave digital filter's block; every section has the coefficient a.
 #[no_mangle]
 pub extern "C" fn bench_wdf(sections: usize, architecture: u32, a: i32, xs: &[i32], ys: &mut [i32])
-    ensures { λ _. ⌜ now (ys .exit) ≡ unless (blockNumber (number (alike sections architecture a)) (now (xs .entry)) (now (ys .entry))) (now (ys .entry))
+    ensures { λ _. ⌜ now (ys .exit) ≡ unless (lengthsNumber (number (alike sections architecture a)) (now (xs .entry)) (now (ys .entry))) (now (ys .entry))
         (scan answer next (alike sections architecture a) (now (xs .entry))) ⌝ }
 {
     let made = Wdf::new(sections, architecture, [a; 8]);
@@ -46,7 +46,7 @@ pub extern "C" fn bench_wdf(sections: usize, architecture: u32, a: i32, xs: &[i3
 // Blocks of the biquads, from a state of zeros.
 #[no_mangle]
 pub extern "C" fn bench_df1(b0: f64, b1: f64, b2: f64, a1: f64, a2: f64, xs: &[f64], ys: &mut [f64])
-    ensures { λ _. ⌜ now (ys .exit) ≡ unless (blockNumber 0 (now (xs .entry)) (now (ys .entry))) (now (ys .entry))
+    ensures { λ _. ⌜ now (ys .exit) ≡ unless (lengthsNumber 0 (now (xs .entry)) (now (ys .entry))) (now (ys .entry))
         (scan (sum1 (floats b0 b1 b2 a1 a2)) (next1 (floats b0 b1 b2 a1 a2)) zero1 (now (xs .entry))) ⌝ }
 {
     DirectForm1::default().block(Biquad { b0, b1, b2, a1, a2 }, xs, ys);
@@ -62,7 +62,7 @@ pub extern "C" fn bench_df2t(
     xs: &[f64],
     ys: &mut [f64],
 )
-    ensures { λ _. ⌜ now (ys .exit) ≡ unless (blockNumber 0 (now (xs .entry)) (now (ys .entry))) (now (ys .entry))
+    ensures { λ _. ⌜ now (ys .exit) ≡ unless (lengthsNumber 0 (now (xs .entry)) (now (ys .entry))) (now (ys .entry))
         (scan (sum2 (floats b0 b1 b2 a1 a2)) (next2 (floats b0 b1 b2 a1 a2)) zero2 (now (xs .entry))) ⌝ }
 {
     DirectForm2Transposed::default().block(Biquad { b0, b1, b2, a1, a2 }, xs, ys);
@@ -81,7 +81,7 @@ pub extern "C" fn bench_df1_clamp(
     xs: &[f64],
     ys: &mut [f64],
 )
-    ensures { λ _. ⌜ now (ys .exit) ≡ unless (blockNumber (limitNumber (limits b0 b1 b2 a1 a2 u min max)) (now (xs .entry)) (now (ys .entry))) (now (ys .entry))
+    ensures { λ _. ⌜ now (ys .exit) ≡ unless (lengthsNumber (limitNumber (limits b0 b1 b2 a1 a2 u min max)) (now (xs .entry)) (now (ys .entry))) (now (ys .entry))
         (scan (held1 (limits b0 b1 b2 a1 a2 u min max)) (onward1 (limits b0 b1 b2 a1 a2 u min max))
         zero1 (now (xs .entry))) ⌝ }
 {
@@ -114,7 +114,7 @@ pub extern "C" fn bench_df2t_clamp(
     xs: &[f64],
     ys: &mut [f64],
 )
-    ensures { λ _. ⌜ now (ys .exit) ≡ unless (blockNumber (limitNumber (limits b0 b1 b2 a1 a2 u min max)) (now (xs .entry)) (now (ys .entry))) (now (ys .entry))
+    ensures { λ _. ⌜ now (ys .exit) ≡ unless (lengthsNumber (limitNumber (limits b0 b1 b2 a1 a2 u min max)) (now (xs .entry)) (now (ys .entry))) (now (ys .entry))
         (scan (held2 (limits b0 b1 b2 a1 a2 u min max)) (onward2 (limits b0 b1 b2 a1 a2 u min max))
         zero2 (now (xs .entry))) ⌝ }
 {
@@ -135,10 +135,10 @@ pub extern "C" fn bench_df2t_clamp(
 }
 
 // Coefficients of words, and the same with an offset and limits.
-fn coefficients(b0: i32, b1: i32, b2: i32, a1: i32, a2: i32, f: u32) -> fixed::biquad::Biquad
+fn coefficients(b0: i32, b1: i32, b2: i32, a1: i32, a2: i32, f: u32) -> fixed::coefficients::Biquad
     ensures { λ r. ⌜ r ≡ words b0 b1 b2 a1 a2 f ⌝ }
 {
-    fixed::biquad::Biquad {
+    fixed::coefficients::Biquad {
         b0,
         b1,
         b2,
@@ -148,10 +148,15 @@ fn coefficients(b0: i32, b1: i32, b2: i32, a1: i32, a2: i32, f: u32) -> fixed::b
     }
 }
 
-fn bounded(coeff: fixed::biquad::Biquad, u: i32, min: i32, max: i32) -> fixed::biquad::BiquadClamp
+fn bounded(
+    coeff: fixed::coefficients::Biquad,
+    u: i32,
+    min: i32,
+    max: i32,
+) -> fixed::coefficients::BiquadClamp
     ensures { λ r. ⌜ r ≡ within coeff u min max ⌝ }
 {
-    fixed::biquad::BiquadClamp { coeff, u, min, max }
+    fixed::coefficients::BiquadClamp { coeff, u, min, max }
 }
 
 #[no_mangle]
@@ -165,7 +170,7 @@ pub extern "C" fn bench_wide(
     xs: &[i32],
     ys: &mut [i32],
 )
-    ensures { λ _. ⌜ now (ys .exit) ≡ unless (blockNumber (fractionNumber 0 (words b0 b1 b2 a1 a2 f)) (now (xs .entry)) (now (ys .entry))) (now (ys .entry))
+    ensures { λ _. ⌜ now (ys .exit) ≡ unless (lengthsNumber (fractionNumber 0 (words b0 b1 b2 a1 a2 f)) (now (xs .entry)) (now (ys .entry))) (now (ys .entry))
         (scan (wideOut (words b0 b1 b2 a1 a2 f)) (wideNext (words b0 b1 b2 a1 a2 f)) still (now (xs .entry))) ⌝ }
 {
     let state = DirectForm1Wide {
@@ -189,7 +194,7 @@ pub extern "C" fn bench_dither(
     xs: &[i32],
     ys: &mut [i32],
 )
-    ensures { λ _. ⌜ now (ys .exit) ≡ unless (blockNumber (fractionNumber 1 (words b0 b1 b2 a1 a2 f)) (now (xs .entry)) (now (ys .entry))) (now (ys .entry))
+    ensures { λ _. ⌜ now (ys .exit) ≡ unless (lengthsNumber (fractionNumber 1 (words b0 b1 b2 a1 a2 f)) (now (xs .entry)) (now (ys .entry))) (now (ys .entry))
         (scan (ditherOut (words b0 b1 b2 a1 a2 f)) (ditherNext (words b0 b1 b2 a1 a2 f)) quiet (now (xs .entry))) ⌝ }
 {
     let state = DirectForm1Dither {
@@ -217,7 +222,7 @@ pub extern "C" fn bench_wide_clamp(
     xs: &[i32],
     ys: &mut [i32],
 )
-    ensures { λ _. ⌜ now (ys .exit) ≡ unless (blockNumber (clampNumber 0 (within (words b0 b1 b2 a1 a2 f) u min max)) (now (xs .entry)) (now (ys .entry))) (now (ys .entry))
+    ensures { λ _. ⌜ now (ys .exit) ≡ unless (lengthsNumber (clampNumber 0 (within (words b0 b1 b2 a1 a2 f) u min max)) (now (xs .entry)) (now (ys .entry))) (now (ys .entry))
         (scan (wideHeld (within (words b0 b1 b2 a1 a2 f) u min max))
         (wideOnward (within (words b0 b1 b2 a1 a2 f) u min max)) still (now (xs .entry))) ⌝ }
 {
@@ -246,7 +251,7 @@ pub extern "C" fn bench_dither_clamp(
     xs: &[i32],
     ys: &mut [i32],
 )
-    ensures { λ _. ⌜ now (ys .exit) ≡ unless (blockNumber (clampNumber 1 (within (words b0 b1 b2 a1 a2 f) u min max)) (now (xs .entry)) (now (ys .entry))) (now (ys .entry))
+    ensures { λ _. ⌜ now (ys .exit) ≡ unless (lengthsNumber (clampNumber 1 (within (words b0 b1 b2 a1 a2 f) u min max)) (now (xs .entry)) (now (ys .entry))) (now (ys .entry))
         (scan (ditherHeld (within (words b0 b1 b2 a1 a2 f) u min max))
         (ditherOnward (within (words b0 b1 b2 a1 a2 f) u min max)) quiet (now (xs .entry))) ⌝ }
 {

@@ -13,7 +13,7 @@ use unwrap::wrapping::Wrap;
 ghost use mathlib.Core.Path.{_≡_};
 ghost use lib.ListN.{length};
 ghost use Rattle.blocks.specs.Scan.{scan, ends};
-ghost use Rattle.blocks.specs.Blocks.{blockNumber, unless};
+ghost use Rattle.blocks.specs.Blocks.{lengthsNumber, unless};
 ghost use Rattle.unwrap.specs.Phases.{clampOut, clampNext, stepOf, grown};
 ghost use Rattle.pll.specs.Loops.{trackedPhase, trackedNext};
 ghost use Rattle.bench_exports.specs.Fresh.{unclamped, unturned, locking, loopOf, configured, unlocked};
@@ -32,7 +32,7 @@ fn unclamped_wrap() -> ClampWrap
 // A clamp's block.
 #[no_mangle]
 pub extern "C" fn bench_clamp_wrap(xs: &[i32], ys: &mut [i32])
-    ensures { λ _. ⌜ now (ys .exit) ≡ unless (blockNumber 0 (now (xs .entry)) (now (ys .entry))) (now (ys .entry))
+    ensures { λ _. ⌜ now (ys .exit) ≡ unless (lengthsNumber 0 (now (xs .entry)) (now (ys .entry))) (now (ys .entry))
         (scan clampOut clampNext unclamped (now (xs .entry))) ⌝ }
 {
     unclamped_wrap().block(xs, ys);
@@ -41,7 +41,7 @@ pub extern "C" fn bench_clamp_wrap(xs: &[i32], ys: &mut [i32])
 // An unwrapper's block.
 #[no_mangle]
 pub extern "C" fn bench_unwrapper(xs: &[i32], ys: &mut [i32])
-    ensures { λ _. ⌜ now (ys .exit) ≡ unless (blockNumber 0 (now (xs .entry)) (now (ys .entry))) (now (ys .entry))
+    ensures { λ _. ⌜ now (ys .exit) ≡ unless (lengthsNumber 0 (now (xs .entry)) (now (ys .entry))) (now (ys .entry))
         (scan stepOf grown unturned (now (xs .entry))) ⌝ }
 {
     Unwrapper { y: 0 }.block(xs, ys);
@@ -57,7 +57,7 @@ fn lead_lag(b0: i32, b1: i32, a1: i32) -> PLL
 // A phase-locked loop's block.
 #[no_mangle]
 pub extern "C" fn bench_pll(b0: i32, b1: i32, a1: i32, xs: &[i32], ys: &mut [i32])
-    ensures { λ _. ⌜ now (ys .exit) ≡ unless (blockNumber 0 (now (xs .entry)) (now (ys .entry))) (now (ys .entry))
+    ensures { λ _. ⌜ now (ys .exit) ≡ unless (lengthsNumber 0 (now (xs .entry)) (now (ys .entry))) (now (ys .entry))
         (scan (trackedPhase (loopOf b0 b1 a1)) (trackedNext (loopOf b0 b1 a1)) locking (now (xs .entry))) ⌝ }
 {
     let clamp = unclamped_wrap();
@@ -103,7 +103,7 @@ fn lock_all(c: RPLLConfig, s: RPLL, xs: &[i32], ys: &mut [i32])
 // A reciprocal loop's steps: every number is a timestamp, and the phases are written.
 #[no_mangle]
 pub extern "C" fn bench_rpll(dt2: u8, frequency: u8, lock: u8, xs: &[i32], ys: &mut [i32])
-    ensures { λ _. ⌜ now (ys .exit) ≡ unless (blockNumber 0 (now (xs .entry)) (now (ys .entry))) (now (ys .entry))
+    ensures { λ _. ⌜ now (ys .exit) ≡ unless (lengthsNumber 0 (now (xs .entry)) (now (ys .entry))) (now (ys .entry))
         (scan (loopOut (configured dt2 frequency lock)) (loopNext (configured dt2 frequency lock))
         unlocked (now (xs .entry))) ⌝ }
 {
@@ -150,7 +150,7 @@ fn scale_all(hi: i32, shift: u32, xs: &[i32], ys: &mut [i32])
 // `saturating_scale` of each number, all with the same hi and shift.
 #[no_mangle]
 pub extern "C" fn bench_scale(hi: i32, shift: u32, xs: &[i32], ys: &mut [i32])
-    ensures { λ _. ⌜ now (ys .exit) ≡ unless (blockNumber 0 (now (xs .entry)) (now (ys .entry))) (now (ys .entry))
+    ensures { λ _. ⌜ now (ys .exit) ≡ unless (lengthsNumber 0 (now (xs .entry)) (now (ys .entry))) (now (ys .entry))
         (scan (scaleOut shift) scaleNext hi (now (xs .entry))) ⌝ }
 {
     if xs.len() != ys.len() {

@@ -1,16 +1,13 @@
 -- Document 01's case of from_zpk, and small cases of zeros and NaNs, by computation.
 use mathlib.Core.Path.{_≡_, refl}
-use mathlib.Core.Bool.{true, false}
 use Prim.Native.Nat.{ℕ}
-use lib.Ieee.{Float, nan, binary64, ofBits, add, mul, neg, div, lt, eq, isNan}
-use Rattle.biquad.specs.declared.biquad.Biquad.{Biquad}
-use Rattle.biquad.specs.declared.biquad_clamp.BiquadClamp.{BiquadClamp}
+use lib.Ieee.{Float, nan, binary64, ofBits, add, mul, neg, div, eq}
 use Rattle.biquad.specs.declared.biquad_clamp.Answer.the-variants.{Value, Refused}
 use Rattle.biquad.specs.declared.pair.Pair.the-variants.{Real, Complex}
 use Rattle.biquad.specs.Rounded.{nought, one}
 use Rattle.biquad.specs.Coefficients.{zpkOf, identityOf, openOf, proportionalOf}
 use Rattle.biquad.specs.Forms.{sum1, zero1}
-use Rattle.biquad.specs.Answers.{answerOf, offsetOf, limitNumber}
+use Rattle.biquad.specs.Answers.{answerOf, offsetOf}
 
 abbrev double : ℕ → Float
 double bits = ofBits binary64 bits

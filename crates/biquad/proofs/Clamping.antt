@@ -14,7 +14,7 @@ use Rattle.biquad.specs.declared.direct_form2_transposed.DirectForm2Tran
 use Rattle.biquad.specs.Rounded.{_⊕_, nought}
 use Rattle.biquad.specs.Coefficients.{openOf}
 use Rattle.biquad.specs.Forms.{clampTo, sum1, held1, sum2, held2}
-use Rattle.biquad.specs.Zeros.{settled}
+use Rattle.biquad.specs.Zeros.{zeroAdded}
 use Rattle.biquad.proofs.Adding.{right}
 
 pub nan-passes : (lower upper : Float) → clampTo lower upper nan ≡ nan
@@ -51,14 +51,14 @@ free (inf true) = refl
 free (inf false) = refl
 free (fin s m e) = refl
 
-unmoved : (y : Float) → T (fits binary64 y) → clampTo (inf true) (inf false) (y ⊕ nought) ≡ settled false y
+unmoved : (y : Float) → T (fits binary64 y) → clampTo (inf true) (inf false) (y ⊕ nought) ≡ zeroAdded false y
 unfolding ofBits
 unmoved y h = free (y ⊕ nought) ∙ right y false h
 
-pub open1 : (c : Biquad) (s : DirectForm1) (x : Float) → held1 (openOf c) s x ≡ settled false (sum1 c s x)
+pub open1 : (c : Biquad) (s : DirectForm1) (x : Float) → held1 (openOf c) s x ≡ zeroAdded false (sum1 c s x)
 unfolding sum1
 open1 c s x = unmoved (sum1 c s x) (add-fits binary64 _ _)
 
-pub open2 : (c : Biquad) (s : DirectForm2Transposed) (x : Float) → held2 (openOf c) s x ≡ settled false (sum2 c s x)
+pub open2 : (c : Biquad) (s : DirectForm2Transposed) (x : Float) → held2 (openOf c) s x ≡ zeroAdded false (sum2 c s x)
 unfolding sum2
 open2 c s x = unmoved (sum2 c s x) (add-fits binary64 _ _)

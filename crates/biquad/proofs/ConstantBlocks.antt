@@ -67,7 +67,8 @@ pub hold-block1 : (xs : List Float) (s : DirectForm1) → Quiet s → Plain (s .
 hold-block1 [] s q p e = refl
 hold-block1 (x ∷ xs) s q p e =
     let is : sum1 holdOf s x ≡ s .y1 = hold1 x s (p .double) ∙ rw (e .0, q .x1, q .x2, q .y2) (stays (s .y1) _ (p .double) (p .plain)) in
-    rw is (ap (λ (l : List Float). s .y1 ∷ l) (hold-block1 xs (after1 s x (s .y1)) (record { x1 = e .0; x2 = q .x1; y1 = q .y1; y2 = q .y1 }) p (e .1)))
+    rw is (ap (λ (l : List Float). s .y1 ∷ l)
+    (hold-block1 xs (after1 s x (s .y1)) (record { x1 = e .0; x2 = q .x1; y1 = q .y1; y2 = q .y1 }) p (e .1)))
 
 -- In direct form 2 transposed it gives the first cell, where the second is a zero.
 pub hold-block2 : (xs : List Float) (y : Float) (b : Bool) → Plain y → Each Finite xs

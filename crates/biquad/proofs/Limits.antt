@@ -4,7 +4,7 @@ use mathlib.Core.Bool.{true, false}
 use Prim.Native.Nat.{ℕ, zero, suc, _*_}
 use borrow.Author.Tests.{eq-eqb}
 use lib.Ieee.{Float, nan, inf, fin, up, down, ne, eq, isNan}
-use Rattle.biquad.specs.declared.biquad_clamp.Answer.the-variants.{Value, Refused}
+use Rattle.biquad.specs.declared.biquad_clamp.Answer.the-variants.{Refused}
 use Rattle.biquad.specs.Answers.{answerOf}
 
 pub differs : (x : Float) → ne x x ≡ isNan x

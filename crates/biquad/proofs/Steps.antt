@@ -1,5 +1,5 @@
 -- A block that is not refused is its steps in turn: each step's promise from the state that the one before gave.
-use mathlib.Core.Path.{_≡_, refl, sym, _∙_}
+use mathlib.Core.Path.{_≡_, refl}
 use mathlib.Core.Bool.{Bool, true, false, cond}
 use mathlib.Core.List.{List, [], _∷_}
 use Prim.Native.Nat.{ℕ, zero, suc}
@@ -7,11 +7,10 @@ use native.Mathlib.Omega.{arith}
 use lib.Dec.{eqb}
 use lib.ListN.{length}
 use lib.Ieee.{Float}
-use Rattle.blocks.specs.declared.Verdict.{Verdict}
-use Rattle.blocks.specs.declared.Verdict.the-variants.{Done, Refused}
+use Rattle.blocks.specs.declared.Verdict.the-variants.{Done}
 use Rattle.blocks.specs.Verdicts.{verdictOf}
 use Rattle.blocks.specs.Scan.{scan, ends}
-use Rattle.blocks.specs.Blocks.{Blocked, blockNumber}
+use Rattle.blocks.specs.Blocks.{Blocked}
 use Rattle.biquad.specs.declared.biquad.Biquad.{Biquad}
 use Rattle.biquad.specs.declared.biquad_clamp.BiquadClamp.{BiquadClamp}
 use Rattle.biquad.specs.declared.biquad_clamp.Answer.the-variants.{Value}
@@ -23,7 +22,8 @@ use Rattle.biquad.specs.Answers.{answerOf, limitNumber, clamped1, clampe
 -- the steps on xs from s give ys and t, where `Gives s x y t` says that one step on x from s gives y and t
 pub data InTurn {S A B : Type 0} (Gives : S → A → B → S → Type 0) : S → List A → List B → S → Type 0 where
   ended : {s : S} → InTurn Gives s [] [] s
-  stepped : {s m t : S} {x : A} {y : B} {xs : List A} {ys : List B} → Gives s x y m → InTurn Gives m xs ys t → InTurn Gives s (x ∷ xs) (y ∷ ys) t
+  stepped : {s m t : S} {x : A} {y : B} {xs : List A} {ys : List B} → Gives s x y m → InTurn Gives m xs ys t
+      → InTurn Gives s (x ∷ xs) (y ∷ ys) t
 
 accepted : (b : Bool) (k : ℕ) → Done ≡ verdictOf (cond b k 31) → (cond b k 31 ≡ 0) × (k ≡ 0)
 unfolding verdictOf
@@ -32,7 +32,8 @@ accepted true (suc k) e = let z : _≡_ {A = ℕ} 0 1 = cc in absurd (omega arit
 accepted false k e = let z : _≡_ {A = ℕ} 0 1 = cc in absurd (omega arith)
 
 module _ {S A B : Type 0} (k : ℕ) (out : S → A → B) (next : S → A → S) (Gives : S → A → B → S → Type 0) where
-  scanned : ((s : S) (x : A) → Gives s x (out s x) (next s x)) → (s : S) (xs : List A) → InTurn Gives s xs (scan out next s xs) (ends out next s xs)
+  scanned : ((s : S) (x : A) → Gives s x (out s x) (next s x)) → (s : S) (xs : List A)
+      → InTurn Gives s xs (scan out next s xs) (ends out next s xs)
   scanned g s [] = ended
   scanned g s (x ∷ xs) = stepped (g s x) (scanned g (next s x) xs)
 
@@ -47,7 +48,8 @@ pub steps1 : (c : Biquad) {s t : DirectForm1} {xs ys zs : List Float} → Blocke
     → InTurn (λ s x y m. stepped1 c s x ≡ record { y = y; state = m }) s xs zs t
 steps1 c b = in-turn 0 (sum1 c) (next1 c) _ (λ z s x. refl) b
 
-pub clamped-steps1 : (c : BiquadClamp) {s t : DirectForm1} {xs ys zs : List Float} → Blocked (limitNumber c) (held1 c) (onward1 c) s xs ys t Done zs
+pub clamped-steps1 : (c : BiquadClamp) {s t : DirectForm1} {xs ys zs : List Float}
+    → Blocked (limitNumber c) (held1 c) (onward1 c) s xs ys t Done zs
     → InTurn (λ s x y m. clamped1 c s x ≡ record { out = Value y; state = m }) s xs zs t
 unfolding answerOf
 clamped-steps1 c b = in-turn (limitNumber c) (held1 c) (onward1 c) _ (λ z s x. rw z) b
@@ -57,7 +59,8 @@ pub steps2 : (c : Biquad) {s t : DirectForm2Transposed} {xs ys zs : List Float} 
     → InTurn (λ s x y m. stepped2 c s x ≡ record { y = y; state = m }) s xs zs t
 steps2 c b = in-turn 0 (sum2 c) (next2 c) _ (λ z s x. refl) b
 
-pub clamped-steps2 : (c : BiquadClamp) {s t : DirectForm2Transposed} {xs ys zs : List Float} → Blocked (limitNumber c) (held2 c) (onward2 c) s xs ys t Done zs
+pub clamped-steps2 : (c : BiquadClamp) {s t : DirectForm2Transposed} {xs ys zs : List Float}
+    → Blocked (limitNumber c) (held2 c) (onward2 c) s xs ys t Done zs
     → InTurn (λ s x y m. clamped2 c s x ≡ record { out = Value y; state = m }) s xs zs t
 unfolding answerOf
 clamped-steps2 c b = in-turn (limitNumber c) (held2 c) (onward2 c) _ (λ z s x. rw z) b

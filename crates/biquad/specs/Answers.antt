@@ -1,5 +1,5 @@
 -- 01, 'Refusal numbers' 41 and 42: what the clamped step and the offset answer, by number. 0 says that there is none.
-use mathlib.Core.Bool.{Bool, cond, _||_}
+use mathlib.Core.Bool.{cond, _||_}
 use Prim.Native.Nat.{ℕ, zero, suc}
 use lib.Ieee.{Float, lt, eq, isNan}
 use Rattle.blocks.specs.Blocks.{unless}
@@ -24,15 +24,15 @@ abbrev pub limitNumber : BiquadClamp → ℕ
 limitNumber c = cond (lt (c .max) (c .min) || isNan (c .min) || isNan (c .max)) 41 0
 
 -- 42: forward gain equal to zero, which -0.0 is too and a NaN is not
-abbrev pub gainNumber : BiquadClamp → ℕ
-gainNumber c = cond (eq (gainOf (coeffs c)) nought) 42 0
+abbrev pub zeroGainNumber : BiquadClamp → ℕ
+zeroGainNumber c = cond (eq (gainOf (coeffs c)) nought) 42 0
 
 abbrev pub offsetOf : BiquadClamp → Answer
-offsetOf c = answerOf (gainNumber c) (c .u ⊘ gainOf (coeffs c))
+offsetOf c = answerOf (zeroGainNumber c) (c .u ⊘ gainOf (coeffs c))
 
 -- a refused step hands back the given state
 abbrev pub clamped1 : BiquadClamp → DirectForm1 → Float → Clamped1
-clamped1 c s x = record { out = answerOf (limitNumber c) (held1 c s x); state = unless (limitNumber c) s (onward1 c s x) }
+clamped1 c s x = record { state = unless (limitNumber c) s (onward1 c s x); out = answerOf (limitNumber c) (held1 c s x) }
 
 abbrev pub clamped2 : BiquadClamp → DirectForm2Transposed → Float → Clamped2
-clamped2 c s x = record { out = answerOf (limitNumber c) (held2 c s x); state = unless (limitNumber c) s (onward2 c s x) }
+clamped2 c s x = record { state = unless (limitNumber c) s (onward2 c s x); out = answerOf (limitNumber c) (held2 c s x) }

@@ -40,10 +40,10 @@ abbrev pub next2 : Biquad → DirectForm2Transposed → Float → DirectForm2Tra
 next2 c s x = after2 c s x (sum2 c s x)
 
 abbrev pub stepped1 : Biquad → DirectForm1 → Float → Stepped1
-stepped1 c s x = record { y = sum1 c s x; state = next1 c s x }
+stepped1 c s x = record { state = next1 c s x; y = sum1 c s x }
 
 abbrev pub stepped2 : Biquad → DirectForm2Transposed → Float → Stepped2
-stepped2 c s x = record { y = sum2 c s x; state = next2 c s x }
+stepped2 c s x = record { state = next2 c s x; y = sum2 c s x }
 
 -- with clamp the limited sum is the output, and it goes into the state
 abbrev pub held1 : BiquadClamp → DirectForm1 → Float → Float

@@ -16,15 +16,15 @@ abbrev pub zeroOf : Bool → Float
 zeroOf s = fin s 0 (pos 0)
 
 -- v plus zeros that are all negative where t is true: v, but where v is -0.0 and t is false it is +0.0
-abbrev pub settled : Bool → Float → Float
-settled t nan = nan
-settled t (inf s) = inf s
-settled t (fin s zero e) = zeroOf (s && t)
-settled t (fin s (suc m) e) = fin s (suc m) e
+abbrev pub zeroAdded : Bool → Float → Float
+zeroAdded t nan = nan
+zeroAdded t (inf s) = inf s
+zeroAdded t (fin s zero e) = zeroOf (s && t)
+zeroAdded t (fin s (suc m) e) = fin s (suc m) e
 
 -- v plus 0.0 times each of some values, which are all finite where f is true and all negative where t is true
-abbrev pub joined : Bool → Bool → Float → Float
-joined f t v = cond f (settled t v) nan
+abbrev pub zerosJoined : Bool → Bool → Float → Float
+zerosJoined f t v = cond f (zeroAdded t v) nan
 
 -- a number other than -0.0
 abbrev pub plain : Float → Bool

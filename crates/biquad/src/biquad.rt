@@ -67,14 +67,14 @@ impl Biquad {
     }
 }
 
-// What `IDENTITY` is.
+// Nothing calls it: its promise says what the constant `IDENTITY` is.
 fn identity() -> Biquad
     ensures { λ r. ⌜ r ≡ identityOf ⌝ }
 {
     Biquad::IDENTITY
 }
 
-// What `HOLD` is.
+// Nothing calls it: its promise says what the constant `HOLD` is.
 fn hold() -> Biquad
     ensures { λ r. ⌜ r ≡ holdOf ⌝ }
 {

@@ -19,13 +19,13 @@ pub struct DirectForm1 {
 }
 
 pub struct Stepped1 {
-    pub y: f64,
     pub state: DirectForm1,
+    pub y: f64,
 }
 
 pub struct Clamped1 {
-    pub out: Answer,
     pub state: DirectForm1,
+    pub out: Answer,
 }
 
 pub struct Block1 {
@@ -75,13 +75,13 @@ impl DirectForm1 {
     {
         let y = c.b0 * x + c.b1 * self.x1 + c.b2 * self.x2 + c.a1 * self.y1 + c.a2 * self.y2;
         Stepped1 {
-            y,
             state: DirectForm1 {
                 x1: x,
                 x2: self.x1,
                 y1: y,
                 y2: self.y1,
             },
+            y,
         }
     }
 
@@ -92,26 +92,26 @@ impl DirectForm1 {
         let number = c.limits();
         if number != 0 {
             return Clamped1 {
-                out: Answer::Refused(number),
                 state: self,
+                out: Answer::Refused(number),
             };
         }
         let step = self.held(c, x);
         let state = step.state;
         Clamped1 {
-            out: Answer::Value(step.y),
             state,
+            out: Answer::Value(step.y),
         }
     }
 
     fn held(self, c: BiquadClamp, x: f64) -> Stepped1
-        ensures { λ r. ⌜ r ≡ record { y = held1 c self x; state = onward1 c self x } ⌝ }
+        ensures { λ r. ⌜ r ≡ record { state = onward1 c self x; y = held1 c self x } ⌝ }
     {
         let step = self.process(c.coeff(), x);
         let y = c.limited(step.y);
         let mut state = step.state;
         state.y1 = y;
-        Stepped1 { y, state }
+        Stepped1 { state, y }
     }
 
     // Steps on the inputs in turn; writes the outputs. 31 where the slices differ in length: nothing is written.

@@ -17,13 +17,13 @@ pub struct DirectForm2Transposed {
 }
 
 pub struct Stepped2 {
-    pub y: f64,
     pub state: DirectForm2Transposed,
+    pub y: f64,
 }
 
 pub struct Clamped2 {
-    pub out: Answer,
     pub state: DirectForm2Transposed,
+    pub out: Answer,
 }
 
 pub struct Block2 {
@@ -66,8 +66,8 @@ impl DirectForm2Transposed {
     {
         let y = self.s1 + c.b0 * x;
         Stepped2 {
-            y,
             state: self.fed(c, x, y),
+            y,
         }
     }
 
@@ -88,26 +88,26 @@ impl DirectForm2Transposed {
         let number = c.limits();
         if number != 0 {
             return Clamped2 {
-                out: Answer::Refused(number),
                 state: self,
+                out: Answer::Refused(number),
             };
         }
         let step = self.held(c, x);
         let state = step.state;
         Clamped2 {
-            out: Answer::Value(step.y),
             state,
+            out: Answer::Value(step.y),
         }
     }
 
     fn held(self, c: BiquadClamp, x: f64) -> Stepped2
-        ensures { λ r. ⌜ r ≡ record { y = held2 c self x; state = onward2 c self x } ⌝ }
+        ensures { λ r. ⌜ r ≡ record { state = onward2 c self x; y = held2 c self x } ⌝ }
     {
         let ba = c.coeff();
         let y = c.limited(self.s1 + ba.b0 * x);
         Stepped2 {
-            y,
             state: self.fed(ba, x, y),
+            y,
         }
     }
 

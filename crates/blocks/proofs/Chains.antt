@@ -8,7 +8,7 @@ use lib.ListN.{length, take, drop, getD, set, length-set, take-append-drop}
 use lib.Seq.{take-suc-set, slice, slice-cons, slice-empty, drop-set-lt, take-set-lt}
 use Rattle.blocks.specs.Scan.{scan, ends}
 
-pub record Chain {S A : Type 0} (cell : S → A → A) (next : S → A → S) (k : ℕ) (s₀ : S) (l₀ : List A) (l : List A) (s : S) (i : ℕ) : Type 0 where
+pub record Chain {S A : Type 0} (cell : S → A → A) (next : S → A → S) (k : ℕ) (s₀ : S) (l₀ l : List A) (s : S) (i : ℕ) : Type 0 where
   pub small : i ≤ k
   pub same : length l ≡ length l₀
   pub made : take i l ++ (scan cell next s (slice i k l) ++ drop k l) ≡ scan cell next s₀ (take k l₀) ++ drop k l₀

@@ -27,7 +27,11 @@ module _ {S A B : Type 0} (k : ℕ) (out : S → A → B) (next : S → A → S)
   pub own : length xs ≡ length ys → (k ≡ 0 → ⊥) → Blocked k out next s xs ys s (Refused k) ys
   own h b =
       let t = eq-eqb (length xs) (length ys) h in
-      record { verdict = rw t (refused k b); state = rw t (kept k s (ends out next s xs) b); written = rw t (kept k ys (scan out next s xs) b) }
+      record {
+        verdict = rw t (refused k b);
+        state = rw t (kept k s (ends out next s xs) b);
+        written = rw t (kept k ys (scan out next s xs) b);
+      }
 
   pub taken : (t : S) (zs : List B) → length xs ≡ length ys → k ≡ 0 → t ≡ ends out next s xs → zs ≡ scan out next s xs
       → Blocked k out next s xs ys t Done zs

@@ -55,7 +55,8 @@ module _ (n x : ℕ) (l₀ : List ℕ) (fits : n ≤ length l₀) where
       let t = two-pow-succ i in
       record {
         small = rw (add-one, two-pow-succ) (omega arith);
-        chain = rw (add-one i, bits-more i d carry b, e, f) (rw (add-one i) at (onward sum handed n (x, []) l₀ fits l (value, bitsOf i d) i 0 h (g .chain)));
+        chain = rw (add-one i, bits-more i d carry b, e, f)
+            (rw (add-one i) at (onward sum handed n (x, []) l₀ fits l (value, bitsOf i d) i 0 h (g .chain)));
       }
 
   pub adds-end : (l : List ℕ) (value d i : ℕ) → n ≤ i → Adds n x l₀ l value d i → Accumulates n l₀ x l d

@@ -5,8 +5,8 @@ use Prim.Native.Nat.{ℕ, zero, suc, _≤_}
 use mathlib.Core.Logic.{⊎-elim}
 use native.Mathlib.Nat.{eq-or-lt-of-le}
 use native.Mathlib.Omega.{arith}
-use Rattle.dsm.specs.Modulator.{accumulated, carries, combined, retaining, output, keeping, outOf, nextOf, least, greatest}
-use Rattle.dsm.specs.Totals.{outputs}
+use Rattle.dsm.specs.Modulator.{accumulated, carries, combined, retaining, output, keeping, modulatorOut, nextOf, least, greatest}
+use Rattle.dsm.specs.Totals.{modulated}
 use Rattle.dsm.specs.Ends.{among, swing, EndsReached}
 use Rattle.dsm.proofs.Ranges.{both}
 
@@ -23,13 +23,13 @@ pass test (suc n) k h l m =
     ⊎-elim (λ e. rw e (b .1)) (λ e. pass test n k (b .0) l (omega arith)) (eq-or-lt-of-le m)
 
 reaches : ℕ → Bool
-reaches K = among (least K) (outputs K (swing K)) && among (greatest K) (outputs K (swing K))
+reaches K = among (least K) (modulated K (swing K)) && among (greatest K) (modulated K (swing K))
 
 all-reach : passes reaches 8 ≡ true
-unfolding passes reaches accumulated carries combined retaining output keeping outOf nextOf
+unfolding passes reaches accumulated carries combined retaining output keeping modulatorOut nextOf
 all-reach = refl
 
 pub ends-reached : EndsReached
 unfolding reaches
 ends-reached K l m =
-    both (among (least K) (outputs K (swing K))) (among (greatest K) (outputs K (swing K))) (pass reaches 8 K all-reach l m)
+    both (among (least K) (modulated K (swing K))) (among (greatest K) (modulated K (swing K))) (pass reaches 8 K all-reach l m)

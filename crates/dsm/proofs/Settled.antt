@@ -10,8 +10,8 @@ use Rattle.blocks.specs.Blocks.{Blocked}
 use Rattle.dsm.specs.declared.Dsm.{Dsm}
 use Rattle.dsm.specs.declared.Made.{Made}
 use Rattle.dsm.specs.declared.Stepped.{Stepped}
-use Rattle.dsm.specs.Modulator.{outOf, nextOf}
-use Rattle.dsm.specs.Calls.{cellsNumber, blockNumber, Steps, Runs}
+use Rattle.dsm.specs.Modulator.{modulatorOut, nextOf}
+use Rattle.dsm.specs.Calls.{cellsNumber, runNumber, Steps, Runs}
 
 pub steps-settled : (s : Dsm) (x : ℕ) (q r : Stepped) → Steps s x q → Steps s x r → q ≡ r
 steps-settled s x q r p t = p .step ∙ sym (t .step)
@@ -19,13 +19,17 @@ steps-settled s x q r p t = p .step ∙ sym (t .step)
 same : (s t : Dsm) (v w : Verdict) → s ≡ t → v ≡ w → _≡_ {A = Made} (record { state = s; verdict = v }) (record { state = t; verdict = w })
 same s t v w e f = rw (e, f)
 
-pub runs-settled : (s : Dsm) (xs : List ℕ) (ys : List ℤ) (q r : Made) (us vs : List ℤ) → Runs s xs ys q us → Runs s xs ys r vs → (q ≡ r) × (us ≡ vs)
-runs-settled s xs ys q r us vs p t =
-    (same (q .state) (r .state) (q .verdict) (r .verdict) (p .state ∙ sym (t .state)) (p .verdict ∙ sym (t .verdict)), p .written ∙ sym (t .written))
+pub runs-settled : (s : Dsm) (xs : List ℕ) (ys : List ℤ) (q r : Made) (us vs : List ℤ) → Runs s xs ys q us → Runs s xs ys r vs
+    → (q ≡ r) × (us ≡ vs)
+runs-settled s xs ys q r us vs p t = (
+  same (q .state) (r .state) (q .verdict) (r .verdict) (p .state ∙ sym (t .state)) (p .verdict ∙ sym (t .verdict)),
+  p .written
+      ∙ sym (t .written),
+)
 
 pub runs-blocked : (s : Dsm) (xs : List ℕ) (ys : List ℤ) (r : Made) (zs : List ℤ) → s .order ≤ 8 → Runs s xs ys r zs
-    → Blocked (cellsNumber s) outOf nextOf s xs ys (r .state) (r .verdict) zs
-unfolding blockNumber
+    → Blocked (cellsNumber s) modulatorOut nextOf s xs ys (r .state) (r .verdict) zs
+unfolding runNumber
 runs-blocked s xs ys r zs h p =
     let e = le-ltb 8 (s .order) h in
     record { verdict = rw e at (p .verdict); state = rw e at (p .state); written = rw e at (p .written) }

@@ -2,15 +2,15 @@
 -- so what a step takes in is in its output or still in these two cells.
 use mathlib.Core.Path.{_≡_, refl, ap}
 use mathlib.Core.List.{List, [], _∷_, _++_}
-use Prim.Native.Nat.{ℕ, zero, suc, _+_, _-_, _*_, _/_, _%_, _^_, _<_, _≤_}
+use Prim.Native.Nat.{ℕ, zero, suc, _+_, _*_, _/_, _%_, _^_, _<_, _≤_}
 use native.Mathlib.Nat.{div-add-mod'}
 use native.Mathlib.Omega.{arith}
 use lib.IntN.{ℤ, pos, _+ℤ_, _-ℤ_, _*ℤ_}
 use lib.ListN.{length, take, drop, getD, getD-replicate}
 use Rattle.blocks.specs.Scan.{scan, ends}
 use Rattle.dsm.specs.declared.Dsm.{Dsm}
-use Rattle.dsm.specs.Modulator.{accumulated, carries, combined, retaining, output, keeping, outOf, nextOf}
-use Rattle.dsm.specs.Calls.{zeroed}
+use Rattle.dsm.specs.Modulator.{accumulated, carries, combined, retaining, output, keeping, modulatorOut, nextOf}
+use Rattle.dsm.specs.Calls.{zerosOf}
 use Rattle.dsm.specs.Totals.{totalIn, totalOut, lastOf, lastUsed, firstAccumulator, Totals}
 use Rattle.dsm.proofs.Balance.{above, below, balanced, of-add, of-minus, of-times}
 use Rattle.dsm.proofs.Shapes.{length-keeping, whole, used}
@@ -84,11 +84,12 @@ weigh x a a' c y r r' e f =
     let v = ap below f in
     balanced (pos x +ℤ (pos a -ℤ pos (2 ^ 32) *ℤ r)) (pos (2 ^ 32) *ℤ y +ℤ (pos a' -ℤ pos (2 ^ 32) *ℤ r')) (omega arith)
 
-conserve : (n : ℕ) (s : Dsm) (x : ℕ) → Roomy n s → pos x +ℤ held s ≡ pos (2 ^ 32) *ℤ outOf s x +ℤ held (nextOf s x)
-unfolding held outOf nextOf
+conserve : (n : ℕ) (s : Dsm) (x : ℕ) → Roomy n s → pos x +ℤ held s ≡ pos (2 ^ 32) *ℤ modulatorOut s x +ℤ held (nextOf s x)
+unfolding held modulatorOut nextOf
 conserve n s x r =
     let t = stage n x (s .accumulators) (s .retained) (r .accumulators) (r .retained) in
-    weigh x (firstAccumulator s) (firstAccumulator (nextOf s x)) ((firstAccumulator s + x) / 2 ^ 32) (outOf s x) (lastUsed s) (lastUsed (nextOf s x))
+    weigh x (firstAccumulator s) (firstAccumulator (nextOf s x)) ((firstAccumulator s + x) / 2 ^ 32) (modulatorOut s x) (lastUsed s)
+    (lastUsed (nextOf s x))
     (rw (r .order, t .1) (div-add-mod' (firstAccumulator s + x) (2 ^ 32))) (rw (r .order) (t .0))
 
 -- with M = 2 ^ 32: from x + h = M y + h' and t + h' = M u + k
@@ -110,20 +111,21 @@ gather x t y u h h' k e f =
     balanced (pos (x + t) +ℤ h) (pos (2 ^ 32) *ℤ (y +ℤ u) +ℤ k) (omega arith)
 
 conserved : (n : ℕ) (s : Dsm) (xs : List ℕ) → Roomy n s
-    → pos (totalIn xs) +ℤ held s ≡ pos (2 ^ 32) *ℤ totalOut (scan outOf nextOf s xs) +ℤ held (ends outOf nextOf s xs)
+    → pos (totalIn xs) +ℤ held s ≡ pos (2 ^ 32) *ℤ totalOut (scan modulatorOut nextOf s xs) +ℤ held (ends modulatorOut nextOf s xs)
 conserved n s [] r = refl
 conserved n s (x ∷ xs) r =
-    gather x (totalIn xs) (outOf s x) (totalOut (scan outOf nextOf (nextOf s x) xs)) (held s) (held (nextOf s x)) (held (ends outOf nextOf (nextOf s x) xs))
+    gather x (totalIn xs) (modulatorOut s x) (totalOut (scan modulatorOut nextOf (nextOf s x) xs)) (held s) (held (nextOf s x))
+    (held (ends modulatorOut nextOf (nextOf s x) xs))
     (conserve n s x r) (conserved n (nextOf s x) xs (roomy-next n s x r))
 
-roomy-zero : (n : ℕ) → suc n ≤ 8 → Roomy n (zeroed (suc n))
+roomy-zero : (n : ℕ) → suc n ≤ 8 → Roomy n (zerosOf (suc n))
 roomy-zero n h = record {
   order = refl;
   accumulators = h;
   retained = omega arith;
 }
 
-last-zero : (K : ℕ) → K ≤ 8 → lastUsed (zeroed K) ≡ pos 0
+last-zero : (K : ℕ) → K ≤ 8 → lastUsed (zerosOf K) ≡ pos 0
 last-zero zero h = refl
 last-zero (suc zero) h = refl
 last-zero (suc (suc k)) h = getD-replicate 8 k (pos 0) (pos 0) (omega arith)
@@ -147,6 +149,7 @@ pub totals : Totals
 unfolding held
 totals zero xs h k = absurd (omega arith)
 totals (suc n) xs h k =
-    let s = ends outOf nextOf (zeroed (suc n)) xs in
-    settle (totalIn xs) (firstAccumulator s) (totalOut (scan outOf nextOf (zeroed (suc n)) xs)) (lastUsed s) (lastUsed (zeroed (suc n))) (last-zero (suc n) k)
-    (conserved n (zeroed (suc n)) xs (roomy-zero n k))
+    let s = ends modulatorOut nextOf (zerosOf (suc n)) xs in
+    settle (totalIn xs) (firstAccumulator s) (totalOut (scan modulatorOut nextOf (zerosOf (suc n)) xs)) (lastUsed s)
+    (lastUsed (zerosOf (suc n))) (last-zero (suc n) k)
+    (conserved n (zerosOf (suc n)) xs (roomy-zero n k))

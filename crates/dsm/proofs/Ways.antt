@@ -13,13 +13,13 @@ use Rattle.dsm.specs.declared.Dsm.{Dsm}
 use Rattle.dsm.specs.declared.Output.{Output}
 use Rattle.dsm.specs.declared.Output.the-variants as Output
 use Rattle.dsm.specs.declared.OutputRange.the-variants as OutputRange
-use Rattle.dsm.specs.Modulator.{outOf, least, greatest}
-use Rattle.dsm.specs.Calls.{refusal, blockNumber, given, rangeAt, Steps, Runs}
-use Rattle.dsm.specs.Cells.{Modulates, Turns, cells}
+use Rattle.dsm.specs.Modulator.{modulatorOut, least, greatest}
+use Rattle.dsm.specs.Calls.{stateNumber, runNumber, outputAt, rangeAt, Steps, Runs}
+use Rattle.dsm.specs.Cells.{Modulates, StepsCells, cells}
 use Rattle.dsm.proofs.Running.{keeps-same, step-state, step-out, step-keeps}
 
-ungiven : (k : ℕ) (y : ℤ) → (k ≡ 0 → ⊥) → Output.Refused k ≡ given k y
-unfolding given
+ungiven : (k : ℕ) (y : ℤ) → (k ≡ 0 → ⊥) → Output.Refused k ≡ outputAt k y
+unfolding outputAt
 ungiven zero y h = absurd (h refl)
 ungiven (suc k) y h = refl
 
@@ -42,16 +42,17 @@ pub ranged-above : (order k : ℕ) → order ≡ suc k → OutputRange.Between (
 ranged-above order k e = rw e (ranged (suc k))
 
 module _ (s : Dsm) (x : ℕ) where
-  pub step-refused : (k : ℕ) → refusal s ≡ k → (k ≡ 0 → ⊥) → Steps s x (record { state = s; out = Output.Refused k })
+  pub step-refused : (k : ℕ) → stateNumber s ≡ k → (k ≡ 0 → ⊥) → Steps s x (record { state = s; out = Output.Refused k })
   step-refused k e h = record {
-    step = rw (e, ne-eqb k 0 h) (rw (ungiven k (outOf s x) h));
+    step = rw (e, ne-eqb k 0 h) (rw (ungiven k (modulatorOut s x) h));
     keeps = keeps-same s;
     range = λ y g. absurd (never k y g);
   }
 
-  pub step-taken : (a : List ℕ) (c : List ℤ) (y : ℤ) → s .order ≤ length (s .accumulators) → refusal s ≡ 0
-      → Turns (s .order) (s .accumulators) (s .retained) x a c y → Steps s x (record { state = cells (s .order) a c; out = Output.Given y })
-  unfolding given
+  pub step-taken : (a : List ℕ) (c : List ℤ) (y : ℤ) → s .order ≤ length (s .accumulators) → stateNumber s ≡ 0
+      → StepsCells (s .order) (s .accumulators) (s .retained) x a c y
+      → Steps s x (record { state = cells (s .order) a c; out = Output.Given y })
+  unfolding outputAt
   step-taken a c y room ok t = record {
     step = rw (ok, step-state s x a c y t, step-out s x a c y t);
     keeps = step-keeps s x a c y t room ok;
@@ -59,7 +60,7 @@ module _ (s : Dsm) (x : ℕ) where
   }
 
 module _ (s : Dsm) (xs : List ℕ) (ys : List ℤ) where
-  pub block-refused : (k : ℕ) → blockNumber s xs ys ≡ k → (k ≡ 0 → ⊥) → Runs s xs ys (record { state = s; verdict = Refused k }) ys
+  pub block-refused : (k : ℕ) → runNumber s xs ys ≡ k → (k ≡ 0 → ⊥) → Runs s xs ys (record { state = s; verdict = Refused k }) ys
   block-refused k e h = record {
     verdict = rw e (refused k h);
     state = rw e (kept k s _ h);
@@ -68,7 +69,8 @@ module _ (s : Dsm) (xs : List ℕ) (ys : List ℤ) where
     range = λ g. absurd (undone k g);
   }
 
-  pub block-done : (t : Dsm) (zs : List ℤ) → blockNumber s xs ys ≡ 0 → Modulates s xs t zs → Runs s xs ys (record { state = t; verdict = Done }) zs
+  pub block-done : (t : Dsm) (zs : List ℤ) → runNumber s xs ys ≡ 0 → Modulates s xs t zs
+      → Runs s xs ys (record { state = t; verdict = Done }) zs
   unfolding verdictOf
   block-done t zs e m = record {
     verdict = rw e;

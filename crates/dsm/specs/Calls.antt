@@ -18,7 +18,7 @@ use Rattle.dsm.specs.declared.Output.{Output}
 use Rattle.dsm.specs.declared.Output.the-variants as Output
 use Rattle.dsm.specs.declared.OutputRange.{OutputRange}
 use Rattle.dsm.specs.declared.OutputRange.the-variants as OutputRange
-use Rattle.dsm.specs.Modulator.{outOf, nextOf, insideFrom, least, greatest, InRange}
+use Rattle.dsm.specs.Modulator.{modulatorOut, nextOf, insideFrom, least, greatest, InRange}
 
 -- 30: modulator order above 8. 32: a retained carry out of range, of the K - 1 used. The tests run in ascending number.
 abbrev pub orderNumber : ℕ → ℕ
@@ -27,28 +27,28 @@ orderNumber order = cond (ltb 8 order) 30 0
 abbrev pub cellsNumber : Dsm → ℕ
 cellsNumber s = cond (insideFrom 0 (take (s .order - 1) (s .retained))) 0 32
 
-unfoldable pub refusal : Dsm → ℕ
-refusal s = unless (orderNumber (s .order)) (orderNumber (s .order)) (cellsNumber s)
+unfoldable pub stateNumber : Dsm → ℕ
+stateNumber s = unless (orderNumber (s .order)) (orderNumber (s .order)) (cellsNumber s)
 
 -- 31: slices of a one-to-one block differ in length. It stands between the two.
-unfoldable pub blockNumber : Dsm → List ℕ → List ℤ → ℕ
-blockNumber s xs ys =
+unfoldable pub runNumber : Dsm → List ℕ → List ℤ → ℕ
+runNumber s xs ys =
     unless (orderNumber (s .order)) (orderNumber (s .order)) (cond (eqb (length xs) (length ys)) (cellsNumber s) 31)
 
 -- The maker.
-abbrev pub zeroed : ℕ → Dsm
-zeroed order = record { order = order; accumulators = replicate 8 0; retained = replicate 8 (pos 0) }
+abbrev pub zerosOf : ℕ → Dsm
+zerosOf order = record { order = order; accumulators = replicate 8 0; retained = replicate 8 (pos 0) }
 
-abbrev pub madeOf : ℕ → Made
-madeOf order = record { state = unless (orderNumber order) (zeroed 0) (zeroed order); verdict = verdictOf (orderNumber order) }
+abbrev pub modulatorOf : ℕ → Made
+modulatorOf order = record { state = unless (orderNumber order) (zerosOf 0) (zerosOf order); verdict = verdictOf (orderNumber order) }
 
 -- The step.
-unfoldable pub given : ℕ → ℤ → Output
-given zero y = Output.Given y
-given (suc k) y = Output.Refused (suc k)
+unfoldable pub outputAt : ℕ → ℤ → Output
+outputAt zero y = Output.Given y
+outputAt (suc k) y = Output.Refused (suc k)
 
-abbrev pub steppedOf : Dsm → ℕ → Stepped
-steppedOf s x = record { state = unless (refusal s) s (nextOf s x); out = given (refusal s) (outOf s x) }
+abbrev pub modulatorStep : Dsm → ℕ → Stepped
+modulatorStep s x = record { state = unless (stateNumber s) s (nextOf s x); out = outputAt (stateNumber s) (modulatorOut s x) }
 
 -- The output range.
 unfoldable pub rangeAt : ℕ → ℕ → OutputRange
@@ -56,26 +56,26 @@ rangeAt zero order = OutputRange.Between (least order) (greatest order)
 rangeAt (suc k) order = OutputRange.Refused (suc k)
 
 abbrev pub rangeOf : Dsm → OutputRange
-rangeOf s = rangeAt (refusal s) (s .order)
+rangeOf s = rangeAt (stateNumber s) (s .order)
 
 -- What a call on s that gives the state t keeps: the order, whether the state is accepted, and every cell that isn't used.
 pub record Keeps (s t : Dsm) : Type 0 where
   pub order : t .order ≡ s .order
-  pub accepted : refusal t ≡ refusal s
+  pub accepted : stateNumber t ≡ stateNumber s
   pub accumulators : drop (s .order) (t .accumulators) ≡ drop (s .order) (s .accumulators)
   pub retained : drop (s .order - 1) (t .retained) ≡ drop (s .order - 1) (s .retained)
 
 -- The step on s and x answers r, and an output that is given lies in range.
 pub record Steps (s : Dsm) (x : ℕ) (r : Stepped) : Type 0 where
-  pub step : r ≡ steppedOf s x
+  pub step : r ≡ modulatorStep s x
   pub keeps : Keeps s (r .state)
   pub range : (y : ℤ) → r .out ≡ Output.Given y → InRange (s .order) y
 
 -- The block on s, inputs xs and lent slice ys answers r and leaves zs in the slice: what its steps in turn would give.
 -- A refused block hands back the state and writes nothing.
 pub record Runs (s : Dsm) (xs : List ℕ) (ys : List ℤ) (r : Made) (zs : List ℤ) : Type 0 where
-  pub verdict : r .verdict ≡ verdictOf (blockNumber s xs ys)
-  pub state : r .state ≡ unless (blockNumber s xs ys) s (ends outOf nextOf s xs)
-  pub written : zs ≡ unless (blockNumber s xs ys) ys (scan outOf nextOf s xs)
+  pub verdict : r .verdict ≡ verdictOf (runNumber s xs ys)
+  pub state : r .state ≡ unless (runNumber s xs ys) s (ends modulatorOut nextOf s xs)
+  pub written : zs ≡ unless (runNumber s xs ys) ys (scan modulatorOut nextOf s xs)
   pub keeps : Keeps s (r .state)
   pub range : r .verdict ≡ Done → (i : ℕ) → i < length zs → InRange (s .order) (getD zs i (pos 0))

@@ -1,4 +1,4 @@
--- The step's two halves on their arrays, and the block's loop: a are the accumulators after, c the retained cells after.
+-- For private functions alone: the step's halves on lent cells, and the block's loop; a and c are the accumulators and retained cells after.
 use mathlib.Core.Path.{_≡_}
 use mathlib.Core.Bool.{true}
 use mathlib.Core.List.{List, [], _∷_, _++_}
@@ -7,8 +7,8 @@ use lib.IntN.{ℤ, pos}
 use lib.ListN.{length, take, drop, getD}
 use Rattle.blocks.specs.Scan.{scan, ends}
 use Rattle.dsm.specs.declared.Dsm.{Dsm}
-use Rattle.dsm.specs.Modulator.{accumulated, carries, output, keeping, outOf, nextOf, insideFrom, InRange}
-use Rattle.dsm.specs.Calls.{refusal, Keeps}
+use Rattle.dsm.specs.Modulator.{accumulated, carries, output, keeping, modulatorOut, nextOf, insideFrom, InRange}
+use Rattle.dsm.specs.Calls.{stateNumber, Keeps}
 
 -- the n lowest bits of d, the lowest first
 unfoldable pub bitsOf : ℕ → ℕ → List ℕ
@@ -29,7 +29,7 @@ pub record Combines (n d : ℕ) (l : List ℤ) (c : List ℤ) (y : ℤ) : Type 0
   pub range : InRange n y
 
 -- The step of order n on accumulators k and retained cells l has run from x.
-pub record Turns (n : ℕ) (k : List ℕ) (l : List ℤ) (x : ℕ) (a : List ℕ) (c : List ℤ) (y : ℤ) : Type 0 where
+pub record StepsCells (n : ℕ) (k : List ℕ) (l : List ℤ) (x : ℕ) (a : List ℕ) (c : List ℤ) (y : ℤ) : Type 0 where
   pub accumulators : a ≡ accumulated x (take n k) ++ drop n k
   pub retained : c ≡ keeping (carries x (take n k)) l
   pub out : y ≡ output (carries x (take n k)) l
@@ -41,15 +41,15 @@ abbrev pub cells : ℕ → List ℕ → List ℤ → Dsm
 cells order a c = record { order = order; accumulators = a; retained = c }
 
 -- The cells are a state's that is accepted, and the slices are of one length.
-pub record Ready (order : ℕ) (a : List ℕ) (c : List ℤ) (xs : List ℕ) (ys : List ℤ) : Type 0 where
+pub record CellsFit (order : ℕ) (a : List ℕ) (c : List ℤ) (xs : List ℕ) (ys : List ℤ) : Type 0 where
   pub alike : length xs ≡ length ys
-  pub accepted : refusal (cells order a c) ≡ 0
+  pub accepted : stateNumber (cells order a c) ≡ 0
   pub accumulators : length a ≡ 8
   pub retained : length c ≡ 8
 
 -- The steps on s over xs have run; t is the state after, zs what is written.
 pub record Modulates (s : Dsm) (xs : List ℕ) (t : Dsm) (zs : List ℤ) : Type 0 where
-  pub state : t ≡ ends outOf nextOf s xs
-  pub written : zs ≡ scan outOf nextOf s xs
+  pub state : t ≡ ends modulatorOut nextOf s xs
+  pub written : zs ≡ scan modulatorOut nextOf s xs
   pub keeps : Keeps s t
   pub range : (i : ℕ) → i < length zs → InRange (s .order) (getD zs i (pos 0))

@@ -3,10 +3,10 @@ use mathlib.Core.Path.{_≡_}
 use mathlib.Core.Bool.{Bool, true, false, _&&_, _||_}
 use mathlib.Core.List.{List, [], _∷_}
 use Prim.Native.Nat.{ℕ, zero, suc, _+_, _-_, _%_, _^_, _≤_}
-use lib.IntN.{ℤ, pos}
+use lib.IntN.{ℤ}
 use lib.Signed.{leZ}
 use Rattle.dsm.specs.Modulator.{least, greatest}
-use Rattle.dsm.specs.Totals.{outputs}
+use Rattle.dsm.specs.Totals.{modulated}
 
 -- whether y is among the numbers
 abbrev pub among : ℤ → List ℤ → Bool
@@ -29,4 +29,4 @@ swing (suc K) = differences 0 (swing K)
 
 abbrev pub EndsReached : Type 0
 EndsReached = (K : ℕ) → 1 ≤ K → K ≤ 8
-    → (among (least K) (outputs K (swing K)) ≡ true) × (among (greatest K) (outputs K (swing K)) ≡ true)
+    → (among (least K) (modulated K (swing K)) ≡ true) × (among (greatest K) (modulated K (swing K)) ≡ true)

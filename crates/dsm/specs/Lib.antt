@@ -1,5 +1,7 @@
+-- What a reader must believe: the step, every call, what a run takes in and gives out, both ends of the range.
 pub mod Modulator
 pub mod Calls
-pub mod Cells
 pub mod Totals
 pub mod Ends
+-- For private functions alone: the step's halves on lent cells, and the block's loop.
+pub mod Cells

@@ -43,8 +43,8 @@ keeping (last ∷ rest) cells = retaining (pos last) rest cells
 abbrev pub carriesOf : Dsm → ℕ → List ℕ
 carriesOf s x = carries x (take (s .order) (s .accumulators))
 
-unfoldable pub outOf : Dsm → ℕ → ℤ
-outOf s x = output (carriesOf s x) (s .retained)
+unfoldable pub modulatorOut : Dsm → ℕ → ℤ
+modulatorOut s x = output (carriesOf s x) (s .retained)
 
 unfoldable pub nextOf : Dsm → ℕ → Dsm
 nextOf s x = record {
@@ -76,4 +76,4 @@ pub record InRange (K : ℕ) (y : ℤ) : Type 0 where
 
 -- K = 0 gives 0 and leaves the state.
 abbrev pub IdleAtZero : Type 0
-IdleAtZero = (s : Dsm) (x : ℕ) → s .order ≡ 0 → (outOf s x ≡ pos 0) × (nextOf s x ≡ s)
+IdleAtZero = (s : Dsm) (x : ℕ) → s .order ≡ 0 → (modulatorOut s x ≡ pos 0) × (nextOf s x ≡ s)

@@ -6,8 +6,8 @@ use lib.IntN.{ℤ, pos, _+ℤ_, _-ℤ_, _*ℤ_}
 use lib.ListN.{getD}
 use Rattle.blocks.specs.Scan.{scan, ends}
 use Rattle.dsm.specs.declared.Dsm.{Dsm}
-use Rattle.dsm.specs.Modulator.{outOf, nextOf}
-use Rattle.dsm.specs.Calls.{zeroed}
+use Rattle.dsm.specs.Modulator.{modulatorOut, nextOf}
+use Rattle.dsm.specs.Calls.{zerosOf}
 
 abbrev pub totalIn : List ℕ → ℕ
 totalIn [] = 0
@@ -30,13 +30,14 @@ abbrev pub firstAccumulator : Dsm → ℕ
 firstAccumulator s = getD (s .accumulators) 0 0
 
 -- after the steps over xs
-abbrev pub outputs : ℕ → List ℕ → List ℤ
-outputs K xs = scan outOf nextOf (zeroed K) xs
+abbrev pub modulated : ℕ → List ℕ → List ℤ
+modulated K xs = scan modulatorOut nextOf (zerosOf K) xs
 
-abbrev pub after : ℕ → List ℕ → Dsm
-after K xs = ends outOf nextOf (zeroed K) xs
+abbrev pub modulatorAfter : ℕ → List ℕ → Dsm
+modulatorAfter K xs = ends modulatorOut nextOf (zerosOf K) xs
 
 -- Every K and every list, so after every step.
 abbrev pub Totals : Type 0
 Totals = (K : ℕ) (xs : List ℕ) → 1 ≤ K → K ≤ 8
-    → pos (totalIn xs) ≡ pos (2 ^ 32) *ℤ (totalOut (outputs K xs) -ℤ lastUsed (after K xs)) +ℤ pos (firstAccumulator (after K xs))
+    → pos (totalIn xs) ≡ pos (2 ^ 32) *ℤ (totalOut (modulated K xs) -ℤ lastUsed (modulatorAfter K xs)) +ℤ pos
+    (firstAccumulator (modulatorAfter K xs))

@@ -10,8 +10,8 @@ ghost use lib.ListN.{length, take};
 ghost use lib.IntN.{pos, _+ℤ_, _-ℤ_};
 ghost use lib.Signed.{mag};
 ghost use Rattle.dsm.specs.Modulator.{inside, insideFrom};
-ghost use Rattle.dsm.specs.Calls.{refusal, zeroed, madeOf, rangeOf, Steps, Runs};
-ghost use Rattle.dsm.specs.Cells.{Accumulates, Combines, Turns, Ready, Modulates, cells};
+ghost use Rattle.dsm.specs.Calls.{stateNumber, zerosOf, modulatorOf, rangeOf, Steps, Runs};
+ghost use Rattle.dsm.specs.Cells.{Accumulates, Combines, StepsCells, CellsFit, Modulates, cells};
 
 // Order K, accumulators, of which K are used, and retained values, of which K - 1 are used. Other cells never matter.
 // Retained cell j, from 0, must lie in 1 - 2^j .. 2^j.
@@ -116,7 +116,7 @@ fn combine(c: &mut [i16; 8], order: usize, d: u32) -> i16
 // One step on the cells: gives the output; cells beyond the order stay.
 fn turn(a: &mut [u32; 8], c: &mut [i16; 8], order: usize, x: u32) -> i16
     requires { ⌜ (order ≤ 8) × (length (now a) ≡ 8) × (length (now c) ≡ 8) × (insideFrom 0 (take (order - 1) (now c)) ≡ true) ⌝ }
-    ensures { λ r. ⌜ Turns order (now (a .entry)) (now (c .entry)) x (now (a .exit)) (now (c .exit)) r ⌝ }
+    ensures { λ r. ⌜ StepsCells order (now (a .entry)) (now (c .entry)) x (now (a .exit)) (now (c .exit)) r ⌝ }
 {
     let d = accumulate(a, order, x);
     combine(c, order, d)
@@ -124,8 +124,9 @@ fn turn(a: &mut [u32; 8], c: &mut [i16; 8], order: usize, x: u32) -> i16
 
 // The steps over xs in turn, on lent cells: writes their outputs.
 fn run(a: &mut [u32; 8], c: &mut [i16; 8], order: usize, xs: &[u32], ys: &mut [i16])
-    requires { ⌜ Ready order (now a) (now c) (now xs) (now ys) ⌝ }
-    ensures { λ _. ⌜ Modulates (cells order (now (a .entry)) (now (c .entry))) (now (xs .entry)) (cells order (now (a .exit)) (now (c .exit))) (now (ys .exit)) ⌝ }
+    requires { ⌜ CellsFit order (now a) (now c) (now xs) (now ys) ⌝ }
+    ensures { λ _. ⌜ Modulates (cells order (now (a .entry)) (now (c .entry))) (now (xs .entry))
+        (cells order (now (a .exit)) (now (c .exit))) (now (ys .exit)) ⌝ }
 {
     let mut i: usize = 0;
     while i < xs.len() {
@@ -137,8 +138,9 @@ fn run(a: &mut [u32; 8], c: &mut [i16; 8], order: usize, xs: &[u32], ys: &mut [i
 
 // The same, once for each order: in its arm the order is known, so that the loop over its cells is unrolled.
 fn run_by_order(a: &mut [u32; 8], c: &mut [i16; 8], order: usize, xs: &[u32], ys: &mut [i16])
-    requires { ⌜ Ready order (now a) (now c) (now xs) (now ys) ⌝ }
-    ensures { λ _. ⌜ Modulates (cells order (now (a .entry)) (now (c .entry))) (now (xs .entry)) (cells order (now (a .exit)) (now (c .exit))) (now (ys .exit)) ⌝ }
+    requires { ⌜ CellsFit order (now a) (now c) (now xs) (now ys) ⌝ }
+    ensures { λ _. ⌜ Modulates (cells order (now (a .entry)) (now (c .entry))) (now (xs .entry))
+        (cells order (now (a .exit)) (now (c .exit))) (now (ys .exit)) ⌝ }
 {
     match order {
         1 => run(a, c, order, xs, ys),
@@ -155,7 +157,7 @@ fn run_by_order(a: &mut [u32; 8], c: &mut [i16; 8], order: usize, xs: &[u32], ys
 
 // The steps over xs in turn: writes their outputs and gives the state after.
 fn modulate(s: Dsm, xs: &[u32], ys: &mut [i16]) -> Dsm
-    requires { ⌜ (length (now xs) ≡ length (now ys)) × (refusal s ≡ 0) ⌝ }
+    requires { ⌜ (length (now xs) ≡ length (now ys)) × (stateNumber s ≡ 0) ⌝ }
     ensures { λ r. ⌜ Modulates s (now (xs .entry)) r (now (ys .exit)) ⌝ }
 {
     let order = s.order;
@@ -206,7 +208,7 @@ fn cells_in_range(c: [i16; 8], order: usize) -> bool
 
 // All cells zero.
 fn zeros(order: usize) -> Dsm
-    ensures { λ r. ⌜ r ≡ zeroed order ⌝ }
+    ensures { λ r. ⌜ r ≡ zerosOf order ⌝ }
 {
     let accumulators = [0u32; 8];
     let retained = [0i16; 8];
@@ -220,7 +222,7 @@ fn zeros(order: usize) -> Dsm
 impl Dsm {
     // A modulator of zeros. 30 where the order is above 8, with an all-zero state.
     pub fn new(order: usize) -> Made
-        ensures { λ r. ⌜ r ≡ madeOf order ⌝ }
+        ensures { λ r. ⌜ r ≡ modulatorOf order ⌝ }
     {
         if 8 < order {
             let none = zeros(0);

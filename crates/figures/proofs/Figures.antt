@@ -11,10 +11,10 @@ use Rattle.text.specs.Parts.{parted}
 use Rattle.records.specs.Lines.{same, nameOf, recordOf}
 use Rattle.records.specs.Sessions.{takeOf, lineOf}
 use Rattle.playback.specs.Replays.{outputLine, endLine, badLine, replayFrom, replay}
-use Rattle.dsm.specs.Modulator.{accumulated, carries, combined, retaining, output, keeping, outOf, nextOf}
+use Rattle.dsm.specs.Modulator.{accumulated, carries, combined, retaining, output, keeping, modulatorOut, nextOf}
 use Rattle.unwrap.specs.Phases.{differenceOf, turnsOf}
 use Rattle.figures.specs.Table.{after, computed, table, Figures}
 
 pub all-right : Figures
-unfolding computed table after outputs risings newState resumeState zeroed refusalOf stepState stepGiven decimated decimatedAt given givenAt riseNumber riseState risenOf interpolated interpolatedAt risen risenAt view put rows putRows integrated summed less pushed combed differed wrap word replay replayFrom outputLine endLine badLine lineOf takeOf recordOf nameOf same parted numberOf plainOf leadingOf digitsFrom spelt verdictOf rateState clearState accumulated carries combined retaining output keeping outOf nextOf differenceOf turnsOf
+unfolding computed table after outputs risings newState resumeState zeroed refusalOf stepState stepGiven decimated decimatedAt given givenAt riseNumber riseState risenOf interpolated interpolatedAt risen risenAt view put rows putRows integrated summed less pushed combed differed wrap word replay replayFrom outputLine endLine badLine lineOf takeOf recordOf nameOf same parted numberOf plainOf leadingOf digitsFrom spelt verdictOf rateState clearState accumulated carries combined retaining output keeping modulatorOut nextOf differenceOf turnsOf
 all-right = refl

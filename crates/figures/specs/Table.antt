@@ -45,7 +45,7 @@ unfoldable pub computed : Figure → Figure
 computed (decimator s xs ys) = decimator s xs (outputs i32 s xs)
 computed (program input output) = program input (replay input)
 computed (interpolator s xs ys) = interpolator s xs (risings i32 s (length ys) xs)
-computed (modulator K xs ys) = modulator K xs (Modulator.outputs K xs)
+computed (modulator K xs ys) = modulator K xs (Modulator.modulated K xs)
 computed (difference y x delta sign) = difference y x (differenceOf y x .delta) (signOf (differenceOf y x .wrap))
 computed (unwrapper xs y count) = unwrapper xs (after (record { y = pos 0 }) xs .y) (turnsOf (after (record { y = pos 0 }) xs .y))
 

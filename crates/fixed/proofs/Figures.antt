@@ -4,8 +4,8 @@ use mathlib.Core.List.{List, [], _∷_}
 use Prim.Native.Nat.{ℕ}
 use lib.IntN.{ℤ, pos, negsuc}
 use Rattle.words.specs.Words as W
-use Rattle.fixed.specs.declared.biquad.Biquad.{Biquad}
-use Rattle.fixed.specs.declared.biquad.Answer.the-variants.{Value, Refused}
+use Rattle.fixed.specs.declared.coefficients.Biquad.{Biquad}
+use Rattle.fixed.specs.declared.coefficients.Answer.the-variants.{Value, Refused}
 use Rattle.fixed.specs.declared.wide.DirectForm1Wide.{DirectForm1Wide}
 use Rattle.fixed.specs.declared.wide.WideStep.{WideStep}
 use Rattle.fixed.specs.declared.dither.DirectForm1Dither.{DirectForm1Dither}
@@ -41,12 +41,32 @@ rest = record { x1 = pos 0; x2 = pos 0; y1 = pos 0; y2 = pos 0 }
 -- -2 with error 1, and of the wide form -2 with the upper half of its low word
 abbrev pub table : List Row
 table =
-    record { found = dither (ditherOf (gain (pos 1) 0) (form (pos 1) (pos 2) (pos 3) (pos 4) 5) (pos 6)); said = dither (record { out = Refused 40; state = form (pos 1) (pos 2) (pos 3) (pos 4) 5 }) }
-    ∷ record { found = dither (ditherOf (gain (pos 1) 32) (form (pos 1) (pos 2) (pos 3) (pos 4) 5) (pos 6)); said = dither (record { out = Refused 40; state = form (pos 1) (pos 2) (pos 3) (pos 4) 5 }) }
+    record {
+      found = dither (ditherOf (gain (pos 1) 0) (form (pos 1) (pos 2) (pos 3) (pos 4) 5) (pos 6));
+      said = dither
+          (record { out = Refused 40; state = form (pos 1) (pos 2) (pos 3) (pos 4) 5 });
+    }
+    ∷ record {
+      found = dither (ditherOf (gain (pos 1) 32) (form (pos 1) (pos 2) (pos 3) (pos 4) 5) (pos 6));
+      said = dither
+          (record { out = Refused 40; state = form (pos 1) (pos 2) (pos 3) (pos 4) 5 });
+    }
     ∷ record { found = wide (wideOf (gain (pos 1) 32) rest (pos 6)); said = wide (record { out = Refused 40; state = rest }) }
-    ∷ record { found = dither (ditherOf (gain (pos 1073741824) 30) (form (pos 1) (pos 2) (pos 3) (pos 4) 5) (pos 6)); said = dither (record { out = Value (pos 6); state = form (pos 6) (pos 1) (pos 6) (pos 3) 5 }) }
-    ∷ record { found = dither (ditherOf (gain (pos 1) 1) (form (pos 0) (pos 0) (pos 0) (pos 0) 0) (negsuc 2)); said = dither (record { out = Value (negsuc 1); state = form (negsuc 2) (pos 0) (negsuc 1) (pos 0) 1 }) }
-    ∷ record { found = wide (wideOf (gain (pos 1) 1) rest (negsuc 2)); said = wide (record { out = Value (negsuc 1); state = record { x1 = negsuc 2; x2 = pos 0; y1 = negsuc 6442450943; y2 = pos 0 } }) }
+    ∷ record {
+      found = dither (ditherOf (gain (pos 1073741824) 30) (form (pos 1) (pos 2) (pos 3) (pos 4) 5) (pos 6));
+      said = dither
+          (record { out = Value (pos 6); state = form (pos 6) (pos 1) (pos 6) (pos 3) 5 });
+    }
+    ∷ record {
+      found = dither (ditherOf (gain (pos 1) 1) (form (pos 0) (pos 0) (pos 0) (pos 0) 0) (negsuc 2));
+      said = dither
+          (record { out = Value (negsuc 1); state = form (negsuc 2) (pos 0) (negsuc 1) (pos 0) 1 });
+    }
+    ∷ record {
+      found = wide (wideOf (gain (pos 1) 1) rest (negsuc 2));
+      said = wide
+          (record { out = Value (negsuc 1); state = record { x1 = negsuc 2; x2 = pos 0; y1 = negsuc 6442450943; y2 = pos 0 } });
+    }
     ∷ []
 
 pub figures : Holds table

@@ -28,10 +28,12 @@ overwritten-fits acc (negsuc n) h =
     rw (e, lt-ltb (word w32 acc) (suc (2 ^ 32 - 1 + n * 2 ^ 32)) (omega arith)) (record { sfits = omega arith })
 
 -- the machine's sums: what fed and overwrite find
-pub fed-is : (acc y a : ℤ) → wrap w64 (wrap w64 (acc +ℤ floorDiv (pos (word w32 y) *ℤ a) (2 ^ 32)) +ℤ floorDiv y (2 ^ 32) *ℤ a) ≡ wrap w64 (acc +ℤ floorDiv (y *ℤ a) (2 ^ 32))
+pub fed-is : (acc y a : ℤ) → wrap w64 (wrap w64 (acc +ℤ floorDiv (pos (word w32 y) *ℤ a) (2 ^ 32)) +ℤ floorDiv y (2 ^ 32) *ℤ a)
+    ≡ wrap w64 (acc +ℤ floorDiv (y *ℤ a) (2 ^ 32))
 fed-is acc y a =
     wrap-left w64 (acc +ℤ floorDiv (pos (word w32 y) *ℤ a) (2 ^ 32)) (floorDiv y (2 ^ 32) *ℤ a)
-    ∙ ap (wrap w64) (+ℤ-assoc acc (floorDiv (pos (word w32 y) *ℤ a) (2 ^ 32)) (floorDiv y (2 ^ 32) *ℤ a) ∙ ap (λ (z : ℤ). acc +ℤ z) (parts y a))
+    ∙ ap (wrap w64) (+ℤ-assoc acc (floorDiv (pos (word w32 y) *ℤ a) (2 ^ 32)) (floorDiv y (2 ^ 32) *ℤ a) ∙ ap (λ (z : ℤ). acc +ℤ z)
+    (parts y a))
 
 pub overwritten-is : (acc y : ℤ) → SFits w32 y → wrap w64 (wrap w64 (y *ℤ pos (2 ^ 32)) +ℤ pos (word w32 acc)) ≡ overwritten acc y
 overwritten-is acc y h =

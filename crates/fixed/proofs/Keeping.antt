@@ -14,11 +14,12 @@ use Rattle.words.proofs.Products.{spread, group}
 use Rattle.words.proofs.Floors.{halves, mod-scaled}
 use Rattle.words.proofs.Reading.{mod-below, word-narrow, word-wrap}
 use Rattle.blocks.specs.Scan.{ends}
-use Rattle.fixed.specs.declared.biquad.Biquad.{Biquad}
-use Rattle.fixed.specs.declared.biquad.BiquadClamp.{BiquadClamp}
+use Rattle.fixed.specs.declared.coefficients.Biquad.{Biquad}
+use Rattle.fixed.specs.declared.coefficients.BiquadClamp.{BiquadClamp}
 use Rattle.fixed.specs.declared.wide.DirectForm1Wide.{DirectForm1Wide}
 use Rattle.fixed.specs.declared.dither.DirectForm1Dither.{DirectForm1Dither}
-use Rattle.fixed.specs.Forms.{raised, errorOf, wideSum, wideOut, wideNext, wideHeld, wideOnward, ditherSum, ditherOut, ditherNext, ditherOnward}
+use Rattle.fixed.specs.Forms.{aligned, ditherError, wideSum, wideOut, wideNext, wideHeld, wideOnward, ditherSum}
+use Rattle.fixed.specs.Forms.{ditherOut, ditherNext, ditherOnward}
 use Rattle.fixed.specs.Answers.{fractionNumber}
 use Rattle.fixed.proofs.Halves.{high-is, low-stays}
 use Rattle.fixed.proofs.Numbers.{in-range}
@@ -80,16 +81,17 @@ module _ (least : ℕ) (c : Biquad) (ok : fractionNumber least c ≡ 0) where
   together = let h = in-range least c ok in omega arith
 
   -- a wrapped sum modulo 2 ^ (32 + F) is the output, F bits up, and the bits below it
-  pub sum-kept : (sum : ℤ) → modℤ sum (2 ^ (32 + c .f)) ≡ modℤ (floorDiv (raised c sum) (2 ^ 32) *ℤ pos (2 ^ c .f) +ℤ pos (errorOf c sum)) (2 ^ (32 + c .f))
+  pub sum-kept : (sum : ℤ) → modℤ sum (2 ^ (32 + c .f))
+      ≡ modℤ (floorDiv (aligned c sum) (2 ^ 32) *ℤ pos (2 ^ c .f) +ℤ pos (ditherError c sum)) (2 ^ (32 + c .f))
   sum-kept sum = kept (c .f) (32 - c .f) together sum
 
-  pub error-below : (sum : ℤ) → errorOf c sum < 2 ^ c .f
+  pub error-below : (sum : ℤ) → ditherError c sum < 2 ^ c .f
   error-below sum = below (c .f) (32 - c .f) together sum
 
-  pub error-is : (sum : ℤ) → errorOf c sum ≡ modℤ sum (2 ^ c .f)
+  pub error-is : (sum : ℤ) → ditherError c sum ≡ modℤ sum (2 ^ c .f)
   error-is sum = back-down (c .f) (32 - c .f) together sum
 
-  pub low-is : (sum : ℤ) → word w32 (raised c sum) ≡ modℤ sum (2 ^ c .f) * 2 ^ (32 - c .f)
+  pub low-is : (sum : ℤ) → word w32 (aligned c sum) ≡ modℤ sum (2 ^ c .f) * 2 ^ (32 - c .f)
   low-is sum = low-kept (c .f) (32 - c .f) together sum
 
 -- 01, dither: wrapped sum modulo 2 ^ (32 + F) equals y 2 ^ F + e modulo 2 ^ (32 + F), with e below 2 ^ F after each step

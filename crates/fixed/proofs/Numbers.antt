@@ -9,11 +9,11 @@ use lib.IntN.{ℤ, pos, negsuc, _+ℤ_}
 use lib.Signed.{ltZ}
 use mir.Syntax.{w32}
 use Rattle.words.specs.Words.{wrap}
-use Rattle.fixed.specs.declared.biquad.Biquad.{Biquad}
-use Rattle.fixed.specs.declared.biquad.BiquadClamp.{BiquadClamp}
-use Rattle.fixed.specs.declared.biquad.Answer.the-variants.{Refused}
-use Rattle.fixed.specs.Forms.{clampTo, limited}
-use Rattle.fixed.specs.Answers.{fractionNumber, clampNumber, answerOf}
+use Rattle.fixed.specs.declared.coefficients.Biquad.{Biquad}
+use Rattle.fixed.specs.declared.coefficients.BiquadClamp.{BiquadClamp}
+use Rattle.fixed.specs.declared.coefficients.Answer.the-variants.{Refused}
+use Rattle.fixed.specs.Forms.{heldTo, limited}
+use Rattle.fixed.specs.Answers.{fractionNumber, clampNumber, answerAt}
 
 pub in-range : (least : ℕ) (c : Biquad) → fractionNumber least c ≡ 0 → (least ≤ c .f) × (c .f ≤ 31)
 in-range least c e = pick (ltb (c .f) least) (ltb 31 (c .f)) refl refl e
@@ -52,12 +52,12 @@ module _ (least : ℕ) (c : BiquadClamp) (ok : clampNumber least c ≡ 0) where
       never (negsuc n) = le-ltb n n (omega arith)
 
       pick : (b d : Bool) → ltZ z (c .min) ≡ b → ltZ (c .max) z ≡ d
-          → (ltZ (clampTo (c .min) (c .max) z) (c .min) ≡ false) × (ltZ (c .max) (clampTo (c .min) (c .max) z) ≡ false)
+          → (ltZ (heldTo (c .min) (c .max) z) (c .min) ≡ false) × (ltZ (c .max) (heldTo (c .min) (c .max) z) ≡ false)
       pick true d p q = rw p (never (c .min), ordered)
       pick false true p q = rw (p, q) (ordered, never (c .max))
       pick false false p q = rw (p, q) (p, q)
 
 -- a number that is none is a refusal
-pub refused-answer : (k : ℕ) (y : ℤ) → (k ≡ 0 → ⊥) → Refused k ≡ answerOf k y
+pub refused-answer : (k : ℕ) (y : ℤ) → (k ≡ 0 → ⊥) → Refused k ≡ answerAt k y
 refused-answer zero y h = absurd (h refl)
 refused-answer (suc k) y h = refl

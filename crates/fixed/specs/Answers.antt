@@ -5,10 +5,10 @@ use lib.Dec.{ltb}
 use lib.IntN.{ℤ}
 use lib.Signed.{ltZ}
 use Rattle.blocks.specs.Blocks.{unless}
-use Rattle.fixed.specs.declared.biquad.Biquad.{Biquad}
-use Rattle.fixed.specs.declared.biquad.BiquadClamp.{BiquadClamp}
-use Rattle.fixed.specs.declared.biquad.Answer.{Answer}
-use Rattle.fixed.specs.declared.biquad.Answer.the-variants.{Value, Refused}
+use Rattle.fixed.specs.declared.coefficients.Biquad.{Biquad}
+use Rattle.fixed.specs.declared.coefficients.BiquadClamp.{BiquadClamp}
+use Rattle.fixed.specs.declared.coefficients.Answer.{Answer}
+use Rattle.fixed.specs.declared.coefficients.Answer.the-variants.{Value, Refused}
 use Rattle.fixed.specs.declared.wide.DirectForm1Wide.{DirectForm1Wide}
 use Rattle.fixed.specs.declared.wide.WideStep.{WideStep}
 use Rattle.fixed.specs.declared.dither.DirectForm1Dither.{DirectForm1Dither}
@@ -24,18 +24,22 @@ abbrev pub clampNumber : ℕ → BiquadClamp → ℕ
 clampNumber least c = unless (fractionNumber least (c .coeff)) (fractionNumber least (c .coeff)) (cond (ltZ (c .max) (c .min)) 41 0)
 
 -- the answer of a call with number k that would give y
-abbrev pub answerOf : ℕ → ℤ → Answer
-answerOf zero y = Value y
-answerOf (suc k) y = Refused (suc k)
+abbrev pub answerAt : ℕ → ℤ → Answer
+answerAt zero y = Value y
+answerAt (suc k) y = Refused (suc k)
 
 abbrev pub wideOf : Biquad → DirectForm1Wide → ℤ → WideStep
-wideOf c s x = record { out = answerOf (fractionNumber 0 c) (wideOut c s x); state = unless (fractionNumber 0 c) s (wideNext c s x) }
+wideOf c s x = record { state = unless (fractionNumber 0 c) s (wideNext c s x); out = answerAt (fractionNumber 0 c) (wideOut c s x) }
 
 abbrev pub wideClampOf : BiquadClamp → DirectForm1Wide → ℤ → WideStep
-wideClampOf c s x = record { out = answerOf (clampNumber 0 c) (wideHeld c s x); state = unless (clampNumber 0 c) s (wideOnward c s x) }
+wideClampOf c s x = record { state = unless (clampNumber 0 c) s (wideOnward c s x); out = answerAt (clampNumber 0 c) (wideHeld c s x) }
 
 abbrev pub ditherOf : Biquad → DirectForm1Dither → ℤ → DitherStep
-ditherOf c s x = record { out = answerOf (fractionNumber 1 c) (ditherOut c s x); state = unless (fractionNumber 1 c) s (ditherNext c s x) }
+ditherOf c s x = record { state = unless (fractionNumber 1 c) s (ditherNext c s x); out = answerAt (fractionNumber 1 c) (ditherOut c s x) }
 
 abbrev pub ditherClampOf : BiquadClamp → DirectForm1Dither → ℤ → DitherStep
-ditherClampOf c s x = record { out = answerOf (clampNumber 1 c) (ditherHeld c s x); state = unless (clampNumber 1 c) s (ditherOnward c s x) }
+ditherClampOf c s x = record {
+  state = unless (clampNumber 1 c) s (ditherOnward c s x);
+  out = answerAt (clampNumber 1 c)
+      (ditherHeld c s x);
+}

@@ -5,8 +5,8 @@ use lib.IntN.{ℤ, pos, _+ℤ_, _*ℤ_}
 use lib.Signed.{ltZ}
 use mir.Syntax.{w32, w64}
 use Rattle.words.specs.Words.{word, wrap, floorDiv}
-use Rattle.fixed.specs.declared.biquad.Biquad.{Biquad}
-use Rattle.fixed.specs.declared.biquad.BiquadClamp.{BiquadClamp}
+use Rattle.fixed.specs.declared.coefficients.Biquad.{Biquad}
+use Rattle.fixed.specs.declared.coefficients.BiquadClamp.{BiquadClamp}
 use Rattle.fixed.specs.declared.wide.DirectForm1Wide.{DirectForm1Wide}
 use Rattle.fixed.specs.declared.dither.DirectForm1Dither.{DirectForm1Dither}
 
@@ -15,8 +15,8 @@ abbrev pub forward : Biquad → ℤ → ℤ → ℤ → ℤ
 forward c x0 x1 x2 = c .b0 *ℤ x0 +ℤ c .b1 *ℤ x1 +ℤ c .b2 *ℤ x2
 
 -- a wrapped sum, its F fraction bits moved to the top of the low word
-abbrev pub raised : Biquad → ℤ → ℤ
-raised c sum = wrap w64 (sum *ℤ pos (2 ^ (32 - c .f)))
+abbrev pub aligned : Biquad → ℤ → ℤ
+aligned c sum = wrap w64 (sum *ℤ pos (2 ^ (32 - c .f)))
 
 -- Wide: an output is kept with 32 bits below its word, so its product with a coefficient is divided by 2 ^ 32, rounded down.
 unfoldable pub wideSum : Biquad → DirectForm1Wide → ℤ → ℤ
@@ -26,30 +26,30 @@ wideSum c s x =
 
 -- the output is the high word; the state keeps both
 abbrev pub wideOut : Biquad → DirectForm1Wide → ℤ → ℤ
-wideOut c s x = floorDiv (raised c (wideSum c s x)) (2 ^ 32)
+wideOut c s x = floorDiv (aligned c (wideSum c s x)) (2 ^ 32)
 
 abbrev pub wideNext : Biquad → DirectForm1Wide → ℤ → DirectForm1Wide
-wideNext c s x = record { x1 = x; x2 = s .x1; y1 = raised c (wideSum c s x); y2 = s .y1 }
+wideNext c s x = record { x1 = x; x2 = s .x1; y1 = aligned c (wideSum c s x); y2 = s .y1 }
 
 -- Dither: the error joins the sum; the output is the high word, and the next error is the low word, shifted back.
-abbrev pub errorOf : Biquad → ℤ → ℕ
-errorOf c sum = word w32 (raised c sum) / 2 ^ (32 - c .f)
+abbrev pub ditherError : Biquad → ℤ → ℕ
+ditherError c sum = word w32 (aligned c sum) / 2 ^ (32 - c .f)
 
 unfoldable pub ditherSum : Biquad → DirectForm1Dither → ℤ → ℤ
 ditherSum c s x = wrap w64 (pos (s .e) +ℤ (forward c x (s .x1) (s .x2) +ℤ (c .a1 *ℤ s .y1 +ℤ c .a2 *ℤ s .y2)))
 
 abbrev pub ditherOut : Biquad → DirectForm1Dither → ℤ → ℤ
-ditherOut c s x = floorDiv (raised c (ditherSum c s x)) (2 ^ 32)
+ditherOut c s x = floorDiv (aligned c (ditherSum c s x)) (2 ^ 32)
 
 abbrev pub ditherNext : Biquad → DirectForm1Dither → ℤ → DirectForm1Dither
-ditherNext c s x = record { x1 = x; x2 = s .x1; y1 = ditherOut c s x; y2 = s .y1; e = errorOf c (ditherSum c s x) }
+ditherNext c s x = record { x1 = x; x2 = s .x1; y1 = ditherOut c s x; y2 = s .y1; e = ditherError c (ditherSum c s x) }
 
 -- Offset addition wraps in i32; the limits hold below the lower, then above the upper.
-abbrev pub clampTo : ℤ → ℤ → ℤ → ℤ
-clampTo min max y = cond (ltZ y min) min (cond (ltZ max y) max y)
+abbrev pub heldTo : ℤ → ℤ → ℤ → ℤ
+heldTo min max y = cond (ltZ y min) min (cond (ltZ max y) max y)
 
 abbrev pub limited : BiquadClamp → ℤ → ℤ
-limited c y = clampTo (c .min) (c .max) (wrap w32 (y +ℤ c .u))
+limited c y = heldTo (c .min) (c .max) (wrap w32 (y +ℤ c .u))
 
 -- Wide, clamped: the limited output goes over the high word, and the low word stays.
 abbrev pub overwritten : ℤ → ℤ → ℤ
@@ -62,7 +62,7 @@ abbrev pub wideOnward : BiquadClamp → DirectForm1Wide → ℤ → DirectForm1W
 wideOnward c s x = record {
   x1 = x;
   x2 = s .x1;
-  y1 = overwritten (raised (c .coeff) (wideSum (c .coeff) s x)) (wideHeld c s x);
+  y1 = overwritten (aligned (c .coeff) (wideSum (c .coeff) s x)) (wideHeld c s x);
   y2 = s .y1;
 }
 
@@ -76,5 +76,5 @@ ditherOnward c s x = record {
   x2 = s .x1;
   y1 = ditherHeld c s x;
   y2 = s .y1;
-  e = errorOf (c .coeff) (ditherSum (c .coeff) s x);
+  e = ditherError (c .coeff) (ditherSum (c .coeff) s x);
 }

@@ -1,7 +1,7 @@
 // Direct form 1 with error feedback: the bits below an output join the next sum.
-use crate::biquad::Answer;
-use crate::biquad::Biquad;
-use crate::biquad::BiquadClamp;
+use crate::coefficients::Answer;
+use crate::coefficients::Biquad;
+use crate::coefficients::BiquadClamp;
 use blocks::Verdict;
 use words::casts::i64_as_u32;
 use words::casts::i64_high;
@@ -27,8 +27,8 @@ pub struct DirectForm1Dither {
 }
 
 pub struct DitherStep {
-    pub out: Answer,
     pub state: DirectForm1Dither,
+    pub out: Answer,
 }
 
 pub struct DitherBlock {
@@ -36,10 +36,10 @@ pub struct DitherBlock {
     pub verdict: Verdict,
 }
 
-// An output and the state after it.
-struct Turned {
-    y: i32,
+// The state after an accepted step, and its output.
+struct DitherTurn {
     state: DirectForm1Dither,
+    y: i32,
 }
 
 impl DirectForm1Dither {
@@ -51,15 +51,15 @@ impl DirectForm1Dither {
         let number = c.fraction(1);
         if number != 0 {
             return DitherStep {
-                out: Answer::Refused(number),
                 state: self,
+                out: Answer::Refused(number),
             };
         }
         let turned = self.turn(c, x0);
         let state = turned.state;
         DitherStep {
-            out: Answer::Value(turned.y),
             state,
+            out: Answer::Value(turned.y),
         }
     }
 
@@ -71,22 +71,23 @@ impl DirectForm1Dither {
         let number = c.refusal(1);
         if number != 0 {
             return DitherStep {
-                out: Answer::Refused(number),
                 state: self,
+                out: Answer::Refused(number),
             };
         }
         let turned = self.turn_clamp(c, x0);
         let state = turned.state;
         DitherStep {
-            out: Answer::Value(turned.y),
             state,
+            out: Answer::Value(turned.y),
         }
     }
 
     // Takes the inputs in turn and writes their outputs. 31 where the slices differ in length, else 40: nothing is
     // written.
     pub fn block(self, c: Biquad, xs: &[i32], ys: &mut [i32]) -> DitherBlock
-        ensures { λ r. ⌜ Blocked (fractionNumber 1 c) (ditherOut c) (ditherNext c) self (now (xs .entry)) (now (ys .entry)) (r .state) (r .verdict) (now (ys .exit)) ⌝ }
+        ensures { λ r. ⌜ Blocked (fractionNumber 1 c) (ditherOut c) (ditherNext c) self (now (xs .entry)) (now (ys .entry))
+            (r .state) (r .verdict) (now (ys .exit)) ⌝ }
     {
         if xs.len() != ys.len() {
             return DitherBlock {
@@ -110,7 +111,8 @@ impl DirectForm1Dither {
 
     // The same with offset and limits. 31, 40, 41: nothing is written.
     pub fn block_clamp(self, c: BiquadClamp, xs: &[i32], ys: &mut [i32]) -> DitherBlock
-        ensures { λ r. ⌜ Blocked (clampNumber 1 c) (ditherHeld c) (ditherOnward c) self (now (xs .entry)) (now (ys .entry)) (r .state) (r .verdict) (now (ys .exit)) ⌝ }
+        ensures { λ r. ⌜ Blocked (clampNumber 1 c) (ditherHeld c) (ditherOnward c) self (now (xs .entry)) (now (ys .entry))
+            (r .state) (r .verdict) (now (ys .exit)) ⌝ }
     {
         if xs.len() != ys.len() {
             return DitherBlock {
@@ -142,7 +144,7 @@ impl DirectForm1Dither {
     }
 
     // A step that is accepted.
-    fn turn(self, c: Biquad, x0: i32) -> Turned
+    fn turn(self, c: Biquad, x0: i32) -> DitherTurn
         requires { ⌜ fractionNumber 1 c ≡ 0 ⌝ }
         ensures { λ r. ⌜ (r .y ≡ ditherOut c self x0) × (r .state ≡ ditherNext c self x0) ⌝ }
     {
@@ -150,8 +152,7 @@ impl DirectForm1Dither {
         let acc = shl_i64(self.sum(c, x0), 32 - f);
         let e = shr_u32(i64_as_u32(acc), 32 - f);
         let y = i64_high(acc);
-        Turned {
-            y,
+        DitherTurn {
             state: DirectForm1Dither {
                 x1: x0,
                 x2: self.x1,
@@ -159,11 +160,12 @@ impl DirectForm1Dither {
                 y2: self.y1,
                 e,
             },
+            y,
         }
     }
 
     // A clamped step that is accepted.
-    fn turn_clamp(self, c: BiquadClamp, x0: i32) -> Turned
+    fn turn_clamp(self, c: BiquadClamp, x0: i32) -> DitherTurn
         requires { ⌜ clampNumber 1 c ≡ 0 ⌝ }
         ensures { λ r. ⌜ (r .y ≡ ditherHeld c self x0) × (r .state ≡ ditherOnward c self x0) ⌝ }
     {
@@ -171,8 +173,7 @@ impl DirectForm1Dither {
         let turned = self.turn(coeff, x0);
         let y = c.limit(turned.y);
         let free = turned.state;
-        Turned {
-            y,
+        DitherTurn {
             state: DirectForm1Dither {
                 x1: x0,
                 x2: self.x1,
@@ -180,6 +181,7 @@ impl DirectForm1Dither {
                 y2: self.y1,
                 e: free.e,
             },
+            y,
         }
     }
 }

@@ -2,6 +2,6 @@
 // Port of `DirectForm1Wide` and `DirectForm1Dither` of the crate's iir/biquad.rs. Callers cite specs/Forms (a step by
 // document 01) and specs/Answers (every call by its number, state and answer); proofs/Keeping says what the shifts
 // keep.
-pub mod biquad;
+pub mod coefficients;
 pub mod dither;
 pub mod wide;

@@ -1,7 +1,7 @@
 // Direct form 1 with wide outputs: the state keeps 32 bits of each output below its word.
-use crate::biquad::Answer;
-use crate::biquad::Biquad;
-use crate::biquad::BiquadClamp;
+use crate::coefficients::Answer;
+use crate::coefficients::Biquad;
+use crate::coefficients::BiquadClamp;
 use blocks::Verdict;
 use words::casts::i32_as_i64;
 use words::casts::i64_as_u32;
@@ -31,8 +31,8 @@ pub struct DirectForm1Wide {
 }
 
 pub struct WideStep {
-    pub out: Answer,
     pub state: DirectForm1Wide,
+    pub out: Answer,
 }
 
 pub struct WideBlock {
@@ -40,10 +40,10 @@ pub struct WideBlock {
     pub verdict: Verdict,
 }
 
-// An output and the state after it.
-struct Turned {
-    y: i32,
+// The state after an accepted step, and its output.
+struct WideTurn {
     state: DirectForm1Wide,
+    y: i32,
 }
 
 // The low word, read as unsigned.
@@ -86,15 +86,15 @@ impl DirectForm1Wide {
         let number = c.fraction(0);
         if number != 0 {
             return WideStep {
-                out: Answer::Refused(number),
                 state: self,
+                out: Answer::Refused(number),
             };
         }
         let turned = self.turn(c, x0);
         let state = turned.state;
         WideStep {
-            out: Answer::Value(turned.y),
             state,
+            out: Answer::Value(turned.y),
         }
     }
 
@@ -105,22 +105,23 @@ impl DirectForm1Wide {
         let number = c.refusal(0);
         if number != 0 {
             return WideStep {
-                out: Answer::Refused(number),
                 state: self,
+                out: Answer::Refused(number),
             };
         }
         let turned = self.turn_clamp(c, x0);
         let state = turned.state;
         WideStep {
-            out: Answer::Value(turned.y),
             state,
+            out: Answer::Value(turned.y),
         }
     }
 
     // Takes the inputs in turn and writes their outputs. 31 where the slices differ in length, else 40: nothing is
     // written.
     pub fn block(self, c: Biquad, xs: &[i32], ys: &mut [i32]) -> WideBlock
-        ensures { λ r. ⌜ Blocked (fractionNumber 0 c) (wideOut c) (wideNext c) self (now (xs .entry)) (now (ys .entry)) (r .state) (r .verdict) (now (ys .exit)) ⌝ }
+        ensures { λ r. ⌜ Blocked (fractionNumber 0 c) (wideOut c) (wideNext c) self (now (xs .entry)) (now (ys .entry))
+            (r .state) (r .verdict) (now (ys .exit)) ⌝ }
     {
         if xs.len() != ys.len() {
             return WideBlock {
@@ -144,7 +145,8 @@ impl DirectForm1Wide {
 
     // The same with offset and limits. 31, 40, 41: nothing is written.
     pub fn block_clamp(self, c: BiquadClamp, xs: &[i32], ys: &mut [i32]) -> WideBlock
-        ensures { λ r. ⌜ Blocked (clampNumber 0 c) (wideHeld c) (wideOnward c) self (now (xs .entry)) (now (ys .entry)) (r .state) (r .verdict) (now (ys .exit)) ⌝ }
+        ensures { λ r. ⌜ Blocked (clampNumber 0 c) (wideHeld c) (wideOnward c) self (now (xs .entry)) (now (ys .entry))
+            (r .state) (r .verdict) (now (ys .exit)) ⌝ }
     {
         if xs.len() != ys.len() {
             return WideBlock {
@@ -178,25 +180,26 @@ impl DirectForm1Wide {
     }
 
     // A step that is accepted.
-    fn turn(self, c: Biquad, x0: i32) -> Turned
+    fn turn(self, c: Biquad, x0: i32) -> WideTurn
         requires { ⌜ fractionNumber 0 c ≡ 0 ⌝ }
         ensures { λ r. ⌜ (r .y ≡ wideOut c self x0) × (r .state ≡ wideNext c self x0) ⌝ }
     {
         let f = c.f;
         let acc = shl_i64(self.sum(c, x0), 32 - f);
-        Turned {
-            y: i64_high(acc),
+        let y = i64_high(acc);
+        WideTurn {
             state: DirectForm1Wide {
                 x1: x0,
                 x2: self.x1,
                 y1: acc,
                 y2: self.y1,
             },
+            y,
         }
     }
 
     // A clamped step that is accepted.
-    fn turn_clamp(self, c: BiquadClamp, x0: i32) -> Turned
+    fn turn_clamp(self, c: BiquadClamp, x0: i32) -> WideTurn
         requires { ⌜ clampNumber 0 c ≡ 0 ⌝ }
         ensures { λ r. ⌜ (r .y ≡ wideHeld c self x0) × (r .state ≡ wideOnward c self x0) ⌝ }
     {
@@ -205,7 +208,7 @@ impl DirectForm1Wide {
         let y = c.limit(turned.y);
         let mut state = turned.state;
         state.y1 = overwrite(state.y1, y);
-        Turned { y, state }
+        WideTurn { state, y }
     }
 }
 

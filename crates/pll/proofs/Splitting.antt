@@ -5,9 +5,9 @@ use lib.IntN.{ℤ, pos, _+ℤ_, _*ℤ_, +ℤ-comm, *ℤ-comm}
 use mir.Syntax.{w32}
 use Rattle.words.specs.Words.{word, floorDiv}
 use Rattle.words.proofs.Floors.{parts}
-use Rattle.pll.specs.Loops.{scaledOf}
+use Rattle.pll.specs.Loops.{lagProduct}
 
-pub split-whole : (a f : ℤ) → scaledOf a f ≡ floorDiv (a *ℤ f) (2 ^ 32)
+pub split-whole : (a f : ℤ) → lagProduct a f ≡ floorDiv (a *ℤ f) (2 ^ 32)
 split-whole a f =
     let h = floorDiv f (2 ^ 32) in
     let l = pos (word w32 f) in

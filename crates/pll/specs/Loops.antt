@@ -20,28 +20,28 @@ aheadOf s = wrap w32 (s .y +ℤ frequencyOf s)
 
 abbrev pub predictedOf : PLLState → Tracked
 predictedOf s = record {
-  y = aheadOf s;
   state = record { clamp = s .clamp; z0 = s .z0; y0 = s .y0; f0 = s .f0; f = s .f; y = aheadOf s };
+  y = aheadOf s;
 }
 
 -- phase error: the sum of the input and the phase, through the clamp; then half of it, rounded down
 abbrev pub clampedSum : PLLState → ℤ → Clamped
 clampedSum s x = clampedOf (s .clamp) (wrap w32 (x +ℤ aheadOf s))
 
-abbrev pub phaseError : PLLState → ℤ → ℤ
-phaseError s x = floorDiv (clampedSum s x .y) 2
+abbrev pub halvedError : PLLState → ℤ → ℤ
+halvedError s x = floorDiv (clampedSum s x .y) 2
 
 -- Nyquist zero: the sum of the last two errors
 abbrev pub afterZero : PLLState → ℤ → ℤ
-afterZero s x = wrap w32 (phaseError s x +ℤ s .z0)
+afterZero s x = wrap w32 (halvedError s x +ℤ s .z0)
 
 -- a1 times the wide state, over 2 ^ 32, by its high and its low word
-abbrev pub scaledOf : ℤ → ℤ → ℤ
-scaledOf a1 f0 = a1 *ℤ floorDiv f0 (2 ^ 32) +ℤ floorDiv (a1 *ℤ pos (word w32 f0)) (2 ^ 32)
+abbrev pub lagProduct : ℤ → ℤ → ℤ
+lagProduct a1 f0 = a1 *ℤ floorDiv f0 (2 ^ 32) +ℤ floorDiv (a1 *ℤ pos (word w32 f0)) (2 ^ 32)
 
 -- lead lag, wide state
 unfoldable pub leadLag : PLL → ℤ → ℤ → ℤ → ℤ
-leadLag p f0 y0 y1 = wrap w64 (f0 +ℤ (p .b0 *ℤ y0 +ℤ p .b1 *ℤ y1 +ℤ scaledOf (p .a1) f0))
+leadLag p f0 y0 y1 = wrap w64 (f0 +ℤ (p .b0 *ℤ y0 +ℤ p .b1 *ℤ y1 +ℤ lagProduct (p .a1) f0))
 
 abbrev pub afterLag : PLL → PLLState → ℤ → ℤ
 afterLag p s x = leadLag p (s .f0) (afterZero s x) (s .y0)
@@ -57,7 +57,7 @@ trackedPhase p s x = aheadOf s
 unfoldable pub trackedNext : PLL → PLLState → ℤ → PLLState
 trackedNext p s x = record {
   clamp = clampedSum s x .state;
-  z0 = phaseError s x;
+  z0 = halvedError s x;
   y0 = afterZero s x;
   f0 = afterLag p s x;
   f = afterPole p s x;
@@ -65,4 +65,4 @@ trackedNext p s x = record {
 }
 
 abbrev pub trackedOf : PLL → PLLState → ℤ → Tracked
-trackedOf p s x = record { y = trackedPhase p s x; state = trackedNext p s x }
+trackedOf p s x = record { state = trackedNext p s x; y = trackedPhase p s x }

@@ -15,7 +15,7 @@ ghost use mir.Syntax.{w64};
 ghost use Rattle.words.specs.Words.{wrap};
 ghost use Rattle.blocks.specs.Scan.{scan, ends};
 ghost use Rattle.blocks.specs.Blocks.{Blocked};
-ghost use Rattle.pll.specs.Loops.{frequencyOf, predictedOf, scaledOf, leadLag};
+ghost use Rattle.pll.specs.Loops.{frequencyOf, predictedOf, lagProduct, leadLag};
 ghost use Rattle.pll.specs.Loops.{trackedOf, trackedPhase, trackedNext};
 
 // The lead lag's coefficients, as bits with 32 of them after the point: f0 grows by b0 y0 + b1 y1 + a1 f1.
@@ -37,10 +37,10 @@ pub struct PLLState {
     pub y: i32,
 }
 
-// A phase and the state after it.
+// The state after a step, and its phase.
 pub struct Tracked {
-    pub y: i32,
     pub state: PLLState,
+    pub y: i32,
 }
 
 pub struct TrackedBlock {
@@ -57,7 +57,6 @@ impl PLLState {
         let y = add_i32(self.y, self.frequency());
         let clamp = self.clamp;
         Tracked {
-            y,
             state: PLLState {
                 clamp,
                 z0: self.z0,
@@ -66,6 +65,7 @@ impl PLLState {
                 f: self.f,
                 y,
             },
+            y,
         }
     }
 
@@ -86,7 +86,7 @@ impl PLLState {
 
 // a1 times the wide state f0, over 2^32: by the high and the low word of f0.
 fn scaled(a1: i32, f0: i64) -> i64
-    ensures { λ r. ⌜ r ≡ wrap w64 (scaledOf a1 f0) ⌝ }
+    ensures { λ r. ⌜ r ≡ wrap w64 (lagProduct a1 f0) ⌝ }
 {
     let low = (i32_as_i64(a1) * u32_as_i64(i64_as_u32(f0))) >> 32;
     add_i64(product(a1, i64_high(f0)), low)
@@ -114,7 +114,6 @@ impl PLL {
         let f0 = self.lead_lag(state.f0, y0, state.y0);
         let after = error.state;
         Tracked {
-            y,
             state: PLLState {
                 clamp: after,
                 z0,
@@ -123,6 +122,7 @@ impl PLL {
                 f: add_i64(state.f, f0),
                 y,
             },
+            y,
         }
     }
 

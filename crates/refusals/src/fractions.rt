@@ -1,8 +1,8 @@
 // Number 40: fraction bits, and 41 of the fixed-point forms.
 use crate::print::row;
-use fixed::biquad::Answer;
-use fixed::biquad::Biquad;
-use fixed::biquad::BiquadClamp;
+use fixed::coefficients::Answer;
+use fixed::coefficients::Biquad;
+use fixed::coefficients::BiquadClamp;
 use fixed::dither::DirectForm1Dither;
 use fixed::wide::DirectForm1Wide;
 

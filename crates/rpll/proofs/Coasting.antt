@@ -13,7 +13,7 @@ use Rattle.rpll.specs.declared.RPLL.{RPLL}
 use Rattle.rpll.specs.declared.RPLLConfig.{RPLLConfig}
 use Rattle.rpll.specs.declared.Processed.{Processed}
 use Rattle.rpll.specs.declared.Timestamp.the-variants.{Missing}
-use Rattle.rpll.specs.Loops.{refusalOf, advancedOf, givenOf, processedOf}
+use Rattle.rpll.specs.Loops.{configNumber, advancedOf, givenOf, processedOf}
 
 -- what is added may be wrapped before
 pub added : (y z : ℤ) → wrap w32 (y +ℤ wrap w32 z) ≡ wrap w32 (y +ℤ z)
@@ -37,11 +37,11 @@ one-more y n f =
     wrap-same (same-add {c = pos f} (wrapped w32 (y +ℤ pos (n * f))) (equal refl))
     ∙ ap (wrap w32) (+ℤ-assoc y (pos (n * f)) (pos f) ∙ ap (λ (k : ℕ). y +ℤ pos k) e)
 
-module _ (c : RPLLConfig) (accepted : refusalOf c ≡ 0) where
+module _ (c : RPLLConfig) (accepted : configNumber c ≡ 0) where
   -- a step without a timestamp answers and keeps the advanced state
   pub idle : (s : RPLL) → processedOf c s Missing ≡ givenOf (advancedOf s)
   unfolding processedOf
-  idle s = rw (eq-eqb (refusalOf c) 0 accepted)
+  idle s = rw (eq-eqb (configNumber c) 0 accepted)
 
   pub coasts : (s : RPLL) → SFits w32 (s .y) → (n : ℕ)
       → coasted c s n ≡ record { x = s .x; ff = s .ff; f = s .f; y = coastedPhase s n }

@@ -5,7 +5,7 @@ use Prim.Native.Nat.{ℕ, suc, _+_, _<_, _≤_}
 use native.Mathlib.Omega.{arith}
 use borrow.Author.Tests.{ltb-false, leb-false}
 use Rattle.rpll.specs.declared.RPLLConfig.{RPLLConfig}
-use Rattle.rpll.specs.Loops.{refusalOf}
+use Rattle.rpll.specs.Loops.{configNumber}
 
 pub record Accepted (c : RPLLConfig) : Type 0 where
   pub dt2-small : c .dt2 ≤ 30
@@ -23,8 +23,8 @@ neither : (a b : Bool) → (a || b) ≡ false → (a ≡ false) × (b ≡ false)
 neither true b e = (e, absurd (true≢false e))
 neither false b e = (refl, e)
 
-pub accepted : (c : RPLLConfig) → refusalOf c ≡ 0 → Accepted c
-unfolding refusalOf
+pub accepted : (c : RPLLConfig) → configNumber c ≡ 0 → Accepted c
+unfolding configNumber
 accepted c e =
     let a = past _ _ _ e in
     let b = past _ _ _ (a .1) in

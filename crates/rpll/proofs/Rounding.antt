@@ -1,11 +1,9 @@
 -- The machine's words of 64 bits give the exact quotients: a word's high part is the floor's word, its low part the remainder.
-use mathlib.Core.Path.{_≡_, refl, sym, ap, _∙_}
-use Prim.Native.Nat.{ℕ, suc, _+_, _-_, _*_, _/_, _%_, _^_, _<_, _≤_}
-use native.Mathlib.Nat.{mod-lt, add-mul}
+use mathlib.Core.Path.{_≡_, refl, ap, _∙_}
+use Prim.Native.Nat.{ℕ, _+_, _-_, _*_, _/_, _%_, _^_, _<_, _≤_}
 use native.Mathlib.Omega.{arith}
-use lib.Arith.{mod-mul, digits-div}
 use lib.Pow.{pow-pos, pow-add, pow-lt}
-use lib.IntN.{ℤ, pos, negsuc, negℤ, _+ℤ_, _-ℤ_, _*ℤ_, +ℤ-idl}
+use lib.IntN.{ℤ, pos, negℤ, _+ℤ_, _-ℤ_, _*ℤ_, +ℤ-idl}
 use mir.Syntax.{w32, w64}
 use Rattle.words.specs.Words as W
 use Rattle.words.specs.Words.{modℤ, word, wrap, floorDiv}
@@ -65,7 +63,8 @@ lock ff dx dt2 shift p q e f =
 
 -- the phase error, from the bit b at dt2 and the machine's remainder by it
 pub miss : (f : ℕ) (x y : ℤ) (dt2 shift b : ℕ) → dt2 ≤ 30 → dt2 ≤ shift → shift ≤ dt2 + 31 → b ≡ 2 ^ dt2
-    → floorDiv (wrap w32 (wrap w32 (pos (word w32 (pos (f / 2 ^ (dt2 % 32)) *ℤ pos (word w32 (wrap w32 (pos 0 -ℤ x)) % b)))) -ℤ y)) (2 ^ ((shift - dt2) % 32))
+    → floorDiv (wrap w32 (wrap w32 (pos (word w32 (pos (f / 2 ^ (dt2 % 32)) *ℤ pos (word w32 (wrap w32 (pos 0 -ℤ x)) % b)))) -ℤ y))
+    (2 ^ ((shift - dt2) % 32))
     ≡ errorOf f x y dt2 shift
 unfolding errorOf
 miss f x y dt2 shift b h k l e =

@@ -15,8 +15,8 @@ use Rattle.rpll.specs.declared.Processed.{Processed}
 
 -- 60: dt2 above 30. 61: shift_frequency not above dt2, or above 32. 62: shift_phase below dt2 or above dt2 + 31.
 -- 0 where it is none of them.
-unfoldable pub refusalOf : RPLLConfig → ℕ
-refusalOf c =
+unfoldable pub configNumber : RPLLConfig → ℕ
+configNumber c =
     cond (ltb 30 (c .dt2)) 60
     (cond (leb (c .«shift_frequency») (c .dt2) || ltb 32 (c .«shift_frequency»)) 61
     (cond (ltb (c .«shift_phase») (c .dt2) || ltb (c .dt2 + 31) (c .«shift_phase»)) 62 0))
@@ -69,16 +69,16 @@ takenOf c s x = record {
 }
 
 -- a step, with a timestamp or without
-abbrev pub steppedOf : RPLLConfig → RPLL → Timestamp → RPLL
-steppedOf c s (At x) = takenOf c (advancedOf s) x
-steppedOf c s Missing = advancedOf s
+abbrev pub updatedOf : RPLLConfig → RPLL → Timestamp → RPLL
+updatedOf c s (At x) = takenOf c (advancedOf s) x
+updatedOf c s Missing = advancedOf s
 
 -- phase and frequency together, the frequency read as signed
 abbrev pub givenOf : RPLL → Processed
-givenOf s = record { estimate = Given (s .y) (wrap w32 (pos (s .f))); state = s }
+givenOf s = record { state = s; estimate = Given (s .y) (wrap w32 (pos (s .f))) }
 
 -- a refused call hands back the given state
 unfoldable pub processedOf : RPLLConfig → RPLL → Timestamp → Processed
 processedOf c s t =
-    cond (eqb (refusalOf c) 0) (givenOf (steppedOf c s t))
-    (record { estimate = Refused (refusalOf c); state = s })
+    cond (eqb (configNumber c) 0) (givenOf (updatedOf c s t))
+    (record { state = s; estimate = Refused (configNumber c) })

@@ -17,7 +17,7 @@ use words::unsigned::mul_u64;
 use words::unsigned::sub_u32;
 ghost use mathlib.Core.Path.{_≡_};
 ghost use Prim.Native.Nat.{_+_, _<_, _≤_};
-ghost use Rattle.rpll.specs.Loops.{refusalOf, lockedOf, errorOf, advancedOf, takenOf, givenOf, processedOf};
+ghost use Rattle.rpll.specs.Loops.{configNumber, lockedOf, errorOf, advancedOf, takenOf, givenOf, processedOf};
 
 pub struct RPLL {
     // The previous timestamp.
@@ -53,8 +53,8 @@ pub enum Estimate {
 }
 
 pub struct Processed {
-    pub estimate: Estimate,
     pub state: RPLL,
+    pub estimate: Estimate,
 }
 
 // The frequency loop: ff corrected by what its phase over dx counter cycles lacks to the reference's 2^dt2 turns.
@@ -112,7 +112,7 @@ impl RPLL {
 impl RPLLConfig {
     // The number of the first refusal that concerns the configuration, 0 where there is none.
     fn refusal(self) -> u32
-        ensures { λ r. ⌜ r ≡ refusalOf self ⌝ }
+        ensures { λ r. ⌜ r ≡ configNumber self ⌝ }
     {
         let dt2 = self.dt2;
         if 30 < dt2 {
@@ -135,7 +135,7 @@ impl RPLLConfig {
 
     // Both loops at the timestamp x, which is kept; the phase stays.
     fn taken(self, s: RPLL, x: i32) -> RPLL
-        requires { ⌜ refusalOf self ≡ 0 ⌝ }
+        requires { ⌜ configNumber self ≡ 0 ⌝ }
         ensures { λ r. ⌜ r ≡ takenOf self s x ⌝ }
     {
         let dt2 = self.dt2 as u32;
@@ -159,8 +159,8 @@ impl RPLLConfig {
         let number = self.refusal();
         if number != 0 {
             return Processed {
-                estimate: Estimate::Refused(number),
                 state,
+                estimate: Estimate::Refused(number),
             };
         }
         let ahead = state.advanced();
@@ -176,7 +176,7 @@ fn given(state: RPLL) -> Processed
     ensures { λ r. ⌜ r ≡ givenOf state ⌝ }
 {
     Processed {
-        estimate: Estimate::Given(state.y, u32_as_i32(state.f)),
         state,
+        estimate: Estimate::Given(state.y, u32_as_i32(state.f)),
     }
 }

@@ -41,7 +41,8 @@ apart y b t = pick (ltb (word w32 y) (2 ^ 31)) refl b t
     high l =
         ap (λ (z : ℤ). z -ℤ phaseOf y)
         (sym (halves y)
-        ∙ ap (λ (z : ℤ). F *ℤ pos (2 ^ 32) +ℤ z) (sym (-ℤ-+ℤ-cancel (pos (word w32 y)) (pos (2 ^ 32))) ∙ +ℤ-comm (pos (word w32 y) -ℤ pos (2 ^ 32)) (pos (2 ^ 32)))
+        ∙ ap (λ (z : ℤ). F *ℤ pos (2 ^ 32) +ℤ z)
+        (sym (-ℤ-+ℤ-cancel (pos (word w32 y)) (pos (2 ^ 32))) ∙ +ℤ-comm (pos (word w32 y) -ℤ pos (2 ^ 32)) (pos (2 ^ 32)))
         ∙ sym (+ℤ-assoc (F *ℤ pos (2 ^ 32)) (pos (2 ^ 32)) (pos (word w32 y) -ℤ pos (2 ^ 32)))
         ∙ ap (λ (z : ℤ). F *ℤ pos (2 ^ 32) +ℤ pos (2 ^ 32) +ℤ z) (sym (wrap-high w32 y l)))
         ∙ +ℤ-negℤ-cancel (F *ℤ pos (2 ^ 32) +ℤ pos (2 ^ 32)) (phaseOf y)
@@ -50,7 +51,8 @@ apart y b t = pick (ltb (word w32 y) (2 ^ 31)) refl b t
     low-sign : word w32 y < 2 ^ 31 → ltZ (phaseOf y) (pos 0) ≡ false
     low-sign l = rw (wrap-low w32 y l) (le-ltb (word w32 y) 0 (omega arith))
 
-    pick : (h : Bool) → ltb (word w32 y) (2 ^ 31) ≡ h → (c : Bool) → ltZ (phaseOf y) (pos 0) ≡ c → y -ℤ phaseOf y ≡ onward c F *ℤ pos (2 ^ 32)
+    pick : (h : Bool) → ltb (word w32 y) (2 ^ 31) ≡ h → (c : Bool) → ltZ (phaseOf y) (pos 0) ≡ c
+        → y -ℤ phaseOf y ≡ onward c F *ℤ pos (2 ^ 32)
     pick true e c s = rw (sym s ∙ low-sign (ltb-true (word w32 y) (2 ^ 31) e)) (low (ltb-true (word w32 y) (2 ^ 31) e))
     pick false e c s = rw (sym s ∙ high-sign y (ltb-false (word w32 y) (2 ^ 31) e)) (high (ltb-false (word w32 y) (2 ^ 31) e))
 

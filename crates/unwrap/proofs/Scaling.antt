@@ -7,7 +7,7 @@ use native.Mathlib.Omega.{arith}
 use lib.Dec.{ltb}
 use lib.Pow.{pow-pos, pow-add, pow-mono}
 use lib.IntN.{ℤ, pos, negsuc, negℤ, natAbs, subℕ, _+ℤ_, _-ℤ_, _*ℤ_, +ℤ-idl, +ℤ-idr}
-use lib.Signed.{mag, ltZ, leZ}
+use lib.Signed.{mag, leZ}
 use borrow.Author.Tests.{ltb-true, ltb-false, lt-ltb, le-ltb, leb-false}
 use mir.Syntax.{w32}
 use mir.Val.{SFits}
@@ -132,7 +132,8 @@ module _ (shift : ℕ) (some : 1 ≤ shift) (few : shift ≤ 31) where
     pub clip-low : leZ hi (negℤ (pos (2 ^ (shift - 1)))) ≡ true
         → wrap w32 (negsuc 2147483647 -ℤ negℤ (pos (2 ^ (shift - 1)))) ≡ clipped lo hi shift
     clip-low t =
-        rw t (subst (λ (p : ℕ). wrap w32 (negsuc 2147483647 -ℤ negℤ (pos p)) ≡ pos p -ℤ pos (2 ^ 31)) (sym P-suc) (least-end (P - 1) P-small))
+        rw t (subst (λ (p : ℕ). wrap w32 (negsuc 2147483647 -ℤ negℤ (pos p)) ≡ pos p -ℤ pos (2 ^ 31)) (sym P-suc)
+        (least-end (P - 1) P-small))
 
     pub clip-high : leZ hi (negℤ (pos (2 ^ (shift - 1)))) ≡ false → leZ (pos (2 ^ (shift - 1))) hi ≡ true
         → wrap w32 (negℤ (pos (2 ^ (shift - 1))) -ℤ negsuc 2147483647) ≡ clipped lo hi shift

@@ -124,8 +124,10 @@ module _ (y x : ℤ) (hy : SFits w32 y) (hx : SFits w32 x) where
   only-sign s f =
       let d : ℤ = (y -ℤ x) +ℤ signOf s *ℤ pos (2 ^ 32) in
       let e : d ≡ wrap w32 (y -ℤ x) =
-      same-is (same-add {a = y -ℤ x} (equal refl) (turns w32 (signOf s)) and equal (zero-off (y -ℤ x)) and turn (wrapped w32 (y -ℤ x))) f (wrap-fits w32 (y -ℤ x)) in
-      sym (case-turns s) ∙ ap caseOf (sym (+ℤ-negℤ-cancel (signOf s *ℤ pos (2 ^ 32)) (y -ℤ x)) ∙ ap (λ (z : ℤ). z -ℤ (y -ℤ x)) (+ℤ-comm (signOf s *ℤ pos (2 ^ 32)) (y -ℤ x) ∙ e))
+      same-is (same-add {a = y -ℤ x} (equal refl) (turns w32 (signOf s)) and equal (zero-off (y -ℤ x)) and turn
+      (wrapped w32 (y -ℤ x))) f (wrap-fits w32 (y -ℤ x)) in
+      sym (case-turns s) ∙ ap caseOf (sym (+ℤ-negℤ-cancel (signOf s *ℤ pos (2 ^ 32)) (y -ℤ x)) ∙ ap (λ (z : ℤ). z -ℤ (y -ℤ x))
+      (+ℤ-comm (signOf s *ℤ pos (2 ^ 32)) (y -ℤ x) ∙ e))
     where
       zero-off : (z : ℤ) → z +ℤ pos 0 ≡ z
       zero-off z = +ℤ-idr z

@@ -42,7 +42,7 @@ abbrev pub grown : Unwrapper → ℤ → Unwrapper
 grown u x = record { y = wrap w64 (u .y +ℤ stepOf u x) }
 
 abbrev pub unwrappedOf : Unwrapper → ℤ → Unwrapped
-unwrappedOf u x = record { dx = stepOf u x; state = grown u x }
+unwrappedOf u x = record { state = grown u x; dx = stepOf u x }
 
 -- y = count · 2 ^ 32 + phase, the count modulo 2 ^ 32
 unfoldable pub turnsOf : ℤ → ℤ
@@ -64,4 +64,4 @@ abbrev pub clampNext : ClampWrap → ℤ → ClampWrap
 clampNext s x = record { x0 = x; clamp = clampAfter s x }
 
 abbrev pub clampedOf : ClampWrap → ℤ → Clamped
-clampedOf s x = record { y = clampOut s x; state = clampNext s x }
+clampedOf s x = record { state = clampNext s x; y = clampOut s x }

@@ -15,8 +15,8 @@ pub struct ClampWrap {
 }
 
 pub struct Clamped {
-    pub y: i32,
     pub state: ClampWrap,
+    pub y: i32,
 }
 
 pub struct ClampedBlock {
@@ -44,15 +44,17 @@ impl ClampWrap {
         let wrap = step.wrap;
         let before = self.clamp;
         let clamp = before.add(wrap);
+        let y = held_to(clamp, x);
         Clamped {
-            y: held_to(clamp, x),
             state: ClampWrap { x0: x, clamp },
+            y,
         }
     }
 
     // Takes the inputs in turn and writes their outputs. 31 where the slices differ in length: nothing is written.
     pub fn block(self, xs: &[i32], ys: &mut [i32]) -> ClampedBlock
-        ensures { λ r. ⌜ Blocked 0 clampOut clampNext self (now (xs .entry)) (now (ys .entry)) (r .state) (r .verdict) (now (ys .exit)) ⌝ }
+        ensures { λ r. ⌜ Blocked 0 clampOut clampNext self (now (xs .entry)) (now (ys .entry))
+            (r .state) (r .verdict) (now (ys .exit)) ⌝ }
     {
         if xs.len() != ys.len() {
             return ClampedBlock {

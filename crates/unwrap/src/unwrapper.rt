@@ -18,8 +18,8 @@ pub struct Unwrapper {
 }
 
 pub struct Unwrapped {
-    pub dx: i32,
     pub state: Unwrapper,
+    pub dx: i32,
 }
 
 pub struct UnwrappedBlock {
@@ -35,10 +35,10 @@ impl Unwrapper {
         let y = self.y;
         let dx = sub_i32(x, i64_as_i32(y));
         Unwrapped {
-            dx,
             state: Unwrapper {
                 y: add_i64(y, i32_as_i64(dx)),
             },
+            dx,
         }
     }
 
@@ -64,7 +64,8 @@ impl Unwrapper {
     // Feeds the samples in turn and writes their differences. 31 where the slices differ in length: nothing is
     // written.
     pub fn block(self, xs: &[i32], dxs: &mut [i32]) -> UnwrappedBlock
-        ensures { λ r. ⌜ Blocked 0 stepOf grown self (now (xs .entry)) (now (dxs .entry)) (r .state) (r .verdict) (now (dxs .exit)) ⌝ }
+        ensures { λ r. ⌜ Blocked 0 stepOf grown self (now (xs .entry)) (now (dxs .entry))
+            (r .state) (r .verdict) (now (dxs .exit)) ⌝ }
     {
         if xs.len() != dxs.len() {
             return UnwrappedBlock {

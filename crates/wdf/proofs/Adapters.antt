@@ -1,6 +1,7 @@
--- What the adapters are to each other: Z passes, X swaps, B1 is B and C1 is C, and at coefficient 0 B is X and C is X with both signs changed.
+-- What the adapters are to each other: Z passes, X swaps, B1 is B and C1 is C, and at coefficient 0 B is X and C is X with
+-- both signs changed.
 use mathlib.Core.Path.{_≡_, refl, sym, ap, _∙_}
-use lib.IntN.{ℤ, pos, negℤ, _+ℤ_, _-ℤ_, _*ℤ_, +ℤ-idl, +ℤ-assoc, +ℤ-comm, -ℤ-+ℤ-cancel, negℤ-negℤ, *ℤ-zero}
+use lib.IntN.{ℤ, pos, negℤ, _+ℤ_, _-ℤ_, +ℤ-idl, +ℤ-assoc, +ℤ-comm, -ℤ-+ℤ-cancel, negℤ-negℤ, *ℤ-zero}
 use mir.Syntax.{w32}
 use mir.Val.{SFits}
 use Rattle.words.specs.Words.{wrap}

@@ -9,7 +9,7 @@ use lib.ListN.{length, take, drop}
 use lib.Seq.{take-nil, getD-take, take-at, drop-at}
 use Rattle.blocks.specs.declared.Verdict.{Verdict}
 use Rattle.blocks.specs.Scan.{scan, ends}
-use Rattle.blocks.specs.Blocks.{blockNumber, Blocked}
+use Rattle.blocks.specs.Blocks.{lengthsNumber, Blocked}
 use Rattle.wdf.specs.declared.filter.Wdf.{Wdf}
 use Rattle.wdf.specs.declared.filter.Out.{Out}
 use Rattle.wdf.specs.declared.filter.Out.the-variants.{Given}
@@ -108,5 +108,5 @@ pub block-steps : (s : Wdf) (xs ys : List ℤ) (t : Wdf) (v : Verdict) (zs : Lis
     → Blocked (number s) answer next s xs ys t v zs
     → (map Given zs ≡ scan stepOut stepState s xs) × (t ≡ ends stepOut stepState s xs)
 block-steps s xs ys t v zs e l b =
-    let k : blockNumber (number s) xs ys ≡ 0 = rw (eq-eqb (length xs) (length ys) l) e in
+    let k : lengthsNumber (number s) xs ys ≡ 0 = rw (eq-eqb (length xs) (length ys) l) e in
     (ap (map Given) (rw k at (b .written)) ∙ sym (steps-out s xs e), rw k at (b .state) ∙ sym (steps-state s xs e))

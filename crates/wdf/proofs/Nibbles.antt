@@ -1,7 +1,7 @@
 -- The nibbles of an architecture word: four bits are a factor of 16.
 use mathlib.Core.Path.{_≡_, refl, _∙_}
 use mathlib.Core.List.{List}
-use Prim.Native.Nat.{ℕ, zero, suc, _+_, _-_, _*_, _/_, _%_, _^_, _<_}
+use Prim.Native.Nat.{ℕ, zero, suc, _+_, _*_, _/_, _%_, _^_, _<_}
 use native.Mathlib.Nat.{pow-suc, pow-succ', div-one, zero-div, div-div-eq-div-mul, div-le-self, lt-of-le-of-lt}
 use native.Mathlib.Numerals.{one-add}
 use native.Mathlib.Omega.{arith}

@@ -2,7 +2,7 @@
 use mathlib.Core.Path.{_≡_, refl, ap, _∙_}
 use mathlib.Core.Bool.{Bool, true, false}
 use mathlib.Core.List.{List, [], _∷_}
-use Prim.Native.Nat.{ℕ, zero, suc, _-_, _≤_}
+use Prim.Native.Nat.{ℕ, zero, suc, _≤_}
 use native.Mathlib.Omega.{arith}
 use borrow.Author.Tests.{ltb-false}
 use lib.Dec.{ltb}
@@ -13,11 +13,11 @@ use Rattle.wdf.specs.declared.filter.Wdf.{Wdf}
 use Rattle.wdf.specs.declared.filter.Stepped.{Stepped}
 use Rattle.wdf.specs.declared.filter.Out.the-variants.{Given, Refused}
 use Rattle.wdf.specs.Sections.{Section, sectionsOf, passed}
-use Rattle.wdf.specs.Calls.{numberOf, number, answer, next, outOf, stepped}
+use Rattle.wdf.specs.Calls.{sectionsNumber, number, answer, next, outAt, stepped}
 
 -- a filter that is not refused has at most 8 sections
-pub few : (n m : ℕ) → numberOf n m ≡ 0 → n ≤ 8
-unfolding numberOf
+pub few : (n m : ℕ) → sectionsNumber n m ≡ 0 → n ≤ 8
+unfolding sectionsNumber
 few n m e = pick (ltb 8 n) refl
   where
     pick : (b : Bool) → ltb 8 n ≡ b → n ≤ 8
@@ -41,7 +41,7 @@ next-length s x h =
     ∙ sections-length (s .sections) (s .architecture) (s .a) (s .z) in
     simp (length-append, length-drop) (omega arith)
 
-out-refused : (k : ℕ) (y : ℤ) → (k ≡ 0 → ⊥) → Refused k ≡ outOf k y
+out-refused : (k : ℕ) (y : ℤ) → (k ≡ 0 → ⊥) → Refused k ≡ outAt k y
 out-refused zero y h = absurd (h refl)
 out-refused (suc k) y h = refl
 

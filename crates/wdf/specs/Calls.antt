@@ -15,11 +15,11 @@ use Rattle.wdf.specs.declared.filter.Stepped.{Stepped}
 use Rattle.wdf.specs.Sections.{sectionsOf, Passed, passed}
 
 -- 01, refusals: 50, more than 8 sections; 51, a nonzero nibble beyond the last section; 0 where there is none
-unfoldable pub numberOf : ℕ → ℕ → ℕ
-numberOf sections architecture = cond (ltb 8 sections) 50 (cond (eqb (architecture / 16 ^ sections) 0) 0 51)
+unfoldable pub sectionsNumber : ℕ → ℕ → ℕ
+sectionsNumber sections architecture = cond (ltb 8 sections) 50 (cond (eqb (architecture / 16 ^ sections) 0) 0 51)
 
 abbrev pub number : Wdf → ℕ
-number s = numberOf (s .sections) (s .architecture)
+number s = sectionsNumber (s .sections) (s .architecture)
 
 abbrev pub filter : ℕ → ℕ → List ℤ → List ℤ → Wdf
 filter sections architecture a z = record { sections = sections; architecture = architecture; a = a; z = z }
@@ -31,8 +31,8 @@ none = filter 0 0 (replicate 8 (pos 0)) (replicate 8 (pos 0))
 -- a new filter: its cells are zero
 unfoldable pub made : ℕ → ℕ → List ℤ → Answer
 made sections architecture a = record {
-  state = unless (numberOf sections architecture) none (filter sections architecture a (replicate 8 (pos 0)));
-  verdict = verdictOf (numberOf sections architecture);
+  state = unless (sectionsNumber sections architecture) none (filter sections architecture a (replicate 8 (pos 0)));
+  verdict = verdictOf (sectionsNumber sections architecture);
 }
 
 -- what x does to the sections of s
@@ -47,10 +47,10 @@ abbrev pub next : Wdf → ℤ → Wdf
 next s x = filter (s .sections) (s .architecture) (s .a) (run s x .cells ++ drop (s .sections) (s .z))
 
 -- the answer y, unless there is a refusal's number
-abbrev pub outOf : ℕ → ℤ → Out
-outOf zero y = Given y
-outOf (suc k) y = Refused (suc k)
+abbrev pub outAt : ℕ → ℤ → Out
+outAt zero y = Given y
+outAt (suc k) y = Refused (suc k)
 
 -- 01: a refused call hands back the given state and is no step
 unfoldable pub stepped : Wdf → ℤ → Stepped
-stepped s x = record { state = unless (number s) s (next s x); out = outOf (number s) (answer s x) }
+stepped s x = record { state = unless (number s) s (next s x); out = outAt (number s) (answer s x) }

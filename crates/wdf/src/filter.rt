@@ -5,10 +5,10 @@ use blocks::Verdict;
 ghost use mathlib.Core.Path.{_≡_};
 ghost use Prim.Native.Nat.{_%_, _≤_};
 ghost use lib.ListN.{length};
-ghost use Rattle.blocks.specs.Scan.{scan, ends};
 ghost use Rattle.blocks.specs.Blocks.{Blocked};
 ghost use Rattle.wdf.specs.Adapters.{adapted, codeOf};
-ghost use Rattle.wdf.specs.Calls.{numberOf, number, filter, made, answer, next, stepped};
+ghost use Rattle.wdf.specs.Calls.{sectionsNumber, number, filter, made, answer, next, stepped};
+ghost use Rattle.wdf.specs.Lent.{Passes, Filters};
 
 // A filter. Coefficients and cells beyond its sections are kept and never matter.
 pub struct Wdf {
@@ -42,7 +42,7 @@ pub struct Stepped {
 
 // The number of the first test that a filter fails, or 0.
 fn refusal(sections: usize, architecture: u32) -> u32
-    ensures { λ r. ⌜ r ≡ numberOf sections architecture ⌝ }
+    ensures { λ r. ⌜ r ≡ sectionsNumber sections architecture ⌝ }
 {
     if 8 < sections {
         return 50;
@@ -63,8 +63,7 @@ fn section(nibbles: u32, x: i32, cell: i32, coefficient: i32) -> Ports
 // One input through the sections: the answer comes back, and the cells of the sections are made anew.
 fn pass(sections: usize, architecture: u32, a: &[i32; 8], z: &mut [i32; 8], x: i32) -> i32
     requires { ⌜ (sections ≤ 8) × (length (now z) ≡ 8) ⌝ }
-    ensures { λ r. ⌜ (r ≡ answer (filter sections architecture (now (a .entry)) (now (z .entry))) x)
-        × (now (z .exit) ≡ next (filter sections architecture (now (a .entry)) (now (z .entry))) x .z) ⌝ }
+    ensures { λ r. ⌜ Passes (filter sections architecture (now (a .entry)) (now (z .entry))) x r (now (z .exit)) ⌝ }
 {
     if sections == 0 {
         return x;
@@ -87,21 +86,6 @@ fn pass(sections: usize, architecture: u32, a: &[i32; 8], z: &mut [i32; 8], x: i
     head.0
 }
 
-// The same through two sections.
-fn pass_two(architecture: u32, a: &[i32; 8], z: &mut [i32; 8], x: i32) -> i32
-    requires { ⌜ length (now z) ≡ 8 ⌝ }
-    ensures { λ r. ⌜ (r ≡ answer (filter 2 architecture (now (a .entry)) (now (z .entry))) x)
-        × (now (z .exit) ≡ next (filter 2 architecture (now (a .entry)) (now (z .entry))) x .z) ⌝ }
-{
-    let head = section(architecture, x, z[0], a[0]);
-    let tail = section(architecture / 16, head.1, z[1], a[1]);
-    let back = tail.0;
-    let on = tail.1;
-    z[0] = back;
-    z[1] = on;
-    head.0
-}
-
 // The steps of a block in turn, over lent cells.
 fn run_any(
     sections: usize,
@@ -112,10 +96,8 @@ fn run_any(
     ys: &mut [i32],
 )
     requires { ⌜ (sections ≤ 8) × (length (now z) ≡ 8) × (length (now xs) ≡ length (now ys)) ⌝ }
-    ensures { λ r. ⌜ (filter sections architecture (now (a .entry)) (now (z .exit))
-        ≡ ends answer next (filter sections architecture (now (a .entry)) (now (z .entry))) (now (xs .entry)))
-        × (now (ys .exit)
-        ≡ scan answer next (filter sections architecture (now (a .entry)) (now (z .entry))) (now (xs .entry))) ⌝ }
+    ensures { λ _. ⌜ Filters (filter sections architecture (now (a .entry)) (now (z .entry)))
+        (now (xs .entry)) (now (z .exit)) (now (ys .exit)) ⌝ }
 {
     let mut i: usize = 0;
     while i < xs.len() {
@@ -128,27 +110,23 @@ fn run_any(
 // The same through two sections.
 fn run_two(architecture: u32, a: &[i32; 8], z: &mut [i32; 8], xs: &[i32], ys: &mut [i32])
     requires { ⌜ (length (now z) ≡ 8) × (length (now xs) ≡ length (now ys)) ⌝ }
-    ensures { λ r. ⌜ (filter 2 architecture (now (a .entry)) (now (z .exit))
-        ≡ ends answer next (filter 2 architecture (now (a .entry)) (now (z .entry))) (now (xs .entry)))
-        × (now (ys .exit)
-        ≡ scan answer next (filter 2 architecture (now (a .entry)) (now (z .entry))) (now (xs .entry))) ⌝ }
+    ensures { λ _. ⌜ Filters (filter 2 architecture (now (a .entry)) (now (z .entry)))
+        (now (xs .entry)) (now (z .exit)) (now (ys .exit)) ⌝ }
 {
     let mut i: usize = 0;
     while i < xs.len() {
         let x = xs[i];
-        ys[i] = pass_two(architecture, a, z, x);
+        ys[i] = pass(2, architecture, a, z, x);
         i += 1;
     }
 }
 
-// The same, once for each pair of the adapters A to D: in its arm both are known, and no section is told apart at
-// run time.
+// The same, once for each pair of the adapters A to D: in its arm the architecture is a known number, so that the
+// loop tells no section apart at run time.
 fn run_by_pair(architecture: u32, a: &[i32; 8], z: &mut [i32; 8], xs: &[i32], ys: &mut [i32])
     requires { ⌜ (length (now z) ≡ 8) × (length (now xs) ≡ length (now ys)) ⌝ }
-    ensures { λ r. ⌜ (filter 2 architecture (now (a .entry)) (now (z .exit))
-        ≡ ends answer next (filter 2 architecture (now (a .entry)) (now (z .entry))) (now (xs .entry)))
-        × (now (ys .exit)
-        ≡ scan answer next (filter 2 architecture (now (a .entry)) (now (z .entry))) (now (xs .entry))) ⌝ }
+    ensures { λ _. ⌜ Filters (filter 2 architecture (now (a .entry)) (now (z .entry)))
+        (now (xs .entry)) (now (z .exit)) (now (ys .exit)) ⌝ }
 {
     match architecture {
         0xaa => run_two(architecture, a, z, xs, ys),
@@ -181,10 +159,8 @@ fn run_block(
     ys: &mut [i32],
 )
     requires { ⌜ (sections ≤ 8) × (length (now z) ≡ 8) × (length (now xs) ≡ length (now ys)) ⌝ }
-    ensures { λ r. ⌜ (filter sections architecture (now (a .entry)) (now (z .exit))
-        ≡ ends answer next (filter sections architecture (now (a .entry)) (now (z .entry))) (now (xs .entry)))
-        × (now (ys .exit)
-        ≡ scan answer next (filter sections architecture (now (a .entry)) (now (z .entry))) (now (xs .entry))) ⌝ }
+    ensures { λ _. ⌜ Filters (filter sections architecture (now (a .entry)) (now (z .entry)))
+        (now (xs .entry)) (now (z .exit)) (now (ys .exit)) ⌝ }
 {
     if sections == 2 {
         run_by_pair(architecture, a, z, xs, ys);
@@ -253,7 +229,8 @@ impl Wdf {
     // Takes the inputs in turn and writes their outputs.
     // 31 where the slices differ in length, then 50 and 51: nothing is written or changed.
     pub fn block(self, xs: &[i32], ys: &mut [i32]) -> Answer
-        ensures { λ r. ⌜ Blocked (number self) answer next self (now (xs .entry)) (now (ys .entry)) (r .state) (r .verdict) (now (ys .exit)) ⌝ }
+        ensures { λ r. ⌜ Blocked (number self) answer next self (now (xs .entry)) (now (ys .entry))
+            (r .state) (r .verdict) (now (ys .exit)) ⌝ }
     {
         if xs.len() != ys.len() {
             return Answer {

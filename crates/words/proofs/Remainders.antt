@@ -3,7 +3,9 @@ use mathlib.Core.Path.{_≡_, refl, sym, ap, _∙_}
 use mathlib.Core.Logic.{_⊎_, inl, inr, ⊎-elim}
 use mathlib.Core.Bool.{Bool, true, false}
 use Prim.Native.Nat.{ℕ, zero, suc, _+_, _-_, _*_, _/_, _%_, _<_, _≤_}
-use native.Mathlib.Nat.{add-mod, add-mod-right, mul-mod-left, mod-eq-of-lt, mod-eq-sub-mod, mod-lt, div-add-mod', mod-mod, mod-add-mod, add-mod-mod, mul-comm, mul-assoc, add-mul, mul-add, zero-mod, suc-mul, zero-mul, mul-add-mod-self-right}
+use native.Mathlib.Nat.{add-mod, add-mod-right, mul-mod-left, mod-eq-of-lt, mod-eq-sub-mod, mod-lt, div-add-mod', mod-mod}
+use native.Mathlib.Nat.{mod-add-mod, add-mod-mod, mul-comm, mul-assoc, add-mul, mul-add, zero-mod, suc-mul, zero-mul}
+use native.Mathlib.Nat.{mul-add-mod-self-right}
 use native.Mathlib.Omega.{arith}
 use lib.Dec.{ltb}
 use lib.IntN.{ℤ, pos, negsuc, negℤ, subℕ, _+ℤ_, _*ℤ_}

@@ -1,6 +1,6 @@
 -- How large sums, differences, products and quotients of words are, and whole numbers counted from an offset,
 -- so that their sums and orders are omega's.
-use mathlib.Core.Path.{_≡_, refl, ap}
+use mathlib.Core.Path.{_≡_, refl}
 use mathlib.Core.Bool.{Bool, true, false}
 use Prim.Native.Nat.{ℕ, zero, suc, _+_, _-_, _*_, _^_, _<_, _≤_}
 use native.Mathlib.Nat.{mul-le-mul}

@@ -1,9 +1,9 @@
+-- The cells before i lie in range, so the test of all is the test of those from i on (inside-turn).
 use mathlib.Core.Path.{_≡_, refl, sym, _∙_}
 use mathlib.Core.Bool.{Bool, true, false, _&&_}
 use native.Mathlib.Numerals.{add-one}
 use lib.IntN.{pos}
 use mir.Syntax.{w16}
-use mir.Val.{toZ, ofZ}
 use borrow.Author.Tests.{not-true, not-false}
 use Rattle.words.proofs.Reading.{read}
 use Rattle.dsm.proofs.Ranges.{inside-turn, inside-none}
@@ -22,11 +22,14 @@ Inv-loop order c i₀ i =
 abbrev μ-loop : tie.MeasureT-loop
 μ-loop order c i₀ i = order - i
 
+abbrev at : tie.After-in-range Inv-loop μ-loop → tie.At-loop Inv-loop μ-loop
+at c = c .before .before .before
+
 turned : (c : tie.After-in-range Inv-loop μ-loop) (b : Bool) → c .in-range .result ≡ b
-    → insideFrom 0 (take (c .before .before .before .before .args .order - 1) (c .before .before .before .before .args .t1))
-    ≡ (b && insideFrom (suc (c .before .before .before .loop .i)) (slice (suc (c .before .before .before .loop .i)) (c .before .before .before .before .args .order - 1) (c .before .before .before .before .args .t1)))
+    → let k = at c in let n = k .before .args .order - 1 in let cells = k .before .args .t1 in
+    insideFrom 0 (take n cells) ≡ (b && insideFrom (suc (k .loop .i)) (slice (suc (k .loop .i)) n cells))
 turned c b e =
-    let k = c .before .before .before in let a = k .before .args in
+    let k = at c in let a = k .before .args in
     let x = getD (a .t1) (k .loop .i) (pos 0) in
     let f : inside (k .loop .i) x ≡ b = sym (rw (read w16 x (c .before .in-range-arg .given)) at (c .in-range .ensures)) ∙ e in
     inside-turn (a .order - 1) (k .loop .i) (a .t1) b (omega arith) (omega (arith, k .loop .inv)) (k .loop .inv .3) f
@@ -34,30 +37,12 @@ turned c b e =
 loop-holds : tie.Need-loop-holds Inv-loop μ-loop
 loop-holds c = let e : length (c .args .t1) ≡ 8 = c .good .0 .1 .0 .1 in (c .pre, e, omega arith, refl)
 
-add-loop : tie.Need-add-loop Inv-loop μ-loop
-add-loop c = omega arith
-
-mul-in-range : tie.Need-mul-in-range Inv-loop μ-loop
-mul-in-range c = omega arith
-
-array-copy-out-in-range : tie.Need-array-copy-out-in-range Inv-loop μ-loop
-array-copy-out-in-range c = omega arith
-
-in-range-requires : tie.Need-in-range-requires Inv-loop μ-loop
-in-range-requires c κs = omega arith
-
 returns : tie.Need-returns Inv-loop μ-loop
 returns c = sym (turned (c .before) false (not-true (c .before .in-range .result) (c .if1 .taken)))
 
-add-i : tie.Need-add-i Inv-loop μ-loop
-add-i c = omega arith
-
-loop-less : tie.Need-loop-less Inv-loop μ-loop
-loop-less c = omega arith
-
 loop-again : tie.Need-loop-again Inv-loop μ-loop
 loop-again c =
-    let l = c .before .before .before .before .loop in
+    let after-in-range-arg = c .before .before in let l = after-in-range-arg .before .before .loop in
     (l .inv .0, l .inv .1, omega arith, rw add-one (turned (c .before) true (not-false (c .before .in-range .result) (c .if1 .left))))
 
 returns-2 : tie.Need-returns-2 Inv-loop μ-loop
@@ -67,17 +52,5 @@ returns-2 c =
 
 pub cells-in-range-spec : {M : Type 1} → statement M
 cells-in-range-spec =
-    tie.close
-    (tie.spec
-    Inv-loop
-    μ-loop
-    loop-holds
-    add-loop
-    mul-in-range
-    array-copy-out-in-range
-    in-range-requires
-    returns
-    add-i
-    loop-less
-    loop-again
-    returns-2)
+    tie.close (tie.spec Inv-loop μ-loop loop-holds (λ c. omega arith) (λ c. omega arith) (λ c. omega arith)
+    (λ c κs. omega arith) returns (λ c. omega arith) (λ c. omega arith) loop-again returns-2)

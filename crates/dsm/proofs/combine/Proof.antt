@@ -1,3 +1,4 @@
+-- A chain over the retained cells whose y and cells stay in range (Combining), so no sum leaves 16 bits.
 use Prim.Native.Nat.{_-_, _^_, _<_, _≤_}
 use mathlib.Core.Path.{_≡_}
 use native.Mathlib.Omega.{arith}
@@ -33,9 +34,6 @@ cell-read : (c : tie.After-old Inv-loop μ-loop) → toZ w16 (ofZ w16 (getD (c .
     ≡ getD (c .before .before .loop .c) (c .before .before .loop .j) (pos 0)
 cell-read c = read w16 (getD (c .before .before .loop .c) (c .before .before .loop .j) (pos 0)) (c .old .given)
 
-bit-requires : tie.Need-bit-requires Inv-loop μ-loop
-bit-requires c κs = search needs
-
 loop-holds : tie.Need-loop-holds Inv-loop μ-loop
 loop-holds c =
     let s = c .before in let p = s .pre in (
@@ -43,21 +41,6 @@ loop-holds c =
       rw (read w16 (c .bit .result) (c .bit .ok), c .bit .ensures)
           (combining-start (s .args .order - 1) (s .args .d) (s .args .c .now) (omega arith) (omega (arith, p .2)) (p .3)),
     )
-
-add-loop : tie.Need-add-loop Inv-loop μ-loop
-add-loop c = omega arith
-
-mul-old : tie.Need-mul-old Inv-loop μ-loop
-mul-old c = omega arith
-
-element-copy-out-old : tie.Need-element-copy-out-old Inv-loop μ-loop
-element-copy-out-old c = omega arith
-
-mul-y : tie.Need-mul-y Inv-loop μ-loop
-mul-y c = omega arith
-
-element-set-from-y : tie.Need-element-set-from-y Inv-loop μ-loop
-element-set-from-y c = omega arith
 
 joined-requires : tie.Need-joined-requires Inv-loop μ-loop
 joined-requires c κs =
@@ -67,42 +50,25 @@ joined-requires c κs =
     let p : 2 ^ l .j ≤ 64 = pow-mono {j = 6} (omega arith) in
     (omega arith, rw (cell-read c) (omega arith))
 
-add-j : tie.Need-add-j Inv-loop μ-loop
-add-j c = omega arith
-
-loop-less : tie.Need-loop-less Inv-loop μ-loop
-loop-less c = omega arith
-
 loop-again : tie.Need-loop-again Inv-loop μ-loop
 loop-again c =
-    let l = c .before .before .before .loop in let s = c .before .before .before .before .before in (
+    let at = c .before .before .before in let l = at .loop in let s = at .before .before in (
       l .inv .0,
       rw (read w16 (c .joined .result) (c .joined .ok), c .joined .ensures, cell-read (c .before))
-          (combining-turn (s .args .order - 1) (s .args .d) (s .args .c .now) (omega (arith, s .pre)) (omega (arith, s .pre)) (l .c) (l .left) (toZ w16 (l .y)) (l .j)
+          (combining-turn (s .args .order - 1) (s .args .d) (s .args .c .now) (omega (arith, s .pre)) (omega (arith, s .pre)) (l .c)
+          (l .left) (toZ w16 (l .y)) (l .j)
           (fewer (c .before .before)) (l .inv .1)),
     )
 
 returns : tie.Need-returns Inv-loop μ-loop
 returns c =
     let l = c .before .loop in let s = c .before .before .before in
-    combining-end (s .args .order) (s .args .d) (s .args .c .now) (l .c) (l .left) (toZ w16 (l .y)) (l .j) (s .pre .0) (s .pre .1) (omega (arith, s .pre))
+    combining-end (s .args .order) (s .args .d) (s .args .c .now) (l .c) (l .left) (toZ w16 (l .y)) (l .j) (s .pre .0) (s .pre .1)
+    (omega (arith, s .pre))
     (c .loop-test .left) (l .inv .1)
 
 pub combine-spec : {M : Type 1} → statement M
 combine-spec =
-    tie.close
-    (tie.spec
-    Inv-loop
-    μ-loop
-    bit-requires
-    loop-holds
-    add-loop
-    mul-old
-    element-copy-out-old
-    mul-y
-    element-set-from-y
-    joined-requires
-    add-j
-    loop-less
-    loop-again
-    returns)
+    tie.close (tie.spec Inv-loop μ-loop (λ c κs. search needs) loop-holds (λ c. omega arith) (λ c. omega arith)
+    (λ c. omega arith) (λ c. omega arith) (λ c. omega arith) joined-requires (λ c. omega arith) (λ c. omega arith)
+    loop-again returns)

@@ -1,3 +1,4 @@
+-- Three numbers of at most 64 add up well inside 16 bits.
 use mathlib.Core.Path.{_≡_, _∙_}
 use Prim.Native.Nat.{_%_}
 use native.Mathlib.Omega.{arith}
@@ -22,9 +23,6 @@ all-fits c =
     let h = mag-add (pos (c .before .args .d % 2)) (c .before .args .y) in
     let k = mag-minus (pos (c .before .args .d % 2) +ℤ c .before .args .y) (c .before .args .retained) in
     record { sfits = omega arith }
-
-bit-requires : tie.Need-bit-requires
-bit-requires c κs = search needs
 
 add-result : tie.Need-add-result
 add-result c = rw (carry-read c, toZ-ofZ w16 (c .before .args .y) (c .before .fits .y)) (sum-fits c)
@@ -52,4 +50,4 @@ returns c =
     )
 
 pub joined-spec : {M : Type 1} → statement M
-joined-spec = tie.close (tie.spec bit-requires add-result sub-result returns)
+joined-spec = tie.close (tie.spec (λ c κs. search needs) add-result sub-result returns)

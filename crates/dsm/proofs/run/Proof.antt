@@ -1,4 +1,5 @@
-use mathlib.Core.Path.{_≡_, sym, _∙_}
+-- What is written and what the rest would give are the whole (Running).
+use mathlib.Core.Path.{sym, _∙_}
 use Prim.Native.Nat.{_-_}
 use lib.ListN.{length}
 use mir.Syntax.{w16}
@@ -18,34 +19,19 @@ abbrev μ-loop : tie.MeasureT-loop
 loop-holds : tie.Need-loop-holds Inv-loop μ-loop
 loop-holds c =
     let a = c .before .args in let p = c .before .pre in
-    running-start (cells (a .order) (a .a .now) (a .c .now)) (a .xs .now) (p .accepted) (a .ys .now) (sym (p .alike)) (p .accumulators) (p .retained)
-
-mul-turn : tie.Need-mul-turn Inv-loop μ-loop
-mul-turn c = search needs
-
-shared-slice-read-turn : tie.Need-shared-slice-read-turn Inv-loop μ-loop
-shared-slice-read-turn c = search needs
+    running-start (cells (a .order) (a .a .now) (a .c .now)) (a .xs .now) (p .accepted) (a .ys .now) (sym (p .alike))
+    (p .accumulators) (p .retained)
 
 turn-requires : tie.Need-turn-requires Inv-loop μ-loop
 turn-requires c κs =
-    let l = c .before .before .before .before .loop in let s = c .before .before .before .before .before .before in let a = s .args in
-    running-ready (cells (a .order) (a .a .now) (a .c .now)) (a .xs .now) (s .pre .accepted) (l .ys) (cells (a .order) (l .a) (l .c)) (l .i) (l .inv)
-
-mul-y : tie.Need-mul-y Inv-loop μ-loop
-mul-y c = search needs
-
-slice-set-from-y : tie.Need-slice-set-from-y Inv-loop μ-loop
-slice-set-from-y c = search needs
-
-add-i : tie.Need-add-i Inv-loop μ-loop
-add-i c = search needs
-
-loop-less : tie.Need-loop-less Inv-loop μ-loop
-loop-less c = search needs
+    let turn = c .before .before .before in let l = turn .before .loop in let s = turn .before .before .before in let a = s .args in
+    running-ready (cells (a .order) (a .a .now) (a .c .now)) (a .xs .now) (s .pre .accepted) (l .ys) (cells (a .order) (l .a) (l .c))
+    (l .i) (l .inv)
 
 loop-again : tie.Need-loop-again Inv-loop μ-loop
 loop-again c =
-    let m = c .before .before .before .before in let l = m .before .loop in let s = m .before .before .before in let a = s .args in
+    let after-turn-arg2 = c .before .before in let m = after-turn-arg2 .before .before in let l = m .before .loop in
+    let s = m .before .before .before in let a = s .args in
     rw (read w16 (c .turn .result) (c .turn .ok))
     (running-turn (cells (a .order) (a .a .now) (a .c .now)) (a .xs .now) (s .pre .accepted) (l .ys) (cells (a .order) (l .a) (l .c)) (l .i)
     (c .turn .last .0) (c .turn .last .1 .0) (c .turn .result) (m .loop-test .taken) (l .inv) (c .turn .ensures))
@@ -61,18 +47,5 @@ returns c =
 
 pub run-spec : {M : Type 1} → statement M
 run-spec =
-    tie.close
-    (tie.spec
-    Inv-loop
-    μ-loop
-    loop-holds
-    mul-turn
-    shared-slice-read-turn
-    turn-requires
-    mul-y
-    slice-set-from-y
-    add-i
-    loop-less
-    loop-again
-    same-length
-    returns)
+    tie.close (tie.spec Inv-loop μ-loop loop-holds (λ c. search needs) (λ c. search needs) turn-requires
+    (λ c. search needs) (λ c. search needs) (λ c. search needs) (λ c. search needs) loop-again same-length returns)

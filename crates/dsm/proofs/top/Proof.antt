@@ -1,3 +1,4 @@
+-- 2^j is at most 128, so neither the shift nor the cast loses a bit.
 use mathlib.Core.Path.{_≡_}
 use Prim.Native.Nat.{_*_, _%_, _^_, _≤_}
 use native.Mathlib.Nat.{mod-eq-of-lt}
@@ -15,12 +16,6 @@ small c = pow-mono {j = 7} (c .pre)
 whole : (c : tie.Start) → 1 * 2 ^ c .args .j % 2 ^ 32 ≡ 2 ^ c .args .j
 whole c = let h = small c in let e : 1 * 2 ^ c .args .j ≡ 2 ^ c .args .j = omega arith in rw e (mod-eq-of-lt (omega arith))
 
-cast-result : tie.Need-cast-result
-cast-result c = search needs
-
-shl-result : tie.Need-shl-result
-shl-result c = search needs
-
 cast-result-2 : tie.Need-cast-result-2
 cast-result-2 c = rw (whole c) (record { sfits = omega (arith, small c) })
 
@@ -28,4 +23,4 @@ returns : tie.Need-returns
 returns c = rw (whole c) (toZ-pos w16 (2 ^ c .args .j) (omega (arith, small c)))
 
 pub top-spec : {M : Type 1} → statement M
-top-spec = tie.close (tie.spec cast-result shl-result cast-result-2 returns)
+top-spec = tie.close (tie.spec (λ c. search needs) (λ c. search needs) cast-result-2 returns)

@@ -1,15 +1,10 @@
+-- The carries that the accumulators leave as bits are those that the retained cells meet.
 use mathlib.Core.Path.{_∙_}
 use mir.Syntax.{w16}
 use Rattle.words.proofs.Reading.{read}
 use borrow.Author.Needs.{needs}
 use Rattle.dsm.proofs.turn.Statement.{statement}
 use Rattle.dsm.proofs.turn.Tie as tie
-
-accumulate-requires : tie.Need-accumulate-requires
-accumulate-requires c κs = search needs
-
-combine-requires : tie.Need-combine-requires
-combine-requires c κs = search needs
 
 returns : tie.Need-returns
 returns c =
@@ -23,4 +18,4 @@ returns c =
     }
 
 pub turn-spec : {M : Type 1} → statement M
-turn-spec = tie.close (tie.spec accumulate-requires combine-requires returns)
+turn-spec = tie.close (tie.spec (λ c κs. search needs) (λ c κs. search needs) returns)

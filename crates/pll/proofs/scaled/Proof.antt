@@ -1,3 +1,4 @@
+-- A word times a word of 32 bits fits 64 (low-fits), so the shift is the definition's floor.
 use Prim.Native.Nat.{_^_}
 use lib.IntN.{pos, _*ℤ_}
 use lib.Signed.{shrZ, mag-shr}
@@ -9,15 +10,6 @@ use Rattle.words.proofs.Reading.{read}
 use Rattle.pll.proofs.Sums.{low-fits}
 use Rattle.pll.proofs.scaled.Statement.{statement}
 use Rattle.pll.proofs.scaled.Tie as tie
-
-i32-as-i64-requires : tie.Need-i32-as-i64-requires
-i32-as-i64-requires c κs = search needs
-
-i64-as-u32-requires : tie.Need-i64-as-u32-requires
-i64-as-u32-requires c κs = search needs
-
-u32-as-i64-requires : tie.Need-u32-as-i64-requires
-u32-as-i64-requires c κs = search needs
 
 mul-low : tie.Need-mul-low
 mul-low c =
@@ -32,15 +24,6 @@ mul-low c =
       toZ-ofZ w64 (s .args .f0) (s .fits .f0),
     )
     (low-fits (s .args .a1) (s .args .f0) (s .fits .a1))
-
-i64-high-requires : tie.Need-i64-high-requires
-i64-high-requires c κs = search needs
-
-product-requires : tie.Need-product-requires
-product-requires c κs = search needs
-
-add-i64-requires : tie.Need-add-i64-requires
-add-i64-requires c κs = search needs
 
 returns : tie.Need-returns
 returns c =
@@ -73,13 +56,5 @@ returns c =
 
 pub scaled-spec : {M : Type 1} → statement M
 scaled-spec =
-    tie.close
-    (tie.spec
-    i32-as-i64-requires
-    i64-as-u32-requires
-    u32-as-i64-requires
-    mul-low
-    i64-high-requires
-    product-requires
-    add-i64-requires
-    returns)
+    tie.close (tie.spec (λ c κs. search needs) (λ c κs. search needs) (λ c κs. search needs) mul-low
+    (λ c κs. search needs) (λ c κs. search needs) (λ c κs. search needs) returns)

@@ -1,11 +1,9 @@
+-- The phase is handed on; the frequency's bits are read as signed.
 use borrow.Author.Needs.{needs}
 use mir.Syntax.{w32}
 use Rattle.words.proofs.Reading.{read}
 use Rattle.rpll.proofs.given.Statement.{statement}
 use Rattle.rpll.proofs.given.Tie as tie
-
-u32-as-i32-requires : tie.Need-u32-as-i32-requires
-u32-as-i32-requires c κs = search needs
 
 returns : tie.Need-returns
 returns c =
@@ -17,4 +15,4 @@ returns c =
     )
 
 pub given-spec : {M : Type 1} → statement M
-given-spec = tie.close (tie.spec u32-as-i32-requires returns)
+given-spec = tie.close (tie.spec (λ c κs. search needs) returns)

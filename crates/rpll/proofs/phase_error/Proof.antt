@@ -1,3 +1,4 @@
+-- Each value is read back as its number; wraps inside the product and the difference fall away (Rounding).
 use mathlib.Core.Path.{_∙_}
 use native.Mathlib.Omega.{arith}
 use lib.Pow.{pow-pos}
@@ -9,37 +10,10 @@ use Rattle.rpll.proofs.Rounding.{bit, miss}
 use Rattle.rpll.proofs.phase_error.Statement.{statement}
 use Rattle.rpll.proofs.phase_error.Tie as tie
 
-sub-i32-requires : tie.Need-sub-i32-requires
-sub-i32-requires c κs = search needs
-
-i32-as-u32-requires : tie.Need-i32-as-u32-requires
-i32-as-u32-requires c κs = search needs
-
-shl-u32-requires : tie.Need-shl-u32-requires
-shl-u32-requires c κs = search needs
-
 rem-dt : tie.Need-rem-dt
 rem-dt c =
     let a = c .before .before .before .args in
     rw (c .shl-u32 .ensures, bit (a .dt2) (omega arith)) (pow-pos (a .dt2))
-
-shr-u32-requires : tie.Need-shr-u32-requires
-shr-u32-requires c κs = search needs
-
-mul-u32-requires : tie.Need-mul-u32-requires
-mul-u32-requires c κs = search needs
-
-u32-as-i32-requires : tie.Need-u32-as-i32-requires
-u32-as-i32-requires c κs = search needs
-
-sub-i32-requires-2 : tie.Need-sub-i32-requires-2
-sub-i32-requires-2 c κs = search needs
-
-sub-shr-i32 : tie.Need-sub-shr-i32
-sub-shr-i32 c = search needs
-
-shr-i32-requires : tie.Need-shr-i32-requires
-shr-i32-requires c κs = search needs
 
 returns : tie.Need-returns
 returns c =
@@ -72,16 +46,6 @@ returns c =
 
 pub phase-error-spec : {M : Type 1} → statement M
 phase-error-spec =
-    tie.close
-    (tie.spec
-    sub-i32-requires
-    i32-as-u32-requires
-    shl-u32-requires
-    rem-dt
-    shr-u32-requires
-    mul-u32-requires
-    u32-as-i32-requires
-    sub-i32-requires-2
-    sub-shr-i32
-    shr-i32-requires
-    returns)
+    tie.close (tie.spec (λ c κs. search needs) (λ c κs. search needs) (λ c κs. search needs) rem-dt
+    (λ c κs. search needs) (λ c κs. search needs) (λ c κs. search needs) (λ c κs. search needs) (λ c. search needs)
+    (λ c κs. search needs) returns)

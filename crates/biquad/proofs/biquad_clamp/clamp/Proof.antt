@@ -1,3 +1,4 @@
+-- The two tests are the definition's.
 use Rattle.biquad.specs.Forms.{clampTo}
 use Rattle.biquad.proofs.biquad_clamp.clamp.Statement.{statement}
 use Rattle.biquad.proofs.biquad_clamp.clamp.Tie as tie

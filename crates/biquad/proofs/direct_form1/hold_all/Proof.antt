@@ -19,55 +19,18 @@ abbrev μ-loop : tie.MeasureT-loop
 loop-holds : tie.Need-loop-holds Inv-loop μ-loop
 loop-holds c = start _ _ _ _ _ (sym (c .before .before .pre))
 
-mul-held : tie.Need-mul-held Inv-loop μ-loop
-mul-held c = search needs
-
-shared-slice-read-held : tie.Need-shared-slice-read-held Inv-loop μ-loop
-shared-slice-read-held c = omega arith
-
-held-requires : tie.Need-held-requires Inv-loop μ-loop
-held-requires c κs = search needs
-
-mul-ys : tie.Need-mul-ys Inv-loop μ-loop
-mul-ys c = search needs
-
-slice-write-ys : tie.Need-slice-write-ys Inv-loop μ-loop
-slice-write-ys c = omega arith
-
-add-i : tie.Need-add-i Inv-loop μ-loop
-add-i c = omega arith
-
-loop-less : tie.Need-loop-less Inv-loop μ-loop
-loop-less c = omega arith
-
 loop-again : tie.Need-loop-again Inv-loop μ-loop
 loop-again c =
-    let head = c .before .before .before .before in
+    let test = c .before .before .before in let head = test .before in
     let a = head .before .before .before .args in
     rw (c .before .held .ensures)
     (turn (held1 (a .c)) (onward1 (a .c)) (a .s) (a .xs .now) (head .loop .ys) (head .loop .t) (head .loop .i) nan
-    (c .before .before .before .loop-test .taken) (head .loop .inv))
-
-same-length : tie.Need-same-length Inv-loop μ-loop
-same-length c = omega arith
+    (test .loop-test .taken) (head .loop .inv))
 
 returns : tie.Need-returns Inv-loop μ-loop
 returns c = done _ _ _ _ _ _ _ (c .loop-test .left) (c .before .loop .inv)
 
 pub hold-all-spec : {M : Type 1} → statement M
 hold-all-spec =
-    tie.close
-    (tie.spec
-    Inv-loop
-    μ-loop
-    loop-holds
-    mul-held
-    shared-slice-read-held
-    held-requires
-    mul-ys
-    slice-write-ys
-    add-i
-    loop-less
-    loop-again
-    same-length
-    returns)
+    tie.close (tie.spec Inv-loop μ-loop loop-holds (λ c. search needs) (λ c. omega arith) (λ c κs. search needs)
+    (λ c. search needs) (λ c. omega arith) (λ c. omega arith) (λ c. omega arith) loop-again (λ c. omega arith) returns)

@@ -19,55 +19,18 @@ abbrev μ-loop : tie.MeasureT-loop
 loop-holds : tie.Need-loop-holds Inv-loop μ-loop
 loop-holds c = start _ _ _ _ _ (sym (c .before .before .pre))
 
-mul-process : tie.Need-mul-process Inv-loop μ-loop
-mul-process c = search needs
-
-shared-slice-read-process : tie.Need-shared-slice-read-process Inv-loop μ-loop
-shared-slice-read-process c = omega arith
-
-process-requires : tie.Need-process-requires Inv-loop μ-loop
-process-requires c κs = search needs
-
-mul-ys : tie.Need-mul-ys Inv-loop μ-loop
-mul-ys c = search needs
-
-slice-write-ys : tie.Need-slice-write-ys Inv-loop μ-loop
-slice-write-ys c = omega arith
-
-add-i : tie.Need-add-i Inv-loop μ-loop
-add-i c = omega arith
-
-loop-less : tie.Need-loop-less Inv-loop μ-loop
-loop-less c = omega arith
-
 loop-again : tie.Need-loop-again Inv-loop μ-loop
 loop-again c =
-    let head = c .before .before .before .before in
+    let test = c .before .before .before in let head = test .before in
     let a = head .before .before .before .args in
     rw (c .before .process .ensures)
     (turn (sum1 (a .c)) (next1 (a .c)) (a .s) (a .xs .now) (head .loop .ys) (head .loop .t) (head .loop .i) nan
-    (c .before .before .before .loop-test .taken) (head .loop .inv))
-
-same-length : tie.Need-same-length Inv-loop μ-loop
-same-length c = omega arith
+    (test .loop-test .taken) (head .loop .inv))
 
 returns : tie.Need-returns Inv-loop μ-loop
 returns c = done _ _ _ _ _ _ _ (c .loop-test .left) (c .before .loop .inv)
 
 pub process-all-spec : {M : Type 1} → statement M
 process-all-spec =
-    tie.close
-    (tie.spec
-    Inv-loop
-    μ-loop
-    loop-holds
-    mul-process
-    shared-slice-read-process
-    process-requires
-    mul-ys
-    slice-write-ys
-    add-i
-    loop-less
-    loop-again
-    same-length
-    returns)
+    tie.close (tie.spec Inv-loop μ-loop loop-holds (λ c. search needs) (λ c. omega arith) (λ c κs. search needs)
+    (λ c. search needs) (λ c. omega arith) (λ c. omega arith) (λ c. omega arith) loop-again (λ c. omega arith) returns)

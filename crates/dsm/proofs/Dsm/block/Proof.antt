@@ -1,8 +1,7 @@
+-- Each early return is one of the numbers in ascending order (Refusals, Ways); else the modulated run is the promise.
 use mathlib.Core.Path.{_≡_, sym, _∙_}
 use mathlib.Core.Bool.{true}
-use Prim.Native.Nat.{_-_}
 use native.Mathlib.Omega.{arith}
-use lib.ListN.{take}
 use borrow.Author.Tests.{not-true, not-false}
 use Rattle.dsm.proofs.Refusals.{lying, none, block-over, block-unlike, block-stray, block-none}
 use Rattle.dsm.proofs.Ways.{block-refused, block-done}
@@ -10,7 +9,10 @@ use borrow.Author.Needs.{needs}
 use Rattle.dsm.proofs.Dsm.block.Statement.{statement}
 use Rattle.dsm.proofs.Dsm.block.Tie as tie
 
-found : (c : tie.Else3) → lying (c .before .before .before .before .before .before .args .self) ≡ true
+abbrev begin : tie.Else3 → tie.Start
+begin c = let alike = c .before .before .before in alike .before .before .before
+
+found : (c : tie.Else3) → lying (begin c .args .self) ≡ true
 found c = sym (c .before .cells-in-range .ensures) ∙ not-false (c .before .cells-in-range .result) (c .if3 .left)
 
 returns : tie.Need-returns
@@ -24,9 +26,6 @@ returns-2 c =
     block-refused (a .self) (a .xs .now) (a .ys .now) 31
     (block-unlike (a .self) (a .xs .now) (a .ys .now) (c .before .if1 .left) (c .if2 .taken)) (λ e. omega arith)
 
-cells-in-range-requires : tie.Need-cells-in-range-requires
-cells-in-range-requires c κs = search needs
-
 returns-3 : tie.Need-returns-3
 returns-3 c =
     let k = c .before .before .before in let a = k .before .before .before .args in
@@ -36,11 +35,8 @@ returns-3 c =
 
 modulate-requires : tie.Need-modulate-requires
 modulate-requires c κs =
-    let k = c .before .before .before .before in
+    let after-cells-in-range = c .before .before in let k = after-cells-in-range .before .before in
     (k .if2 .left, none (k .before .before .before .args .self) (k .before .if1 .left) (found (c .before)))
-
-same-length : tie.Need-same-length
-same-length c = search needs
 
 returns-4 : tie.Need-returns-4
 returns-4 c =
@@ -50,5 +46,5 @@ returns-4 c =
 
 pub block-spec : {M : Type 1} → statement M
 block-spec =
-    tie.close
-    (tie.spec returns returns-2 cells-in-range-requires returns-3 modulate-requires same-length returns-4)
+    tie.close (tie.spec returns returns-2 (λ c κs. search needs) returns-3 modulate-requires (λ c. search needs)
+    returns-4)

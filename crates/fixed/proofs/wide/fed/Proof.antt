@@ -1,3 +1,4 @@
+-- The floor of a product is that of its low word's plus its high word's (Halves).
 use borrow.Author.Needs.{needs}
 use mir.Syntax.{w32, w64}
 use mir.ValLaws.{toZ-ofZ}
@@ -5,24 +6,6 @@ use Rattle.words.proofs.Reading.{read}
 use Rattle.fixed.proofs.Halves.{fed-is}
 use Rattle.fixed.proofs.wide.fed.Statement.{statement}
 use Rattle.fixed.proofs.wide.fed.Tie as tie
-
-low-product-requires : tie.Need-low-product-requires
-low-product-requires c κs = search needs
-
-shr-i64-requires : tie.Need-shr-i64-requires
-shr-i64-requires c κs = search needs
-
-i64-high-requires : tie.Need-i64-high-requires
-i64-high-requires c κs = search needs
-
-product-requires : tie.Need-product-requires
-product-requires c κs = search needs
-
-add-i64-requires : tie.Need-add-i64-requires
-add-i64-requires c κs = search needs
-
-add-i64-requires-2 : tie.Need-add-i64-requires-2
-add-i64-requires-2 c κs = search needs
 
 returns : tie.Need-returns
 returns c =
@@ -49,12 +32,5 @@ returns c =
 
 pub fed-spec : {M : Type 1} → statement M
 fed-spec =
-    tie.close
-    (tie.spec
-    low-product-requires
-    shr-i64-requires
-    i64-high-requires
-    product-requires
-    add-i64-requires
-    add-i64-requires-2
-    returns)
+    tie.close (tie.spec (λ c κs. search needs) (λ c κs. search needs) (λ c κs. search needs) (λ c κs. search needs)
+    (λ c κs. search needs) (λ c κs. search needs) returns)

@@ -1,3 +1,4 @@
+-- The low word read back through two casts.
 use borrow.Author.Needs.{needs}
 use mir.Syntax.{w64}
 use mir.ValLaws.{toZ-ofZ}
@@ -5,16 +6,16 @@ use Rattle.words.proofs.Reading.{read}
 use Rattle.fixed.proofs.wide.low_of.Statement.{statement}
 use Rattle.fixed.proofs.wide.low_of.Tie as tie
 
-i64-as-u32-requires : tie.Need-i64-as-u32-requires
-i64-as-u32-requires c κs = search needs
-
-u32-as-i64-requires : tie.Need-u32-as-i64-requires
-u32-as-i64-requires c κs = search needs
-
 returns : tie.Need-returns
 returns c =
     let k = c .before in let s = k .before in
-    rw (read w64 (c .u32-as-i64 .result) (c .u32-as-i64 .ok), c .u32-as-i64 .ensures, k .i64-as-u32 .ensures, toZ-ofZ w64 (s .args .y) (s .fits .y))
+    rw (
+      read w64 (c .u32-as-i64 .result) (c .u32-as-i64 .ok),
+      c .u32-as-i64 .ensures,
+      k .i64-as-u32 .ensures,
+      toZ-ofZ w64
+          (s .args .y) (s .fits .y),
+    )
 
 pub low-of-spec : {M : Type 1} → statement M
-low-of-spec = tie.close (tie.spec i64-as-u32-requires u32-as-i64-requires returns)
+low-of-spec = tie.close (tie.spec (λ c κs. search needs) (λ c κs. search needs) returns)

@@ -1,3 +1,4 @@
+-- A word of 32 bits times a coefficient fits 64 bits.
 use borrow.Author.Needs.{needs}
 use lib.IntN.{pos, _*ℤ_}
 use mir.Syntax.{w32, w64}
@@ -7,12 +8,6 @@ use Rattle.words.proofs.Reading.{read, word-fits}
 use Rattle.words.proofs.Sizes.{low-product-fits}
 use Rattle.fixed.proofs.wide.low_product.Statement.{statement}
 use Rattle.fixed.proofs.wide.low_product.Tie as tie
-
-low-of-requires : tie.Need-low-of-requires
-low-of-requires c κs = search needs
-
-i32-as-i64-requires : tie.Need-i32-as-i64-requires
-i32-as-i64-requires c κs = search needs
 
 mul-result : tie.Need-mul-result
 mul-result c =
@@ -41,4 +36,5 @@ returns c =
     )
 
 pub low-product-spec : {M : Type 1} → statement M
-low-product-spec = tie.close (tie.spec low-of-requires i32-as-i64-requires mul-result returns)
+low-product-spec =
+    tie.close (tie.spec (λ c κs. search needs) (λ c κs. search needs) mul-result returns)

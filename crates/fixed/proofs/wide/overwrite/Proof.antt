@@ -1,3 +1,4 @@
+-- A word above and a word below make a number of 64 bits, so nothing wraps (Halves).
 use borrow.Author.Needs.{needs}
 use mir.Syntax.{w32, w64}
 use mir.ValLaws.{toZ-ofZ}
@@ -5,18 +6,6 @@ use Rattle.words.proofs.Reading.{read}
 use Rattle.fixed.proofs.Halves.{overwritten-is}
 use Rattle.fixed.proofs.wide.overwrite.Statement.{statement}
 use Rattle.fixed.proofs.wide.overwrite.Tie as tie
-
-i32-as-i64-requires : tie.Need-i32-as-i64-requires
-i32-as-i64-requires c κs = search needs
-
-low-of-requires : tie.Need-low-of-requires
-low-of-requires c κs = search needs
-
-shl-i64-requires : tie.Need-shl-i64-requires
-shl-i64-requires c κs = search needs
-
-add-i64-requires : tie.Need-add-i64-requires
-add-i64-requires c κs = search needs
 
 returns : tie.Need-returns
 returns c =
@@ -38,5 +27,5 @@ returns c =
 
 pub overwrite-spec : {M : Type 1} → statement M
 overwrite-spec =
-    tie.close
-    (tie.spec i32-as-i64-requires low-of-requires shl-i64-requires add-i64-requires returns)
+    tie.close (tie.spec (λ c κs. search needs) (λ c κs. search needs) (λ c κs. search needs) (λ c κs. search needs)
+    returns)

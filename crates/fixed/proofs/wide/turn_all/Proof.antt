@@ -1,3 +1,4 @@
+-- What is written and what the rest would give are the whole (blocks Turns).
 use borrow.Author.Needs.{needs}
 use mathlib.Core.Path.{sym}
 use Prim.Native.Nat.{_-_}
@@ -20,26 +21,8 @@ abbrev μ-loop : tie.MeasureT-loop
 loop-holds : tie.Need-loop-holds Inv-loop μ-loop
 loop-holds c = start _ _ _ _ _ (sym (c .pre .0))
 
-mul-turn : tie.Need-mul-turn Inv-loop μ-loop
-mul-turn c = search needs
-
-shared-slice-copy-out-turn : tie.Need-shared-slice-copy-out-turn Inv-loop μ-loop
-shared-slice-copy-out-turn c = search needs
-
 turn-requires : tie.Need-turn-requires Inv-loop μ-loop
 turn-requires c κs = c .before .before .before .pre .1
-
-mul-y : tie.Need-mul-y Inv-loop μ-loop
-mul-y c = search needs
-
-slice-set-from-y : tie.Need-slice-set-from-y Inv-loop μ-loop
-slice-set-from-y c = search needs
-
-add-i : tie.Need-add-i Inv-loop μ-loop
-add-i c = search needs
-
-loop-less : tie.Need-loop-less Inv-loop μ-loop
-loop-less c = search needs
 
 loop-again : tie.Need-loop-again Inv-loop μ-loop
 loop-again c =
@@ -47,7 +30,7 @@ loop-again c =
     let x = getD (a .xs .now) (at .loop .i) (pos 0) in
     let r = read w32 x (k .before .turn-arg .given) in
     rw (
-      read w32 (k .turn .result .y) (c .before .struct-told .given .0 .1),
+      read w32 (k .turn .result .y) (c .before .struct-told .given .1 .0 .1),
       k .turn .ensures .0,
       k .turn .ensures .1,
       r,
@@ -55,26 +38,11 @@ loop-again c =
     (turn (wideOut (a .c)) (wideNext (a .c)) (a .s) (a .xs .now) (at .loop .ys) (at .loop .t) (at .loop .i) (pos 0)
     (k .before .before .loop-test .taken) (at .loop .inv))
 
-same-length : tie.Need-same-length Inv-loop μ-loop
-same-length c = omega arith
-
 returns : tie.Need-returns Inv-loop μ-loop
 returns c = done _ _ _ _ _ _ _ (c .loop-test .left) (c .before .loop .inv)
 
 pub turn-all-spec : {M : Type 1} → statement M
 turn-all-spec =
-    tie.close
-    (tie.spec
-    Inv-loop
-    μ-loop
-    loop-holds
-    mul-turn
-    shared-slice-copy-out-turn
-    turn-requires
-    mul-y
-    slice-set-from-y
-    add-i
-    loop-less
-    loop-again
-    same-length
+    tie.close (tie.spec Inv-loop μ-loop loop-holds (λ c. search needs) (λ c. search needs) turn-requires
+    (λ c. search needs) (λ c. search needs) (λ c. search needs) (λ c. search needs) loop-again (λ c. omega arith)
     returns)

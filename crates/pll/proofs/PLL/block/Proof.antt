@@ -1,3 +1,4 @@
+-- The slices differ in length, or the loop's promise is the block's (blocks Ways).
 use mathlib.Core.Path.{refl}
 use borrow.Author.Needs.{needs}
 use Rattle.blocks.proofs.Ways.{unlike, taken}
@@ -10,17 +11,11 @@ returns c =
     let a = c .before .args in
     unlike 0 (trackedPhase (a .self)) (trackedNext (a .self)) (a .state) (a .xs .now) (a .ys .now) (c .if1 .taken)
 
-track-all-requires : tie.Need-track-all-requires
-track-all-requires c κs = search needs
-
-same-length : tie.Need-same-length
-same-length c = search needs
-
 returns-2 : tie.Need-returns-2
 returns-2 c =
-    let k = c .before in let a = c .before .before .before .before .args in
+    let k = c .before in let a = k .before .before .before .args in
     taken 0 (trackedPhase (a .self)) (trackedNext (a .self)) (a .state) (a .xs .now) (a .ys .now)
     (k .track-all .result) _ (search needs) refl (k .track-all .ensures .0) (k .track-all .ensures .1)
 
 pub block-spec : {M : Type 1} → statement M
-block-spec = tie.close (tie.spec returns track-all-requires same-length returns-2)
+block-spec = tie.close (tie.spec returns (λ c κs. search needs) (λ c. search needs) returns-2)

@@ -1,3 +1,4 @@
+-- Wraps inside a wrapped sum fall away (Sums).
 use borrow.Author.Needs.{needs}
 use mir.Syntax.{w32, w64}
 use mir.ValLaws.{toZ-ofZ}
@@ -5,24 +6,6 @@ use Rattle.words.proofs.Reading.{read}
 use Rattle.pll.proofs.Sums.{lead}
 use Rattle.pll.proofs.PLL.lead_lag.Statement.{statement}
 use Rattle.pll.proofs.PLL.lead_lag.Tie as tie
-
-product-requires : tie.Need-product-requires
-product-requires c κs = search needs
-
-product-requires-2 : tie.Need-product-requires-2
-product-requires-2 c κs = search needs
-
-add-i64-requires : tie.Need-add-i64-requires
-add-i64-requires c κs = search needs
-
-scaled-requires : tie.Need-scaled-requires
-scaled-requires c κs = search needs
-
-add-i64-requires-2 : tie.Need-add-i64-requires-2
-add-i64-requires-2 c κs = search needs
-
-add-i64-requires-3 : tie.Need-add-i64-requires-3
-add-i64-requires-3 c κs = search needs
 
 returns : tie.Need-returns
 returns c =
@@ -57,12 +40,5 @@ returns c =
 
 pub lead-lag-spec : {M : Type 1} → statement M
 lead-lag-spec =
-    tie.close
-    (tie.spec
-    product-requires
-    product-requires-2
-    add-i64-requires
-    scaled-requires
-    add-i64-requires-2
-    add-i64-requires-3
-    returns)
+    tie.close (tie.spec (λ c κs. search needs) (λ c κs. search needs) (λ c κs. search needs) (λ c κs. search needs)
+    (λ c κs. search needs) (λ c κs. search needs) returns)

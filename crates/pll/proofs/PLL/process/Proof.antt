@@ -1,3 +1,4 @@
+-- Each value of the code is read back as its number, from the last to the first; together they are the definition.
 use borrow.Author.Needs.{needs}
 use lib.Signed.{shrZ, mag-shr}
 use mir.Syntax.{w32, w64}
@@ -7,24 +8,6 @@ use Rattle.words.proofs.Reading.{read}
 use Rattle.pll.specs.Loops.{trackedPhase, trackedNext}
 use Rattle.pll.proofs.PLL.process.Statement.{statement}
 use Rattle.pll.proofs.PLL.process.Tie as tie
-
-predict-requires : tie.Need-predict-requires
-predict-requires c κs = search needs
-
-add-i32-requires : tie.Need-add-i32-requires
-add-i32-requires c κs = search needs
-
-process-requires : tie.Need-process-requires
-process-requires c κs = search needs
-
-add-i32-requires-2 : tie.Need-add-i32-requires-2
-add-i32-requires-2 c κs = search needs
-
-lead-lag-requires : tie.Need-lead-lag-requires
-lead-lag-requires c κs = search needs
-
-add-i64-requires : tie.Need-add-i64-requires
-add-i64-requires c κs = search needs
 
 returns : tie.Need-returns
 unfolding trackedPhase trackedNext
@@ -43,7 +26,7 @@ returns c =
     let s = g .before in
     let a = s .args in
     let z = e .process .result .y in
-    let b = h .struct-told2 .given .0 .1 in
+    let b = h .struct-told2 .given .1 .0 .1 in
     let k : SFits w32 z = record { sfits = b } in
     rw (
       read w64 (c .add-i64 .result) (c .add-i64 .ok),
@@ -58,7 +41,7 @@ returns c =
       read w32 (j .add-i32 .result) (j .add-i32 .ok),
       j .add-i32 .ensures,
       toZ-ofZ w32 (a .x) (s .fits .x),
-      read w32 (g .predict .result .y) (t .struct-told .given .0 .1),
+      read w32 (g .predict .result .y) (t .struct-told .given .1 .0 .1),
       g .predict .ensures,
       read w32 (a .state .z0) (z0 .struct-told3 .given .1 .0 .1),
       read w32 (a .state .y0) (y0 .struct-told5 .given .1 .1 .0 .1),
@@ -68,12 +51,5 @@ returns c =
 
 pub process-spec : {M : Type 1} → statement M
 process-spec =
-    tie.close
-    (tie.spec
-    predict-requires
-    add-i32-requires
-    process-requires
-    add-i32-requires-2
-    lead-lag-requires
-    add-i64-requires
-    returns)
+    tie.close (tie.spec (λ c κs. search needs) (λ c κs. search needs) (λ c κs. search needs) (λ c κs. search needs)
+    (λ c κs. search needs) (λ c κs. search needs) returns)

@@ -1,11 +1,9 @@
+-- The high word of the wide frequency by definition.
 use borrow.Author.Needs.{needs}
 use mir.Syntax.{w32, w64}
 use Rattle.words.proofs.Reading.{read}
 use Rattle.pll.proofs.PLLState.frequency.Statement.{statement}
 use Rattle.pll.proofs.PLLState.frequency.Tie as tie
-
-i64-high-requires : tie.Need-i64-high-requires
-i64-high-requires c κs = search needs
 
 returns : tie.Need-returns
 returns c =
@@ -17,4 +15,4 @@ returns c =
     )
 
 pub frequency-spec : {M : Type 1} → statement M
-frequency-spec = tie.close (tie.spec i64-high-requires returns)
+frequency-spec = tie.close (tie.spec (λ c κs. search needs) returns)

@@ -1,14 +1,9 @@
+-- The phase's sum is read back; every other field is handed on.
 use borrow.Author.Needs.{needs}
 use mir.Syntax.{w32, w64}
 use Rattle.words.proofs.Reading.{read}
 use Rattle.pll.proofs.PLLState.predict.Statement.{statement}
 use Rattle.pll.proofs.PLLState.predict.Tie as tie
-
-frequency-requires : tie.Need-frequency-requires
-frequency-requires c κs = search needs
-
-add-i32-requires : tie.Need-add-i32-requires
-add-i32-requires c κs = search needs
 
 returns : tie.Need-returns
 returns c =
@@ -27,4 +22,4 @@ returns c =
     )
 
 pub predict-spec : {M : Type 1} → statement M
-predict-spec = tie.close (tie.spec frequency-requires add-i32-requires returns)
+predict-spec = tie.close (tie.spec (λ c κs. search needs) (λ c κs. search needs) returns)

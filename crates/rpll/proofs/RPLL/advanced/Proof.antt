@@ -1,3 +1,4 @@
+-- The phase's sum is read back; every other field is handed on.
 use borrow.Author.Needs.{needs}
 use lib.IntN.{pos}
 use mir.Syntax.{w32}
@@ -5,12 +6,6 @@ use Rattle.words.proofs.Reading.{read}
 use Rattle.rpll.proofs.Coasting.{added}
 use Rattle.rpll.proofs.RPLL.advanced.Statement.{statement}
 use Rattle.rpll.proofs.RPLL.advanced.Tie as tie
-
-u32-as-i32-requires : tie.Need-u32-as-i32-requires
-u32-as-i32-requires c κs = search needs
-
-add-i32-requires : tie.Need-add-i32-requires
-add-i32-requires c κs = search needs
 
 returns : tie.Need-returns
 returns c =
@@ -26,4 +21,4 @@ returns c =
     )
 
 pub advanced-spec : {M : Type 1} → statement M
-advanced-spec = tie.close (tie.spec u32-as-i32-requires add-i32-requires returns)
+advanced-spec = tie.close (tie.spec (λ c κs. search needs) (λ c κs. search needs) returns)

@@ -1,3 +1,4 @@
+-- An accepted configuration is what both loops ask for (Ranges); their answers are the new frequencies.
 use borrow.Author.Needs.{needs}
 use mir.Syntax.{w32}
 use mir.ValLaws.{toZ-ofZ}
@@ -8,35 +9,17 @@ use Rattle.rpll.proofs.Coasting.{joined}
 use Rattle.rpll.proofs.RPLLConfig.taken.Statement.{statement}
 use Rattle.rpll.proofs.RPLLConfig.taken.Tie as tie
 
-cast-dt2 : tie.Need-cast-dt2
-cast-dt2 c = search needs
-
-sub-i32-requires : tie.Need-sub-i32-requires
-sub-i32-requires c κs = search needs
-
-cast-frequency-lock : tie.Need-cast-frequency-lock
-cast-frequency-lock c = search needs
-
 frequency-lock-requires : tie.Need-frequency-lock-requires
 frequency-lock-requires c κs =
-    let s = c .before .before .before .before in
+    let after-struct-told = c .before .before in let s = after-struct-told .before .before in
     let a = accepted (s .args .self) (s .pre) in
     (a .frequency-above, a .frequency-small)
 
-cast-phase-error : tie.Need-cast-phase-error
-cast-phase-error c = search needs
-
 phase-error-requires : tie.Need-phase-error-requires
 phase-error-requires c κs =
-    let s = c .before .before .before .before .before .before .before in
+    let locked = c .before .before .before in let after-struct-told = locked .before .before in let s = after-struct-told .before .before in
     let a = accepted (s .args .self) (s .pre) in
     (a .dt2-small, a .phase-above, a .phase-small)
-
-i32-as-u32-requires : tie.Need-i32-as-u32-requires
-i32-as-u32-requires c κs = search needs
-
-add-u32-requires : tie.Need-add-u32-requires
-add-u32-requires c κs = search needs
 
 returns : tie.Need-returns
 returns c =
@@ -65,14 +48,5 @@ returns c =
 
 pub taken-spec : {M : Type 1} → statement M
 taken-spec =
-    tie.close
-    (tie.spec
-    cast-dt2
-    sub-i32-requires
-    cast-frequency-lock
-    frequency-lock-requires
-    cast-phase-error
-    phase-error-requires
-    i32-as-u32-requires
-    add-u32-requires
-    returns)
+    tie.close (tie.spec (λ c. search needs) (λ c κs. search needs) (λ c. search needs) frequency-lock-requires
+    (λ c. search needs) phase-error-requires (λ c κs. search needs) (λ c κs. search needs) returns)

@@ -1,3 +1,4 @@
+-- The loop's two numbers stand for a state; what is written and what the rest would give are the whole (blocks Turns).
 use mathlib.Core.Path.{_≡_, sym}
 use Prim.Native.Nat.{ℕ, _-_}
 use native.Mathlib.Omega.{arith}
@@ -27,39 +28,15 @@ abbrev μ-loop : tie.MeasureT-loop
 loop-holds : tie.Need-loop-holds Inv-loop μ-loop
 loop-holds c = start _ _ _ _ _ (sym (c .before .pre))
 
-mul-x : tie.Need-mul-x Inv-loop μ-loop
-mul-x c = search needs
-
-shared-slice-copy-out-x : tie.Need-shared-slice-copy-out-x Inv-loop μ-loop
-shared-slice-copy-out-x c = search needs
-
-process-requires : tie.Need-process-requires Inv-loop μ-loop
-process-requires c κs = search needs
-
-mul-y : tie.Need-mul-y Inv-loop μ-loop
-mul-y c = search needs
-
-slice-set-from-y : tie.Need-slice-set-from-y Inv-loop μ-loop
-slice-set-from-y c = search needs
-
-add-i : tie.Need-add-i Inv-loop μ-loop
-add-i c = search needs
-
-loop-less : tie.Need-loop-less Inv-loop μ-loop
-loop-less c = search needs
-
 loop-again : tie.Need-loop-again Inv-loop μ-loop
 loop-again c =
-    let k = c .before .before in let l = c .before .before .before .before .before .loop in let a = c .before .before .before .before .before .before .before .args in
+    let k = c .before .before in let at = k .before .before .before in let l = at .loop in let a = at .before .before .args in
     let x = getD (a .xs .now) (l .i) (pos 0) in
     let b = read w32 x (k .before .x .given) in
     let e : k .process .result ≡ clampedOf (state (l .x0) (l .clamp)) x = rw b at (k .process .ensures) in
-    rw (read w32 (k .process .result .y) (c .before .struct-told2 .given .0 .1), e, b)
+    rw (read w32 (k .process .result .y) (c .before .struct-told2 .given .1 .0 .1), e, b)
     (turn clampOut clampNext (state (ofZ w32 (a .s .x0)) (a .s .clamp)) (a .xs .now) (l .ys) (state (l .x0) (l .clamp)) (l .i) (pos 0)
     (k .before .before .loop-test .taken) (l .inv))
-
-same-length : tie.Need-same-length Inv-loop μ-loop
-same-length c = omega arith
 
 returns : tie.Need-returns Inv-loop μ-loop
 returns c =
@@ -68,18 +45,6 @@ returns c =
 
 pub clamp-all-spec : {M : Type 1} → statement M
 clamp-all-spec =
-    tie.close
-    (tie.spec
-    Inv-loop
-    μ-loop
-    loop-holds
-    mul-x
-    shared-slice-copy-out-x
-    process-requires
-    mul-y
-    slice-set-from-y
-    add-i
-    loop-less
-    loop-again
-    same-length
+    tie.close (tie.spec Inv-loop μ-loop loop-holds (λ c. search needs) (λ c. search needs) (λ c κs. search needs)
+    (λ c. search needs) (λ c. search needs) (λ c. search needs) (λ c. search needs) loop-again (λ c. omega arith)
     returns)

@@ -1,3 +1,4 @@
+-- Each test of the shift is the definition's; the rest is the callee's promise.
 use borrow.Author.Tests.{eq-eqb, ne-eqb, lt-ltb, le-ltb}
 use mir.Syntax.{w32}
 use mir.ValLaws.{toZ-ofZ}
@@ -15,9 +16,6 @@ returns-2 : tie.Need-returns-2
 unfolding scaledOf
 returns-2 c = rw (ne-eqb _ _ (c .before .if1 .left), lt-ltb _ _ (c .if2 .taken))
 
-extend-requires : tie.Need-extend-requires
-extend-requires c κs = search needs
-
 returns-3 : tie.Need-returns-3
 unfolding scaledOf
 returns-3 c =
@@ -31,9 +29,6 @@ returns-3 c =
       le-ltb 32 (a .shift) (k .before .if2 .left),
       eq-eqb (a .shift) 32 (k .if3 .taken),
     )
-
-clip-requires : tie.Need-clip-requires
-clip-requires c κs = search needs
 
 returns-4 : tie.Need-returns-4
 unfolding scaledOf
@@ -51,4 +46,4 @@ returns-4 c =
 
 pub saturating-scale-spec : {M : Type 1} → statement M
 saturating-scale-spec =
-    tie.close (tie.spec returns returns-2 extend-requires returns-3 clip-requires returns-4)
+    tie.close (tie.spec returns returns-2 (λ c κs. search needs) returns-3 (λ c κs. search needs) returns-4)

@@ -1,3 +1,4 @@
+-- The signs of the wrapped difference and of y - x tell the wrap's direction (Turning).
 use borrow.Author.Needs.{needs}
 use mathlib.Core.Path.{_≡_}
 use mathlib.Core.Bool.{Bool, true, false}
@@ -18,7 +19,12 @@ use Rattle.unwrap.proofs.wrapping.overflowing_sub.Tie as tie
 delta : (c : tie.After-sub-i32) → toZ w32 (ofZ w32 (c .sub-i32 .result)) ≡ wrap w32 (c .before .args .y -ℤ c .before .args .x)
 delta c =
     let s = c .before in
-    rw (read w32 (c .sub-i32 .result) (c .sub-i32 .ok), c .sub-i32 .ensures, toZ-ofZ w32 (s .args .y) (s .fits .y), toZ-ofZ w32 (s .args .x) (s .fits .x))
+    rw (
+      read w32 (c .sub-i32 .result) (c .sub-i32 .ok),
+      c .sub-i32 .ensures,
+      toZ-ofZ w32 (s .args .y) (s .fits .y),
+      toZ-ofZ w32 (s .args .x) (s .fits .x),
+    )
 
 -- by the two tests
 found : (c : tie.After-sub-i32) (b d : Bool) → ltZ (toZ w32 (ofZ w32 (c .sub-i32 .result))) (pos 0) ≡ b
@@ -30,12 +36,10 @@ found c b d p q =
     (rw (toZ-ofZ w32 (s .args .y) (s .fits .y), toZ-ofZ w32 (s .args .x) (s .fits .x)) at q)
 
 pair : (c : tie.After-sub-i32) {w : Wrap} → w ≡ differenceOf (c .before .args .y) (c .before .args .x) .wrap
-    → _≡_ {A = Difference} (record { delta = toZ w32 (ofZ w32 (c .sub-i32 .result)); wrap = w }) (differenceOf (c .before .args .y) (c .before .args .x))
+    → _≡_ {A = Difference} (record { delta = toZ w32 (ofZ w32 (c .sub-i32 .result)); wrap = w })
+    (differenceOf (c .before .args .y) (c .before .args .x))
 unfolding differenceOf
 pair c e = rw (delta c, e)
-
-sub-i32-requires : tie.Need-sub-i32-requires
-sub-i32-requires c κs = search needs
 
 returns : tie.Need-returns
 returns c = let k = c .before .before in pair k (found k true true (c .before .if1 .taken) (c .if2 .taken))
@@ -50,4 +54,5 @@ returns-4 : tie.Need-returns-4
 returns-4 c = let k = c .before .before in pair k (found k false false (c .before .if1 .left) (c .if3 .left))
 
 pub overflowing-sub-spec : {M : Type 1} → statement M
-overflowing-sub-spec = tie.close (tie.spec sub-i32-requires returns returns-2 returns-3 returns-4)
+overflowing-sub-spec =
+    tie.close (tie.spec (λ c κs. search needs) returns returns-2 returns-3 returns-4)

@@ -1,3 +1,4 @@
+-- A chain over the sections: what a section gives back goes to the cell before it (Passes).
 use borrow.Author.Needs.{needs}
 use mathlib.Core.Path.{_≡_, refl, _∙_}
 use Prim.Native.Nat.{_+_, _-_, _≤_}
@@ -26,18 +27,6 @@ returns : tie.Need-returns Inv-loop μ-loop
 unfolding sectionsOf passed
 returns c = rw (c .if1 .taken, toZ-ofZ w32 (c .before .args .x) (c .before .fits .x)) (refl, refl)
 
-sub-last : tie.Need-sub-last Inv-loop μ-loop
-sub-last c = search needs
-
-element-copy-out-section : tie.Need-element-copy-out-section Inv-loop μ-loop
-element-copy-out-section c = search needs
-
-element-copy-out-section-2 : tie.Need-element-copy-out-section-2 Inv-loop μ-loop
-element-copy-out-section-2 c = search needs
-
-section-requires : tie.Need-section-requires Inv-loop μ-loop
-section-requires c κs = search needs
-
 loop-holds : tie.Need-loop-holds Inv-loop μ-loop
 loop-holds c =
     let k = c .before in let f = k .before in let h = f .before in let s = h .before .before in let a = s .args in
@@ -53,37 +42,11 @@ loop-holds c =
           (begin (a .sections - 1) (a .architecture) (a .a .now) (a .z .now) (toZ w32 (ofZ w32 (a .x))) (omega arith) p e),
     )
 
-add-at : tie.Need-add-at Inv-loop μ-loop
-add-at c = search needs
-
-mul-section : tie.Need-mul-section Inv-loop μ-loop
-mul-section c = search needs
-
-element-copy-out-section-3 : tie.Need-element-copy-out-section-3 Inv-loop μ-loop
-element-copy-out-section-3 c = search needs
-
-mul-section-2 : tie.Need-mul-section-2 Inv-loop μ-loop
-mul-section-2 c = search needs
-
-element-copy-out-section-4 : tie.Need-element-copy-out-section-4 Inv-loop μ-loop
-element-copy-out-section-4 c = search needs
-
-section-requires-2 : tie.Need-section-requires-2 Inv-loop μ-loop
-section-requires-2 c κs = search needs
-
-mul-back : tie.Need-mul-back Inv-loop μ-loop
-mul-back c = search needs
-
-element-set-from-back : tie.Need-element-set-from-back Inv-loop μ-loop
-element-set-from-back c = search needs
-
-loop-less : tie.Need-loop-less Inv-loop μ-loop
-loop-less c = search needs
-
 loop-again : tie.Need-loop-again Inv-loop μ-loop
 loop-again c =
     let q = c .before in let k = q .before in let f = k .before in let h = f .before in let m = h .before in let at = m .before in
-    let l = at .loop in let s = at .before .before .before .before .before .before in let a = s .args in
+    let l = at .loop in let after-section-arg2 = at .before .before .before in let s = after-section-arg2 .before .before .before in
+    let a = s .args in
     let p : Ports = k .section2 .result in
     let e : p ≡ section (l .left) (l .i + 1) (a .a .now) (l .z) (toZ w32 (l .going)) =
     rw (
@@ -94,19 +57,14 @@ loop-again c =
       l .inv .0,
       rw (read w32 (p .0) (q .struct-told2 .given .0 .1), read w32 (p .1) (c .struct-told3 .given .1 .0 .1))
           (onward (a .sections - 1) (a .architecture) (a .a .now) (a .z .now) (toZ w32 (ofZ w32 (a .x))) (omega (arith, l .inv .0))
-          (at .before .before .section .result .0) (l .z) (toZ w32 (l .going)) (l .left) (l .i) (l .inv .1) p (omega (arith, m .loop-test .taken)) e),
+          (at .before .before .section .result .0) (l .z) (toZ w32 (l .going)) (l .left) (l .i) (l .inv .1) p
+          (omega (arith, m .loop-test .taken)) e),
     )
-
-mul-going : tie.Need-mul-going Inv-loop μ-loop
-mul-going c = search needs
-
-element-set-from-going : tie.Need-element-set-from-going Inv-loop μ-loop
-element-set-from-going c = search needs
 
 returns-2 : tie.Need-returns-2 Inv-loop μ-loop
 returns-2 c =
     let at = c .before .before in let l = at .loop in let k = at .before .before in
-    let s = k .before .before .before .before in let a = s .args in
+    let after-section-arg = k .before .before in let s = after-section-arg .before .before in let a = s .args in
     let y : ℤ = k .section .result .0 in
     let n : a .sections - 1 + 1 ≡ a .sections = l .inv .0 .2 in
     let f = finish (a .sections - 1) (a .architecture) (a .a .now) (a .z .now) (toZ w32 (ofZ w32 (a .x))) (omega (arith, l .inv .0))
@@ -116,26 +74,7 @@ returns-2 c =
 
 pub pass-spec : {M : Type 1} → statement M
 pass-spec =
-    tie.close
-    (tie.spec
-    Inv-loop
-    μ-loop
-    returns
-    sub-last
-    element-copy-out-section
-    element-copy-out-section-2
-    section-requires
-    loop-holds
-    add-at
-    mul-section
-    element-copy-out-section-3
-    mul-section-2
-    element-copy-out-section-4
-    section-requires-2
-    mul-back
-    element-set-from-back
-    loop-less
-    loop-again
-    mul-going
-    element-set-from-going
-    returns-2)
+    tie.close (tie.spec Inv-loop μ-loop returns (λ c. search needs) (λ c. search needs) (λ c. search needs)
+    (λ c κs. search needs) loop-holds (λ c. search needs) (λ c. search needs) (λ c. search needs) (λ c. search needs)
+    (λ c. search needs) (λ c κs. search needs) (λ c. search needs) (λ c. search needs) (λ c. search needs) loop-again
+    (λ c. search needs) (λ c. search needs) returns-2)

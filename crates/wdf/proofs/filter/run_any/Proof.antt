@@ -1,3 +1,4 @@
+-- What is written and what the rest would give are the whole (blocks Turns); a pass keeps the number of cells (Steps).
 use borrow.Author.Needs.{needs}
 use mathlib.Core.Path.{_≡_, sym, ap, _∙_}
 use Prim.Native.Nat.{_-_, _≤_}
@@ -25,27 +26,6 @@ loop-holds c =
     let a = c .args in let p = c .pre in let s₀ = filter (a .sections) (a .architecture) (a .a .now) (a .z .now) in
     ((p .0, p .1), start answer next s₀ (a .xs .now) (a .ys .now) (sym (p .2)))
 
-mul-x : tie.Need-mul-x Inv-loop μ-loop
-mul-x c = search needs
-
-shared-slice-copy-out-x : tie.Need-shared-slice-copy-out-x Inv-loop μ-loop
-shared-slice-copy-out-x c = search needs
-
-pass-requires : tie.Need-pass-requires Inv-loop μ-loop
-pass-requires c κs = search needs
-
-mul-t9 : tie.Need-mul-t9 Inv-loop μ-loop
-mul-t9 c = search needs
-
-slice-set-from-ys : tie.Need-slice-set-from-ys Inv-loop μ-loop
-slice-set-from-ys c = search needs
-
-add-i : tie.Need-add-i Inv-loop μ-loop
-add-i c = search needs
-
-loop-less : tie.Need-loop-less Inv-loop μ-loop
-loop-less c = search needs
-
 loop-again : tie.Need-loop-again Inv-loop μ-loop
 loop-again c =
     let m = c .before .before .before in let l = m .before .loop in let a = m .before .before .args in
@@ -70,18 +50,5 @@ returns c =
 
 pub run-any-spec : {M : Type 1} → statement M
 run-any-spec =
-    tie.close
-    (tie.spec
-    Inv-loop
-    μ-loop
-    loop-holds
-    mul-x
-    shared-slice-copy-out-x
-    pass-requires
-    mul-t9
-    slice-set-from-ys
-    add-i
-    loop-less
-    loop-again
-    same-length
-    returns)
+    tie.close (tie.spec Inv-loop μ-loop loop-holds (λ c. search needs) (λ c. search needs) (λ c κs. search needs)
+    (λ c. search needs) (λ c. search needs) (λ c. search needs) (λ c. search needs) loop-again same-length returns)

@@ -1,3 +1,4 @@
+-- As run_any, with two for the number of sections.
 use borrow.Author.Needs.{needs}
 use mathlib.Core.Path.{_≡_, sym, ap, _∙_}
 use Prim.Native.Nat.{_-_}
@@ -25,27 +26,6 @@ loop-holds c =
     let a = c .args in let p = c .pre in let s₀ = filter 2 (a .architecture) (a .a .now) (a .z .now) in
     (p .0, start answer next s₀ (a .xs .now) (a .ys .now) (sym (p .1)))
 
-mul-x : tie.Need-mul-x Inv-loop μ-loop
-mul-x c = search needs
-
-shared-slice-copy-out-x : tie.Need-shared-slice-copy-out-x Inv-loop μ-loop
-shared-slice-copy-out-x c = search needs
-
-pass-two-requires : tie.Need-pass-two-requires Inv-loop μ-loop
-pass-two-requires c κs = search needs
-
-mul-t8 : tie.Need-mul-t8 Inv-loop μ-loop
-mul-t8 c = search needs
-
-slice-set-from-ys : tie.Need-slice-set-from-ys Inv-loop μ-loop
-slice-set-from-ys c = search needs
-
-add-i : tie.Need-add-i Inv-loop μ-loop
-add-i c = search needs
-
-loop-less : tie.Need-loop-less Inv-loop μ-loop
-loop-less c = search needs
-
 loop-again : tie.Need-loop-again Inv-loop μ-loop
 loop-again c =
     let m = c .before .before .before in let l = m .before .loop in let a = m .before .before .args in
@@ -53,9 +33,9 @@ loop-again c =
     let s = filter 2 (a .architecture) (a .a .now) (l .z) in
     let x : ℤ = getD (a .xs .now) (l .i) (pos 0) in
     let b = read w32 x (c .before .before .x .given) in
-    let z : c .pass-two .last .1 .1 .0 ≡ next s x .z = rw b at (c .pass-two .ensures .1) in (
+    let z : c .pass .last .1 .1 .1 .0 ≡ next s x .z = rw b at (c .pass .ensures .1) in (
       ap length z ∙ next-length s x (omega (arith, l .inv .0)) ∙ l .inv .0,
-      rw (read w32 (c .pass-two .result) (c .pass-two .ok), c .pass-two .ensures .0, b, z)
+      rw (read w32 (c .pass .result) (c .pass .ok), c .pass .ensures .0, b, z)
           (turn answer next s₀ (a .xs .now) (l .ys) s (l .i) (pos 0) (m .loop-test .taken) (l .inv .1)),
     )
 
@@ -70,18 +50,5 @@ returns c =
 
 pub run-two-spec : {M : Type 1} → statement M
 run-two-spec =
-    tie.close
-    (tie.spec
-    Inv-loop
-    μ-loop
-    loop-holds
-    mul-x
-    shared-slice-copy-out-x
-    pass-two-requires
-    mul-t8
-    slice-set-from-ys
-    add-i
-    loop-less
-    loop-again
-    same-length
-    returns)
+    tie.close (tie.spec Inv-loop μ-loop loop-holds (λ c. search needs) (λ c. search needs) (λ c κs. search needs)
+    (λ c. search needs) (λ c. search needs) (λ c. search needs) (λ c. search needs) loop-again same-length returns)

@@ -1,17 +1,9 @@
+-- The nibble's code, then the adapter's promise.
 use borrow.Author.Needs.{needs}
 use mir.Syntax.{w32}
 use mir.ValLaws.{toZ-ofZ}
 use Rattle.wdf.proofs.filter.section.Statement.{statement}
 use Rattle.wdf.proofs.filter.section.Tie as tie
-
-cast-from : tie.Need-cast-from
-cast-from c = search needs
-
-from-requires : tie.Need-from-requires
-from-requires c κs = search needs
-
-adapt-requires : tie.Need-adapt-requires
-adapt-requires c κs = search needs
 
 returns : tie.Need-returns
 returns c =
@@ -25,4 +17,5 @@ returns c =
     )
 
 pub section-spec : {M : Type 1} → statement M
-section-spec = tie.close (tie.spec cast-from from-requires adapt-requires returns)
+section-spec =
+    tie.close (tie.spec (λ c. search needs) (λ c κs. search needs) (λ c κs. search needs) returns)

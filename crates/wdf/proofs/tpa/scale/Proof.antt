@@ -1,15 +1,10 @@
+-- The high word of a whole product is its floor by 2^32.
 use borrow.Author.Needs.{needs}
 use mir.Syntax.{w32, w64}
 use mir.ValLaws.{toZ-ofZ}
 use Rattle.words.proofs.Reading.{read}
 use Rattle.wdf.proofs.tpa.scale.Statement.{statement}
 use Rattle.wdf.proofs.tpa.scale.Tie as tie
-
-product-requires : tie.Need-product-requires
-product-requires c κs = search needs
-
-i64-high-requires : tie.Need-i64-high-requires
-i64-high-requires c κs = search needs
 
 returns : tie.Need-returns
 returns c =
@@ -24,4 +19,4 @@ returns c =
     )
 
 pub scale-spec : {M : Type 1} → statement M
-scale-spec = tie.close (tie.spec product-requires i64-high-requires returns)
+scale-spec = tie.close (tie.spec (λ c κs. search needs) (λ c κs. search needs) returns)

@@ -1,3 +1,4 @@
+-- A number of 32 bits fits 64 (widen).
 use mir.Syntax.{w32, w64}
 use mir.ValLaws.{toZ-ofZ}
 use Rattle.words.proofs.Sizes.{widen}

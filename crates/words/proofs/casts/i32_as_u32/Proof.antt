@@ -1,3 +1,4 @@
+-- Below zero the bits are those of the complement, turned about; from zero on the number itself.
 use lib.IntN.{pos}
 use mir.Syntax.{w32}
 use mir.ValLaws.{toZ-ofZ}
@@ -12,7 +13,8 @@ cast-result c =
 cast-result-2 : tie.Need-cast-result-2
 cast-result-2 c =
     let s = c .before in
-    rw (toZ-ofZ w32 (s .args .x) (s .fits .x)) (from-zero w32 (s .args .x) (s .fits .x) (tested w32 (s .args .x) (pos 0) (s .fits .x) (c .if1 .left)) .0)
+    rw (toZ-ofZ w32 (s .args .x) (s .fits .x))
+    (from-zero w32 (s .args .x) (s .fits .x) (tested w32 (s .args .x) (pos 0) (s .fits .x) (c .if1 .left)) .0)
 
 returns : tie.Need-returns
 returns c =
@@ -21,7 +23,8 @@ returns c =
 returns-2 : tie.Need-returns-2
 returns-2 c =
     let s = c .before in
-    rw (toZ-ofZ w32 (s .args .x) (s .fits .x)) (from-zero w32 (s .args .x) (s .fits .x) (tested w32 (s .args .x) (pos 0) (s .fits .x) (c .if1 .left)) .1)
+    rw (toZ-ofZ w32 (s .args .x) (s .fits .x))
+    (from-zero w32 (s .args .x) (s .fits .x) (tested w32 (s .args .x) (pos 0) (s .fits .x) (c .if1 .left)) .1)
 
 pub i32-as-u32-spec : {M : Type 1} → statement M
 i32-as-u32-spec = tie.close (tie.spec cast-result cast-result-2 returns returns-2)

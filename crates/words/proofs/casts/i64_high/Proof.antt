@@ -1,3 +1,4 @@
+-- A quotient by 2^32 fits 32 bits (high-fits).
 use Prim.Native.Nat.{_^_}
 use lib.Signed.{shrZ, mag-shr}
 use mir.Syntax.{w32, w64}

@@ -1,3 +1,4 @@
+-- The bits in the upper half are the complement of a small number, and twice the complement is itself.
 use borrow.Author.Needs.{needs}
 use mathlib.Core.Path.{_≡_}
 use Prim.Native.Nat.{_-_}
@@ -6,12 +7,6 @@ use mir.Syntax.{w64}
 use Rattle.words.proofs.Reading.{wrap-bits}
 use Rattle.words.proofs.casts.u64_as_i64.Statement.{statement}
 use Rattle.words.proofs.casts.u64_as_i64.Tie as tie
-
-cast-result : tie.Need-cast-result
-cast-result c = search needs
-
-cast-result-2 : tie.Need-cast-result-2
-cast-result-2 c = search needs
 
 returns : tie.Need-returns
 returns c = wrap-bits w64 (c .before .args .u) (c .before .fits .u)
@@ -22,4 +17,4 @@ returns-2 c =
     rw e (wrap-bits w64 (c .before .args .u) (c .before .fits .u))
 
 pub u64-as-i64-spec : {M : Type 1} → statement M
-u64-as-i64-spec = tie.close (tie.spec cast-result cast-result-2 returns returns-2)
+u64-as-i64-spec = tie.close (tie.spec (λ c. search needs) (λ c. search needs) returns returns-2)

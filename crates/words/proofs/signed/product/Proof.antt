@@ -1,3 +1,4 @@
+-- Two numbers of 32 bits have a product that fits 64 (product-fits).
 use borrow.Author.Needs.{needs}
 use lib.IntN.{_*ℤ_}
 use mir.Syntax.{w32, w64}
@@ -6,12 +7,6 @@ use Rattle.words.proofs.Reading.{read}
 use Rattle.words.proofs.Sizes.{product-fits}
 use Rattle.words.proofs.signed.product.Statement.{statement}
 use Rattle.words.proofs.signed.product.Tie as tie
-
-i32-as-i64-requires : tie.Need-i32-as-i64-requires
-i32-as-i64-requires c κs = search needs
-
-i32-as-i64-requires-2 : tie.Need-i32-as-i64-requires-2
-i32-as-i64-requires-2 c κs = search needs
 
 mul-result : tie.Need-mul-result
 mul-result c =
@@ -39,4 +34,4 @@ returns c =
     )
 
 pub product-spec : {M : Type 1} → statement M
-product-spec = tie.close (tie.spec i32-as-i64-requires i32-as-i64-requires-2 mul-result returns)
+product-spec = tie.close (tie.spec (λ c κs. search needs) (λ c κs. search needs) mul-result returns)

@@ -1,3 +1,4 @@
+-- By halves: the high product falls out of the word, and remainders of the parts make that of the whole.
 use borrow.Author.Needs.{needs}
 use Prim.Native.Nat.{ℕ, _+_, _*_, _/_, _%_, _^_}
 use mathlib.Core.Path.{_≡_, refl, ap₂}
@@ -12,7 +13,8 @@ use Rattle.words.proofs.unsigned.mul_u64.Tie as tie
 
 -- the sum as the code makes it, cross products first
 by-halves : (a b : ℕ)
-    → (a % 2 ^ 32 * (b % 2 ^ 32) + ((a % 2 ^ 32 * (b / 2 ^ 32) + a / 2 ^ 32 * (b % 2 ^ 32)) % 2 ^ 64) * 2 ^ 32 % 2 ^ 64) % 2 ^ 64 ≡ a * b % 2 ^ 64
+    → (a % 2 ^ 32 * (b % 2 ^ 32) + ((a % 2 ^ 32 * (b / 2 ^ 32) + a / 2 ^ 32 * (b % 2 ^ 32)) % 2 ^ 64) * 2 ^ 32 % 2 ^ 64) % 2 ^ 64
+    ≡ a * b % 2 ^ 64
 by-halves a b =
     (plus {m = 2 ^ 64} (is refl)
     (record { like = mod-mod ((cross % 2 ^ 64) * 2 ^ 32) (2 ^ 64) } then times (2 ^ 32) (record { like = mod-mod cross (2 ^ 64) }))
@@ -28,14 +30,8 @@ mul-add-u64 c = record { fits = words-product (omega arith) (omega (arith, c .fi
 mul-add-u64-2 : tie.Need-mul-add-u64-2
 mul-add-u64-2 c = record { fits = words-product (omega (arith, c .fits .a .fits)) (omega arith) }
 
-add-u64-requires : tie.Need-add-u64-requires
-add-u64-requires c κs = search needs
-
 mul-add-u64-3 : tie.Need-mul-add-u64-3
 mul-add-u64-3 c = record { fits = words-product (omega arith) (omega arith) }
-
-add-u64-requires-2 : tie.Need-add-u64-requires-2
-add-u64-requires-2 c κs = search needs
 
 returns : tie.Need-returns
 unfolding word
@@ -45,5 +41,4 @@ returns c =
 
 pub mul-u64-spec : {M : Type 1} → statement M
 mul-u64-spec =
-    tie.close
-    (tie.spec mul-add-u64 mul-add-u64-2 add-u64-requires mul-add-u64-3 add-u64-requires-2 returns)
+    tie.close (tie.spec mul-add-u64 mul-add-u64-2 (λ c κs. search needs) mul-add-u64-3 (λ c κs. search needs) returns)

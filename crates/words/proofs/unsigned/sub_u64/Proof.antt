@@ -1,3 +1,4 @@
+-- The machine's difference plus b is a modulo 2^64 (word-minus).
 use borrow.Author.Needs.{needs}
 use mathlib.Core.Path.{_∙_, sym}
 use native.Mathlib.Nat.{mod-eq-of-lt}
@@ -6,9 +7,6 @@ use Rattle.words.proofs.Sums.{word-minus}
 use Rattle.words.proofs.unsigned.sub_u64.Statement.{statement}
 use Rattle.words.proofs.unsigned.sub_u64.Tie as tie
 
-wrapping-sub-u64-requires : tie.Need-wrapping-sub-u64-requires
-wrapping-sub-u64-requires c κs = search needs
-
 returns : tie.Need-returns
 returns c =
     let s = c .before in
@@ -16,4 +14,4 @@ returns c =
     (c .wrapping-sub-u64 .ensures ∙ sym (mod-eq-of-lt (s .fits .a .fits)))
 
 pub sub-u64-spec : {M : Type 1} → statement M
-sub-u64-spec = tie.close (tie.spec wrapping-sub-u64-requires returns)
+sub-u64-spec = tie.close (tie.spec (λ c κs. search needs) returns)

@@ -1,3 +1,4 @@
+-- The quotients of one by zero compute to the infinities.
 use mathlib.Core.Path.{refl}
 use lib.Ieee.{div, neg, ofBits}
 use Rattle.biquad.proofs.biquad_clamp.BiquadClamp.from.Statement.{statement}

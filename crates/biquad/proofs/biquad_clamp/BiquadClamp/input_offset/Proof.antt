@@ -1,15 +1,10 @@
+-- The test of the gain is the number's, once the gain is the callees' promise.
 use mathlib.Core.Path.{_∙_, ap}
 use borrow.Author.Needs.{needs}
 use Rattle.biquad.specs.Coefficients.{gainOf}
 use Rattle.biquad.specs.Answers.{answerOf}
 use Rattle.biquad.proofs.biquad_clamp.BiquadClamp.input_offset.Statement.{statement}
 use Rattle.biquad.proofs.biquad_clamp.BiquadClamp.input_offset.Tie as tie
-
-coeff-requires : tie.Need-coeff-requires
-coeff-requires c κs = search needs
-
-forward-gain-requires : tie.Need-forward-gain-requires
-forward-gain-requires c κs = search needs
 
 returns : tie.Need-returns
 unfolding answerOf
@@ -25,4 +20,5 @@ returns-2 c =
     rw (g, rw g at (c .before .if1 .left))
 
 pub input-offset-spec : {M : Type 1} → statement M
-input-offset-spec = tie.close (tie.spec coeff-requires forward-gain-requires returns returns-2)
+input-offset-spec =
+    tie.close (tie.spec (λ c κs. search needs) (λ c κs. search needs) returns returns-2)

@@ -1,3 +1,4 @@
+-- A number that differs from itself is a NaN (Limits), so the three tests are the definition's.
 use mathlib.Core.Path.{sym, _∙_}
 use Rattle.biquad.proofs.Limits.{differs}
 use Rattle.biquad.proofs.biquad_clamp.BiquadClamp.limits.Statement.{statement}

@@ -1,3 +1,4 @@
+-- Unlike slices, or the loop's promise (blocks Ways).
 use mathlib.Core.Path.{refl}
 use borrow.Author.Needs.{needs}
 use Rattle.blocks.proofs.Ways.{unlike, taken}
@@ -10,12 +11,6 @@ returns c =
     let a = c .before .before .before .args in
     unlike 0 (sum1 (a .c)) (next1 (a .c)) (a .self) (a .xs .now) (a .ys .now) (c .if1 .taken)
 
-process-all-requires : tie.Need-process-all-requires
-process-all-requires c κs = search needs
-
-same-length : tie.Need-same-length
-same-length c = search needs
-
 returns-2 : tie.Need-returns-2
 returns-2 c =
     let k = c .before .before in
@@ -25,4 +20,4 @@ returns-2 c =
     (if1 .if1 .left) refl (k .process-all .ensures .0) (k .process-all .ensures .1)
 
 pub block-spec : {M : Type 1} → statement M
-block-spec = tie.close (tie.spec returns process-all-requires same-length returns-2)
+block-spec = tie.close (tie.spec returns (λ c κs. search needs) (λ c. search needs) returns-2)

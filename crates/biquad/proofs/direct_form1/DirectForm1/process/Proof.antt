@@ -1,3 +1,4 @@
+-- The code's operations are the definition's, in its order.
 use mathlib.Core.Path.{refl}
 use Rattle.biquad.specs.Forms.{sum1}
 use Rattle.biquad.proofs.direct_form1.DirectForm1.process.Statement.{statement}

@@ -1,3 +1,4 @@
+-- The limits' number picks the answer; without one it is the held step's.
 use mathlib.Core.Path.{_≡_, sym, ap, _∙_}
 use borrow.Author.Needs.{needs}
 use Rattle.blocks.proofs.Ways.{kept}
@@ -8,19 +9,16 @@ use Rattle.biquad.proofs.Limits.{refusal}
 use Rattle.biquad.proofs.direct_form1.DirectForm1.process_clamp.Statement.{statement}
 use Rattle.biquad.proofs.direct_form1.DirectForm1.process_clamp.Tie as tie
 
-limits-requires : tie.Need-limits-requires
-limits-requires c κs = search needs
-
 returns : tie.Need-returns
 returns c =
     let a = c .before .before .args in
     let e = c .before .limits .ensures in
     let k = limitNumber (a .c) in
     let h : k ≡ 0 → ⊥ = λ z. c .if1 .taken (e ∙ z) in
-    λ i. record { out = (ap Refused e ∙ refusal k (held1 (a .c) (a .self) (a .x)) h) i; state = kept k (a .self) (onward1 (a .c) (a .self) (a .x)) h i }
-
-held-requires : tie.Need-held-requires
-held-requires c κs = search needs
+    λ i. record {
+      state = kept k (a .self) (onward1 (a .c) (a .self) (a .x)) h i;
+      out = (ap Refused e ∙ refusal k (held1 (a .c) (a .self) (a .x)) h) i;
+    }
 
 returns-2 : tie.Need-returns-2
 unfolding answerOf
@@ -29,4 +27,5 @@ returns-2 c =
     rw (c .before .held .ensures, sym (t .before .limits .ensures) ∙ t .if1 .left)
 
 pub process-clamp-spec : {M : Type 1} → statement M
-process-clamp-spec = tie.close (tie.spec limits-requires returns held-requires returns-2)
+process-clamp-spec =
+    tie.close (tie.spec (λ c κs. search needs) returns (λ c κs. search needs) returns-2)

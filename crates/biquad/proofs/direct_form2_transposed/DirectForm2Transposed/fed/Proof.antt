@@ -1,3 +1,4 @@
+-- The code's operations are the definition's, in its order.
 use mathlib.Core.Path.{refl}
 use Rattle.biquad.specs.Forms.{after2}
 use Rattle.biquad.proofs.direct_form2_transposed.DirectForm2Transposed.fed.Statement.{statement}

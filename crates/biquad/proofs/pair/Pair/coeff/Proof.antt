@@ -1,12 +1,7 @@
+-- Each kind of pair is a line of the definition.
 use borrow.Author.Needs.{needs}
 use Rattle.biquad.proofs.pair.Pair.coeff.Statement.{statement}
 use Rattle.biquad.proofs.pair.Pair.coeff.Tie as tie
-
-enum-known-self : tie.Need-enum-known-self
-enum-known-self c = search needs
-
-enum-known-self-2 : tie.Need-enum-known-self-2
-enum-known-self-2 c = search needs
 
 returns : tie.Need-returns
 returns c = rw (c .before .self .given .1)
@@ -15,4 +10,4 @@ returns-2 : tie.Need-returns-2
 returns-2 c = rw (c .before .self2 .given .1)
 
 pub coeff-spec : {M : Type 1} → statement M
-coeff-spec = tie.close (tie.spec enum-known-self enum-known-self-2 returns returns-2)
+coeff-spec = tie.close (tie.spec (λ c. search needs) (λ c. search needs) returns returns-2)

@@ -1,3 +1,4 @@
+-- The number picks the answer; without one it is the accepted step's.
 use borrow.Author.Needs.{needs}
 use mathlib.Core.Path.{_≡_, sym, _∙_}
 use mir.Syntax.{w32}
@@ -10,14 +11,16 @@ use Rattle.fixed.proofs.Numbers.{refused-answer}
 use Rattle.fixed.proofs.dither.DirectForm1Dither.process.Statement.{statement}
 use Rattle.fixed.proofs.dither.DirectForm1Dither.process.Tie as tie
 
-fraction-requires : tie.Need-fraction-requires
-fraction-requires c κs = search needs
-
 returns : tie.Need-returns
 returns c =
     let k = c .before in let a = k .before .args in let n = fractionNumber 1 (a .c) in
     let h : n ≡ 0 → ⊥ = λ z. c .if1 .taken (k .fraction .ensures ∙ z) in
-    rw (k .fraction .ensures, ← refused-answer n (ditherOut (a .c) (a .self) (a .x0)) h, ← kept n (a .self) (ditherNext (a .c) (a .self) (a .x0)) h)
+    rw (
+      k .fraction .ensures,
+      ← refused-answer n (ditherOut (a .c) (a .self) (a .x0)) h,
+      ← kept n (a .self)
+          (ditherNext (a .c) (a .self) (a .x0)) h,
+    )
 
 turn-requires : tie.Need-turn-requires
 turn-requires c κs = sym (c .before .fraction .ensures) ∙ c .if1 .left
@@ -26,7 +29,7 @@ returns-2 : tie.Need-returns-2
 returns-2 c =
     let k = c .before .before in let e = k .before in let s = e .before .before in let a = s .args in
     rw (
-      read w32 (k .turn .result .y) (c .struct-told .given .0 .1),
+      read w32 (k .turn .result .y) (c .struct-told .given .1 .0 .1),
       k .turn .ensures .0,
       k .turn .ensures .1,
       toZ-ofZ w32 (a .x0) (s .fits .x0),
@@ -34,4 +37,4 @@ returns-2 c =
     )
 
 pub process-spec : {M : Type 1} → statement M
-process-spec = tie.close (tie.spec fraction-requires returns turn-requires returns-2)
+process-spec = tie.close (tie.spec (λ c κs. search needs) returns turn-requires returns-2)

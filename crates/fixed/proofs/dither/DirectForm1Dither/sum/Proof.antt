@@ -1,3 +1,4 @@
+-- Wraps inside a wrapped sum fall away (words Sums).
 use borrow.Author.Needs.{needs}
 use mathlib.Core.Path.{ap, _∙_}
 use lib.IntN.{ℤ, pos, _+ℤ_, _*ℤ_}
@@ -10,27 +11,6 @@ use Rattle.fixed.specs.Forms.{forward, ditherSum}
 use Rattle.words.proofs.Sums.{wrap-right}
 use Rattle.fixed.proofs.dither.DirectForm1Dither.sum.Statement.{statement}
 use Rattle.fixed.proofs.dither.DirectForm1Dither.sum.Tie as tie
-
-inputs-requires : tie.Need-inputs-requires
-inputs-requires c κs = search needs
-
-product-requires : tie.Need-product-requires
-product-requires c κs = search needs
-
-product-requires-2 : tie.Need-product-requires-2
-product-requires-2 c κs = search needs
-
-add-i64-requires : tie.Need-add-i64-requires
-add-i64-requires c κs = search needs
-
-u32-as-i64-requires : tie.Need-u32-as-i64-requires
-u32-as-i64-requires c κs = search needs
-
-add-i64-requires-2 : tie.Need-add-i64-requires-2
-add-i64-requires-2 c κs = search needs
-
-add-i64-requires-3 : tie.Need-add-i64-requires-3
-add-i64-requires-3 c κs = search needs
 
 returns : tie.Need-returns
 unfolding ditherSum
@@ -67,13 +47,5 @@ returns c =
 
 pub sum-spec : {M : Type 1} → statement M
 sum-spec =
-    tie.close
-    (tie.spec
-    inputs-requires
-    product-requires
-    product-requires-2
-    add-i64-requires
-    u32-as-i64-requires
-    add-i64-requires-2
-    add-i64-requires-3
-    returns)
+    tie.close (tie.spec (λ c κs. search needs) (λ c κs. search needs) (λ c κs. search needs) (λ c κs. search needs)
+    (λ c κs. search needs) (λ c κs. search needs) (λ c κs. search needs) returns)

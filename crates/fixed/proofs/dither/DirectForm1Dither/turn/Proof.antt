@@ -1,3 +1,4 @@
+-- Shifts from 1 to 31 are those that the definition writes as powers (Numbers).
 use borrow.Author.Needs.{needs}
 use mathlib.Core.Path.{_≡_, refl}
 use Prim.Native.Nat.{_-_, _%_}
@@ -10,26 +11,11 @@ use Rattle.fixed.proofs.Numbers.{in-range}
 use Rattle.fixed.proofs.dither.DirectForm1Dither.turn.Statement.{statement}
 use Rattle.fixed.proofs.dither.DirectForm1Dither.turn.Tie as tie
 
-sum-requires : tie.Need-sum-requires
-sum-requires c κs = search needs
-
 sub-shl-i64 : tie.Need-sub-shl-i64
 sub-shl-i64 c = omega (arith, in-range 1 (c .before .args .c) (c .before .pre))
 
-shl-i64-requires : tie.Need-shl-i64-requires
-shl-i64-requires c κs = search needs
-
-i64-as-u32-requires : tie.Need-i64-as-u32-requires
-i64-as-u32-requires c κs = search needs
-
 sub-shr-u32 : tie.Need-sub-shr-u32
 sub-shr-u32 c = let s = c .before .before .before in omega (arith, in-range 1 (s .args .c) (s .pre))
-
-shr-u32-requires : tie.Need-shr-u32-requires
-shr-u32-requires c κs = search needs
-
-i64-high-requires : tie.Need-i64-high-requires
-i64-high-requires c κs = search needs
 
 returns : tie.Need-returns
 returns c =
@@ -56,13 +42,5 @@ returns c =
 
 pub turn-spec : {M : Type 1} → statement M
 turn-spec =
-    tie.close
-    (tie.spec
-    sum-requires
-    sub-shl-i64
-    shl-i64-requires
-    i64-as-u32-requires
-    sub-shr-u32
-    shr-u32-requires
-    i64-high-requires
-    returns)
+    tie.close (tie.spec (λ c κs. search needs) sub-shl-i64 (λ c κs. search needs) (λ c κs. search needs) sub-shr-u32
+    (λ c κs. search needs) (λ c κs. search needs) returns)

@@ -1,3 +1,4 @@
+-- Wraps inside a wrapped sum fall away (Wraps).
 use borrow.Author.Needs.{needs}
 use Prim.Native.Nat.{_^_}
 use lib.IntN.{_*ℤ_}
@@ -9,15 +10,6 @@ use Rattle.fixed.specs.Forms.{forward, wideSum}
 use Rattle.fixed.proofs.Wraps.{wrap-inner}
 use Rattle.fixed.proofs.wide.DirectForm1Wide.sum.Statement.{statement}
 use Rattle.fixed.proofs.wide.DirectForm1Wide.sum.Tie as tie
-
-inputs-requires : tie.Need-inputs-requires
-inputs-requires c κs = search needs
-
-fed-requires : tie.Need-fed-requires
-fed-requires c κs = search needs
-
-fed-requires-2 : tie.Need-fed-requires-2
-fed-requires-2 c κs = search needs
 
 returns : tie.Need-returns
 unfolding wideSum
@@ -39,7 +31,9 @@ returns c =
       read w32 (a .c .a1) (k .1 .1 .1 .0 .1),
       read w32 (a .c .a2) (k .1 .1 .1 .1 .0 .1),
     )
-    (wrap-inner w64 (forward (a .c) (a .x0) (a .self .x1) (a .self .x2)) (floorDiv (a .self .y1 *ℤ a .c .a1) (2 ^ 32)) (floorDiv (a .self .y2 *ℤ a .c .a2) (2 ^ 32)))
+    (wrap-inner w64 (forward (a .c) (a .x0) (a .self .x1) (a .self .x2)) (floorDiv (a .self .y1 *ℤ a .c .a1) (2 ^ 32))
+    (floorDiv (a .self .y2 *ℤ a .c .a2) (2 ^ 32)))
 
 pub sum-spec : {M : Type 1} → statement M
-sum-spec = tie.close (tie.spec inputs-requires fed-requires fed-requires-2 returns)
+sum-spec =
+    tie.close (tie.spec (λ c κs. search needs) (λ c κs. search needs) (λ c κs. search needs) returns)

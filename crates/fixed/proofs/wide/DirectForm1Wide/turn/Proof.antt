@@ -1,3 +1,4 @@
+-- Shifts below 33 are those that the definition writes as powers (Numbers).
 use borrow.Author.Needs.{needs}
 use mathlib.Core.Path.{_≡_, refl}
 use Prim.Native.Nat.{_-_, _%_}
@@ -10,17 +11,8 @@ use Rattle.fixed.proofs.Numbers.{in-range}
 use Rattle.fixed.proofs.wide.DirectForm1Wide.turn.Statement.{statement}
 use Rattle.fixed.proofs.wide.DirectForm1Wide.turn.Tie as tie
 
-sum-requires : tie.Need-sum-requires
-sum-requires c κs = search needs
-
 sub-shl-i64 : tie.Need-sub-shl-i64
 sub-shl-i64 c = omega (arith, in-range 0 (c .before .args .c) (c .before .pre))
-
-shl-i64-requires : tie.Need-shl-i64-requires
-shl-i64-requires c κs = search needs
-
-i64-high-requires : tie.Need-i64-high-requires
-i64-high-requires c κs = search needs
 
 returns : tie.Need-returns
 returns c =
@@ -43,4 +35,4 @@ returns c =
 
 pub turn-spec : {M : Type 1} → statement M
 turn-spec =
-    tie.close (tie.spec sum-requires sub-shl-i64 shl-i64-requires i64-high-requires returns)
+    tie.close (tie.spec (λ c κs. search needs) sub-shl-i64 (λ c κs. search needs) (λ c κs. search needs) returns)

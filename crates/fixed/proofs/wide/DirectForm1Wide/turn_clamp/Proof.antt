@@ -1,3 +1,4 @@
+-- The free step's promise, its output limited and put over the high word.
 use borrow.Author.Needs.{needs}
 use mathlib.Core.Path.{refl}
 use mir.Syntax.{w32, w64}
@@ -10,12 +11,6 @@ use Rattle.fixed.proofs.wide.DirectForm1Wide.turn_clamp.Tie as tie
 turn-requires : tie.Need-turn-requires
 turn-requires c κs = accepted 0 (c .before .args .c) (c .before .pre)
 
-limit-requires : tie.Need-limit-requires
-limit-requires c κs = search needs
-
-overwrite-requires : tie.Need-overwrite-requires
-overwrite-requires c κs = search needs
-
 returns : tie.Need-returns
 returns c =
     let o = c .before .before in let l = o .before in let t = l .before in let k = t .before in let s = k .before .before in
@@ -24,7 +19,7 @@ returns c =
       c .overwrite .ensures,
       read w32 (l .limit .result) (l .limit .ok),
       l .limit .ensures,
-      read w32 (k .turn .result .y) (t .struct-told .given .0 .1),
+      read w32 (k .turn .result .y) (t .struct-told .given .1 .0 .1),
       read w64 (k .turn .result .state .y1) (c .before .struct-told2 .given .1 .1 .0 .1),
       k .turn .ensures .0,
       k .turn .ensures .1,
@@ -33,4 +28,5 @@ returns c =
     (refl, refl)
 
 pub turn-clamp-spec : {M : Type 1} → statement M
-turn-clamp-spec = tie.close (tie.spec turn-requires limit-requires overwrite-requires returns)
+turn-clamp-spec =
+    tie.close (tie.spec turn-requires (λ c κs. search needs) (λ c κs. search needs) returns)

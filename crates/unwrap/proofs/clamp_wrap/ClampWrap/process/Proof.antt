@@ -1,18 +1,10 @@
+-- The callees' promises put one into the other are the definition.
 use mir.Syntax.{w32}
 use mir.ValLaws.{toZ-ofZ}
 use borrow.Author.Needs.{needs}
 use Rattle.words.proofs.Reading.{read}
 use Rattle.unwrap.proofs.clamp_wrap.ClampWrap.process.Statement.{statement}
 use Rattle.unwrap.proofs.clamp_wrap.ClampWrap.process.Tie as tie
-
-overflowing-sub-requires : tie.Need-overflowing-sub-requires
-overflowing-sub-requires c κs = search needs
-
-add-requires : tie.Need-add-requires
-add-requires c κs = search needs
-
-held-to-requires : tie.Need-held-to-requires
-held-to-requires c κs = search needs
 
 returns : tie.Need-returns
 returns c =
@@ -27,4 +19,5 @@ returns c =
     )
 
 pub process-spec : {M : Type 1} → statement M
-process-spec = tie.close (tie.spec overflowing-sub-requires add-requires held-to-requires returns)
+process-spec =
+    tie.close (tie.spec (λ c κs. search needs) (λ c κs. search needs) (λ c κs. search needs) returns)

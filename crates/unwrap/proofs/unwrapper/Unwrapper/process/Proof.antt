@@ -1,21 +1,10 @@
+-- Each call's word is read back as its number; the sum of them is the definition.
 use borrow.Author.Needs.{needs}
 use mir.Syntax.{w32, w64}
 use mir.ValLaws.{toZ-ofZ}
 use Rattle.words.proofs.Reading.{read}
 use Rattle.unwrap.proofs.unwrapper.Unwrapper.process.Statement.{statement}
 use Rattle.unwrap.proofs.unwrapper.Unwrapper.process.Tie as tie
-
-i64-as-i32-requires : tie.Need-i64-as-i32-requires
-i64-as-i32-requires c κs = search needs
-
-sub-i32-requires : tie.Need-sub-i32-requires
-sub-i32-requires c κs = search needs
-
-i32-as-i64-requires : tie.Need-i32-as-i64-requires
-i32-as-i64-requires c κs = search needs
-
-add-i64-requires : tie.Need-add-i64-requires
-add-i64-requires c κs = search needs
 
 returns : tie.Need-returns
 returns c =
@@ -35,5 +24,5 @@ returns c =
 
 pub process-spec : {M : Type 1} → statement M
 process-spec =
-    tie.close
-    (tie.spec i64-as-i32-requires sub-i32-requires i32-as-i64-requires add-i64-requires returns)
+    tie.close (tie.spec (λ c κs. search needs) (λ c κs. search needs) (λ c κs. search needs) (λ c κs. search needs)
+    returns)

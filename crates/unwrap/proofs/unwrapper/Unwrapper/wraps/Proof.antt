@@ -1,3 +1,4 @@
+-- The phase's sign says whether the high word is the count or one less (Counting).
 use mathlib.Core.Path.{_≡_}
 use mathlib.Core.Bool.{Bool, true, false}
 use lib.IntN.{pos}
@@ -11,21 +12,16 @@ use Rattle.unwrap.proofs.Counting.{one-more, as-it-is}
 use Rattle.unwrap.proofs.unwrapper.Unwrapper.wraps.Statement.{statement}
 use Rattle.unwrap.proofs.unwrapper.Unwrapper.wraps.Tie as tie
 
-i64-high-requires : tie.Need-i64-high-requires
-i64-high-requires c κs = search needs
-
-i64-as-i32-requires : tie.Need-i64-as-i32-requires
-i64-as-i32-requires c κs = search needs
-
-add-i32-requires : tie.Need-add-i32-requires
-add-i32-requires c κs = search needs
-
 -- the test is that of the phase
 phase-sign : (c : tie.After-i64-as-i32) (b : Bool) → ltZ (toZ w32 (ofZ w32 (c .i64-as-i32 .result))) (pos 0) ≡ b
     → ltZ (phaseOf (c .before .before .before .args .self .y)) (pos 0) ≡ b
 phase-sign c b e =
     let t = c .before .before in
-    rw (read w32 (c .i64-as-i32 .result) (c .i64-as-i32 .ok), c .i64-as-i32 .ensures, read w64 (t .before .args .self .y) (t .struct-told .given .0 .1)) at e
+    rw (
+      read w32 (c .i64-as-i32 .result) (c .i64-as-i32 .ok),
+      c .i64-as-i32 .ensures,
+      read w64 (t .before .args .self .y) (t .struct-told .given .0 .1),
+    ) at e
 
 returns : tie.Need-returns
 returns c =
@@ -48,4 +44,4 @@ returns-2 c =
 
 pub wraps-spec : {M : Type 1} → statement M
 wraps-spec =
-    tie.close (tie.spec i64-high-requires i64-as-i32-requires add-i32-requires returns returns-2)
+    tie.close (tie.spec (λ c κs. search needs) (λ c κs. search needs) (λ c κs. search needs) returns returns-2)

@@ -1,3 +1,4 @@
+-- The number picks the state and the verdict (blocks Ways).
 use borrow.Author.Needs.{needs}
 use borrow.Author.Tests.{ne-eqb}
 use Rattle.blocks.specs.Verdicts.{verdictOf}
@@ -5,9 +6,6 @@ use Rattle.blocks.proofs.Ways.{refused}
 use Rattle.wdf.specs.Calls.{made}
 use Rattle.wdf.proofs.filter.Wdf.new.Statement.{statement}
 use Rattle.wdf.proofs.filter.Wdf.new.Tie as tie
-
-refusal-requires : tie.Need-refusal-requires
-refusal-requires c κs = search needs
 
 returns : tie.Need-returns
 unfolding made
@@ -18,4 +16,4 @@ unfolding made verdictOf
 returns-2 c = let k = c .before .refusal in rw (← k .ensures, c .if1 .left)
 
 pub new-spec : {M : Type 1} → statement M
-new-spec = tie.close (tie.spec refusal-requires returns returns-2)
+new-spec = tie.close (tie.spec (λ c κs. search needs) returns returns-2)

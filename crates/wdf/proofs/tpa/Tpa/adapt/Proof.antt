@@ -1,3 +1,4 @@
+-- Each arm's calls, read back from the last to the first, are a line of the definition.
 use borrow.Author.Needs.{needs}
 use mathlib.Core.Path.{_≡_, _∙_}
 use lib.IntN.{ℤ}
@@ -8,102 +9,6 @@ use Rattle.words.proofs.Reading.{read}
 use Rattle.wdf.specs.Adapters.{adapted}
 use Rattle.wdf.proofs.tpa.Tpa.adapt.Statement.{statement}
 use Rattle.wdf.proofs.tpa.Tpa.adapt.Tie as tie
-
-enum-told : tie.Need-enum-told
-enum-told c = search needs
-
-sub-i32-requires : tie.Need-sub-i32-requires
-sub-i32-requires c κs = search needs
-
-scale-requires : tie.Need-scale-requires
-scale-requires c κs = search needs
-
-add-i32-requires : tie.Need-add-i32-requires
-add-i32-requires c κs = search needs
-
-add-i32-requires-2 : tie.Need-add-i32-requires-2
-add-i32-requires-2 c κs = search needs
-
-enum-told-2 : tie.Need-enum-told-2
-enum-told-2 c = search needs
-
-sub-i32-requires-2 : tie.Need-sub-i32-requires-2
-sub-i32-requires-2 c κs = search needs
-
-scale-requires-2 : tie.Need-scale-requires-2
-scale-requires-2 c κs = search needs
-
-add-i32-requires-3 : tie.Need-add-i32-requires-3
-add-i32-requires-3 c κs = search needs
-
-add-i32-requires-4 : tie.Need-add-i32-requires-4
-add-i32-requires-4 c κs = search needs
-
-enum-told-3 : tie.Need-enum-told-3
-enum-told-3 c = search needs
-
-sub-i32-requires-3 : tie.Need-sub-i32-requires-3
-sub-i32-requires-3 c κs = search needs
-
-scale-requires-3 : tie.Need-scale-requires-3
-scale-requires-3 c κs = search needs
-
-add-i32-requires-5 : tie.Need-add-i32-requires-5
-add-i32-requires-5 c κs = search needs
-
-add-i32-requires-6 : tie.Need-add-i32-requires-6
-add-i32-requires-6 c κs = search needs
-
-enum-told-4 : tie.Need-enum-told-4
-enum-told-4 c = search needs
-
-enum-told-5 : tie.Need-enum-told-5
-enum-told-5 c = search needs
-
-sub-i32-requires-4 : tie.Need-sub-i32-requires-4
-sub-i32-requires-4 c κs = search needs
-
-scale-requires-4 : tie.Need-scale-requires-4
-scale-requires-4 c κs = search needs
-
-sub-i32-requires-5 : tie.Need-sub-i32-requires-5
-sub-i32-requires-5 c κs = search needs
-
-add-i32-requires-7 : tie.Need-add-i32-requires-7
-add-i32-requires-7 c κs = search needs
-
-enum-told-6 : tie.Need-enum-told-6
-enum-told-6 c = search needs
-
-sub-i32-requires-6 : tie.Need-sub-i32-requires-6
-sub-i32-requires-6 c κs = search needs
-
-scale-requires-5 : tie.Need-scale-requires-5
-scale-requires-5 c κs = search needs
-
-sub-i32-requires-7 : tie.Need-sub-i32-requires-7
-sub-i32-requires-7 c κs = search needs
-
-sub-i32-requires-8 : tie.Need-sub-i32-requires-8
-sub-i32-requires-8 c κs = search needs
-
-enum-told-7 : tie.Need-enum-told-7
-enum-told-7 c = search needs
-
-sub-i32-requires-9 : tie.Need-sub-i32-requires-9
-sub-i32-requires-9 c κs = search needs
-
-scale-requires-6 : tie.Need-scale-requires-6
-scale-requires-6 c κs = search needs
-
-sub-i32-requires-10 : tie.Need-sub-i32-requires-10
-sub-i32-requires-10 c κs = search needs
-
-add-i32-requires-8 : tie.Need-add-i32-requires-8
-add-i32-requires-8 c κs = search needs
-
-enum-told-8 : tie.Need-enum-told-8
-enum-told-8 c = search needs
 
 -- a number that was passed is itself
 abbrev passed : ℤ → Type 0
@@ -212,45 +117,11 @@ returns-8 c = let s = inputs (c .before .before) in rw (c .enum-told8 .given .1,
 
 pub adapt-spec : {M : Type 1} → statement M
 adapt-spec =
-    tie.close
-    (tie.spec
-    enum-told
-    sub-i32-requires
-    scale-requires
-    add-i32-requires
-    add-i32-requires-2
-    enum-told-2
-    sub-i32-requires-2
-    scale-requires-2
-    add-i32-requires-3
-    add-i32-requires-4
-    enum-told-3
-    sub-i32-requires-3
-    scale-requires-3
-    add-i32-requires-5
-    add-i32-requires-6
-    enum-told-4
-    enum-told-5
-    sub-i32-requires-4
-    scale-requires-4
-    sub-i32-requires-5
-    add-i32-requires-7
-    enum-told-6
-    sub-i32-requires-6
-    scale-requires-5
-    sub-i32-requires-7
-    sub-i32-requires-8
-    enum-told-7
-    sub-i32-requires-9
-    scale-requires-6
-    sub-i32-requires-10
-    add-i32-requires-8
-    enum-told-8
-    returns
-    returns-2
-    returns-3
-    returns-4
-    returns-5
-    returns-6
-    returns-7
-    returns-8)
+    tie.close (tie.spec (λ c. search needs) (λ c κs. search needs) (λ c κs. search needs) (λ c κs. search needs)
+    (λ c κs. search needs) (λ c. search needs) (λ c κs. search needs) (λ c κs. search needs) (λ c κs. search needs)
+    (λ c κs. search needs) (λ c. search needs) (λ c κs. search needs) (λ c κs. search needs) (λ c κs. search needs)
+    (λ c κs. search needs) (λ c. search needs) (λ c. search needs) (λ c κs. search needs) (λ c κs. search needs)
+    (λ c κs. search needs) (λ c κs. search needs) (λ c. search needs) (λ c κs. search needs) (λ c κs. search needs)
+    (λ c κs. search needs) (λ c κs. search needs) (λ c. search needs) (λ c κs. search needs) (λ c κs. search needs)
+    (λ c κs. search needs) (λ c κs. search needs) (λ c. search needs) returns returns-2 returns-3 returns-4 returns-5
+    returns-6 returns-7 returns-8)

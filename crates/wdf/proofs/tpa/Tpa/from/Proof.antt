@@ -1,3 +1,4 @@
+-- The code's arms are the definition's tests, one by one.
 use borrow.Author.Tests.{ne-eqb}
 use Rattle.wdf.specs.Adapters.{codeOf}
 use Rattle.wdf.proofs.tpa.Tpa.from.Statement.{statement}
@@ -47,5 +48,4 @@ returns-8 c =
 
 pub from-spec : {M : Type 1} → statement M
 from-spec =
-    tie.close
-    (tie.spec returns returns-2 returns-3 returns-4 returns-5 returns-6 returns-7 returns-8)
+    tie.close (tie.spec returns returns-2 returns-3 returns-4 returns-5 returns-6 returns-7 returns-8)

@@ -1,3 +1,4 @@
+-- The fraction bits' number, else the test of the limits (Wraps).
 use borrow.Author.Needs.{needs}
 use mathlib.Core.Path.{sym, _∙_}
 use mathlib.Core.Bool.{cond}
@@ -5,11 +6,8 @@ use lib.Signed.{ltZ}
 use Rattle.blocks.proofs.Ways.{kept}
 use Rattle.fixed.specs.Answers.{fractionNumber}
 use Rattle.fixed.proofs.Wraps.{tested-lt}
-use Rattle.fixed.proofs.biquad.BiquadClamp.refusal.Statement.{statement}
-use Rattle.fixed.proofs.biquad.BiquadClamp.refusal.Tie as tie
-
-fraction-requires : tie.Need-fraction-requires
-fraction-requires c κs = search needs
+use Rattle.fixed.proofs.coefficients.BiquadClamp.refusal.Statement.{statement}
+use Rattle.fixed.proofs.coefficients.BiquadClamp.refusal.Tie as tie
 
 returns : tie.Need-returns
 returns c =
@@ -36,4 +34,4 @@ returns-3 c =
     )
 
 pub refusal-spec : {M : Type 1} → statement M
-refusal-spec = tie.close (tie.spec fraction-requires returns returns-2 returns-3)
+refusal-spec = tie.close (tie.spec (λ c κs. search needs) returns returns-2 returns-3)

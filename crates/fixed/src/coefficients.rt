@@ -5,7 +5,7 @@ use words::signed::product;
 ghost use mathlib.Core.Path.{_≡_};
 ghost use mir.Syntax.{w64};
 ghost use Rattle.words.specs.Words.{wrap};
-ghost use Rattle.fixed.specs.Forms.{forward, clampTo, limited};
+ghost use Rattle.fixed.specs.Forms.{forward, heldTo, limited};
 ghost use Rattle.fixed.specs.Answers.{fractionNumber, clampNumber};
 
 // The bits of coefficients with f fraction bits. a1 and a2 have the sign in which the recurrence adds them.
@@ -83,7 +83,7 @@ impl BiquadClamp {
 
 // The lower limit where y is below it, else the upper where y is above it, else y.
 fn clamp(y: i32, min: i32, max: i32) -> i32
-    ensures { λ r. ⌜ r ≡ clampTo min max y ⌝ }
+    ensures { λ r. ⌜ r ≡ heldTo min max y ⌝ }
 {
     if y < min {
         return min;

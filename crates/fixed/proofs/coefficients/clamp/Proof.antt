@@ -1,8 +1,9 @@
+-- The two tests are the definition's, once the numbers are read back from their words.
 use mir.Syntax.{w32}
 use mir.ValLaws.{toZ-ofZ}
 use Rattle.fixed.proofs.Wraps.{tested-lt}
-use Rattle.fixed.proofs.biquad.clamp.Statement.{statement}
-use Rattle.fixed.proofs.biquad.clamp.Tie as tie
+use Rattle.fixed.proofs.coefficients.clamp.Statement.{statement}
+use Rattle.fixed.proofs.coefficients.clamp.Tie as tie
 
 returns : tie.Need-returns
 returns c =

@@ -1,15 +1,10 @@
+-- The clamp's promise on the wrapped sum with the offset.
 use borrow.Author.Needs.{needs}
 use mir.Syntax.{w32}
 use mir.ValLaws.{toZ-ofZ}
 use Rattle.words.proofs.Reading.{read}
-use Rattle.fixed.proofs.biquad.BiquadClamp.limit.Statement.{statement}
-use Rattle.fixed.proofs.biquad.BiquadClamp.limit.Tie as tie
-
-add-i32-requires : tie.Need-add-i32-requires
-add-i32-requires c κs = search needs
-
-clamp-requires : tie.Need-clamp-requires
-clamp-requires c κs = search needs
+use Rattle.fixed.proofs.coefficients.BiquadClamp.limit.Statement.{statement}
+use Rattle.fixed.proofs.coefficients.BiquadClamp.limit.Tie as tie
 
 returns : tie.Need-returns
 returns c =
@@ -27,4 +22,4 @@ returns c =
     )
 
 pub limit-spec : {M : Type 1} → statement M
-limit-spec = tie.close (tie.spec add-i32-requires clamp-requires returns)
+limit-spec = tie.close (tie.spec (λ c κs. search needs) (λ c κs. search needs) returns)

@@ -1,26 +1,12 @@
+-- Wraps inside a wrapped sum fall away (words Sums).
 use borrow.Author.Needs.{needs}
 use lib.IntN.{_+ℤ_, _*ℤ_}
 use mir.Syntax.{w32, w64}
 use mir.ValLaws.{toZ-ofZ}
 use Rattle.words.proofs.Reading.{read}
 use Rattle.words.proofs.Sums.{wrap-left}
-use Rattle.fixed.proofs.biquad.Biquad.inputs.Statement.{statement}
-use Rattle.fixed.proofs.biquad.Biquad.inputs.Tie as tie
-
-product-requires : tie.Need-product-requires
-product-requires c κs = search needs
-
-product-requires-2 : tie.Need-product-requires-2
-product-requires-2 c κs = search needs
-
-add-i64-requires : tie.Need-add-i64-requires
-add-i64-requires c κs = search needs
-
-product-requires-3 : tie.Need-product-requires-3
-product-requires-3 c κs = search needs
-
-add-i64-requires-2 : tie.Need-add-i64-requires-2
-add-i64-requires-2 c κs = search needs
+use Rattle.fixed.proofs.coefficients.Biquad.inputs.Statement.{statement}
+use Rattle.fixed.proofs.coefficients.Biquad.inputs.Tie as tie
 
 returns : tie.Need-returns
 returns c =
@@ -49,11 +35,5 @@ returns c =
 
 pub inputs-spec : {M : Type 1} → statement M
 inputs-spec =
-    tie.close
-    (tie.spec
-    product-requires
-    product-requires-2
-    add-i64-requires
-    product-requires-3
-    add-i64-requires-2
-    returns)
+    tie.close (tie.spec (λ c κs. search needs) (λ c κs. search needs) (λ c κs. search needs) (λ c κs. search needs)
+    (λ c κs. search needs) returns)
