@@ -14,7 +14,7 @@ use Rattle.sums.specs.Ops.{Ops}
 use Rattle.sums.specs.Machine.{Machine, integrated, summed, differed, interpolatedAt, interpolated, risenAt, risen}
 use Rattle.sums.specs.Moving.{held}
 use Rattle.sums.specs.State.{State, view}
-use Rattle.sums.specs.Calls.{riseNumber, riseState, risenOf, sample}
+use Rattle.sums.specs.Calls.{riseNumber, riseState, riseGiven, sample}
 use Rattle.sums.specs.Runs.{needed, dueSample, unread, risings}
 use Rattle.sums.proofs.Shapes.{Lines}
 use Rattle.sums.proofs.Arrays.{view-put, view-shaped, rose-shaped}
@@ -32,11 +32,11 @@ module _ {A : Type 0} (o : Ops A) where
   record Rose (s : State A) (x : Option A) (y : A) : Type 0 where
     pub number : riseNumber s x ≡ 0
     pub next : interpolated o (view s) (sample o x) ≡ interpolated o (view s) y
-    pub out : risenOf o s x ≡ risen o (view s) y
+    pub out : riseGiven o s x ≡ risen o (view s) y
     pub fit : Fit (riseState o s x)
 
   rose : (s : State A) → Fit s → (xs : List A) (c : ℕ) → s .countdown ≡ c → Rose s (dueSample o c xs) (getD xs 0 (o .nil))
-  unfolding riseNumber interpolated interpolatedAt risenOf risen risenAt view
+  unfolding riseNumber interpolated interpolatedAt riseGiven risen risenAt view
   rose s f xs zero e = record { number = rw (accepted s f, e); next = refl; out = refl; fit = rise-takes-fit o s f (getD xs 0 (o .nil)) e }
   rose s f xs (suc c) e = record {
     number = rw (accepted s f, e, eqb·suc-zero c);

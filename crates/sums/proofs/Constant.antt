@@ -15,7 +15,7 @@ use Rattle.sums.specs.Ops.{Ops, Laws, times}
 use Rattle.sums.specs.Signed.{signedOps, exactOps}
 use Rattle.sums.specs.Moving.{held}
 use Rattle.sums.specs.State.{State, rows, view}
-use Rattle.sums.specs.Calls.{gain, settledAt}
+use Rattle.sums.specs.Calls.{gain, gainOf, settledAt}
 use Rattle.sums.specs.Demands.{InWord, Contents, along, lifts, samples, Stream}
 use Rattle.sums.proofs.Refusals.{Sound}
 use Rattle.sums.proofs.Steps.{Fit}
@@ -144,7 +144,7 @@ stream-still w x v s hx k calls n e t y q =
 
 pub settled-stream : (w : Width) (s : State ℤ) (x : ℤ) → SFits w x → (N : ℕ) → s .order ≡ N → Sound N (s .delay) (s .rate) 0 0
     → Stream w (settledAt (signedOps w) s x N) x (wrap w (pos (gain s) *ℤ x))
-unfolding gain times
+unfolding gainOf times
 settled-stream w s x hx zero o q =
     let one : gain s ≡ 1 = ap (λ k. (suc (s .rate) * s .delay) ^ k) o ∙ pow-zero (suc (s .rate) * s .delay) in
     let same : x ≡ pos (gain s) *ℤ x = sym (ap (λ k. pos k *ℤ x) one ∙ sym (times-is 1 x) ∙ +ℤ-idl x) in

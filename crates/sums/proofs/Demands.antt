@@ -6,7 +6,7 @@ use lib.IntN.{ℤ}
 use mir.Syntax.{Width, w32}
 use Rattle.sums.specs.Signed.{signedOps}
 use Rattle.sums.specs.State.{State, refusalOf, zeroed}
-use Rattle.sums.specs.Calls.{newState, bitLength, gainLog2, fits}
+use Rattle.sums.specs.Calls.{newState, bitLength, gainLog2, gainLog2Of, fits, fitsOf}
 use Rattle.sums.specs.Demands.{Contents, Decimator, Interpolator, Demand2, Demand2Cleared, Demand3, Demand3Rate, Demand3Tight, Between, SettledPart, GainBound, FitSound, FitNotExact, Settled}
 use Rattle.sums.proofs.Refusals.{Sound, sound, Good, good}
 use Rattle.sums.proofs.Steps.{packed, Fit}
@@ -68,7 +68,7 @@ pub fit-is-sound : FitSound
 fit-is-sound w s b e y x h t = fit-sound w s b e y x h t
 
 pub fit-is-not-exact : FitNotExact
-unfolding newState zeroed refusalOf fits gainLog2 bitLength
+unfolding newState zeroed refusalOf fitsOf gainLog2Of bitLength
 fit-is-not-exact = (refl, λ x h t. exact w32 3 3 (2 ^ 26) x (omega arith) h (omega arith) t)
 
 pub between : Between

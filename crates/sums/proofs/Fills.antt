@@ -11,7 +11,7 @@ use lib.ListN.{length, getD, take, drop, replicate, length-replicate, length-app
 use lib.Seq.{take-at, length-take-le, drop-length, drop-drop, getD-drop}
 use Rattle.sums.specs.Ops.{Ops}
 use Rattle.sums.specs.State.{State}
-use Rattle.sums.specs.Calls.{riseState, risenOf}
+use Rattle.sums.specs.Calls.{riseState, riseGiven}
 use Rattle.sums.specs.Runs.{needed, dueSample, unread, risings, risenAfter}
 use Rattle.sums.proofs.Steps.{Fit, packed, down, rise-waits, risen-waits, rise-waits-fit, rise-takes, risen-takes, rise-takes-fit}
 use Rattle.sums.proofs.Counts.{needed-none, needed-wait, needed-give}
@@ -21,7 +21,7 @@ use Rattle.sums.proofs.Stretches.{ran, tops, tops-length}
 module _ {A : Type 0} (o : Ops A) (s : State A) (n : ℕ) (xs : List A) where
   -- a turn of the interpolator's steps where a sample is due, and where none is
   pub risings-due : s .countdown ≡ 0 → (x : A) → x ≡ getD xs 0 (o .nil)
-      → (risings o s (suc n) xs ≡ risenOf o s (some x) ∷ risings o (riseState o s (some x)) n (drop 1 xs))
+      → (risings o s (suc n) xs ≡ riseGiven o s (some x) ∷ risings o (riseState o s (some x)) n (drop 1 xs))
       × (risenAfter o s (suc n) xs ≡ risenAfter o (riseState o s (some x)) n (drop 1 xs))
   unfolding risings risenAfter
   risings-due e x ex =
@@ -30,7 +30,7 @@ module _ {A : Type 0} (o : Ops A) (s : State A) (n : ℕ) (xs : List A) where
       (rw (d, u), rw (d, u))
 
   pub risings-wait : 0 < s .countdown
-      → (risings o s (suc n) xs ≡ risenOf o s none ∷ risings o (riseState o s none) n xs)
+      → (risings o s (suc n) xs ≡ riseGiven o s none ∷ risings o (riseState o s none) n xs)
       × (risenAfter o s (suc n) xs ≡ risenAfter o (riseState o s none) n xs)
   unfolding risings risenAfter
   risings-wait h =

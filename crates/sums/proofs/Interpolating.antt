@@ -15,7 +15,7 @@ use Rattle.sums.specs.Signed.{signedOps, exactOps}
 use Rattle.sums.specs.Moving.{held}
 use Rattle.sums.specs.State.{State, view, refusal, zeroed}
 use Rattle.sums.specs.Runs.{needed}
-use Rattle.sums.specs.Demands.{input, Contents, along, ends, Raise, samples, lifts, yields, Interpolator}
+use Rattle.sums.specs.Demands.{input, Contents, along, afterCalls, Raise, samples, lifts, yields, Interpolator}
 use Rattle.sums.proofs.Refusals.{Sound}
 use Rattle.sums.proofs.Steps.{Fit, accepted}
 use Rattle.sums.proofs.Cascade.{combVal, intVal}
@@ -53,9 +53,9 @@ module _ (w : Width) (s : State ℤ) (f : Fit s) (e : s .countdown ≡ 0) (h : C
       (list-in w (take (s .order) (s .integrators)) (take-in w (s .order) (s .integrators) (h .integrators-in)))
       (rows-in w (s .delay) (s .order) (s .combs) (h .combs-in)) b t
 
-  pub raised-sound : refusal (ends (lifts (signedOps w)) s calls) ≡ 0
+  pub raised-sound : refusal (afterCalls (lifts (signedOps w)) s calls) ≡ 0
   raised-sound =
-      let t : State ℤ = ends (lifts (signedOps w)) s calls in
+      let t : State ℤ = afterCalls (lifts (signedOps w)) s calls in
       accepted t (climbed-fit (signedOps w) s t f read given (climbed (signedOps w) s f calls))
 
 -- from zero

@@ -6,7 +6,7 @@ use native.Mathlib.Omega.{arith}
 use lib.Dec.{ltb, eqb, eqb·suc-zero}
 use borrow.Author.Tests.{ltb-false, eqb-false, le-ltb, ne-eqb}
 use Rattle.sums.specs.State.{State, refusalOf, refusal}
-use Rattle.sums.specs.Calls.{unless}
+use Rattle.blocks.specs.Blocks.{unless}
 
 pub record Sound (order delay rate countdown unsettled : ℕ) : Type 0 where
   pub few : order ≤ 8

@@ -15,9 +15,9 @@ use lib.Seq.{length-take-le}
 use borrow.Author.Tests.{ltb-false, eq-eqb, ne-eqb}
 use Rattle.sums.specs.Ops.{Ops}
 use Rattle.sums.specs.State.{State, refusal}
-use Rattle.sums.specs.Calls.{riseNumber, riseState, risenOf}
+use Rattle.sums.specs.Calls.{riseNumber, riseState, riseGiven}
 use Rattle.sums.specs.Runs.{needed, dueSample, unread, fillNumber, fillState, risings, risenAfter}
-use Rattle.sums.specs.Demands.{along, ends, Raise, rise, fill, samples, lifts, yields}
+use Rattle.sums.specs.Demands.{along, afterCalls, Raise, rise, fill, samples, lifts, yields}
 use Rattle.sums.proofs.Steps.{Fit, accepted, down, rise-waits, rise-takes, rise-waits-fit, rise-takes-fit}
 use Rattle.sums.proofs.Counts.{needed-none, needed-wait, needed-give}
 use Rattle.sums.proofs.Fills.{risings-due, risings-wait}
@@ -59,7 +59,7 @@ module _ {A : Type 0} (o : Ops A) where
   }
 
   -- a sample is due
-  onward-due : (s : State A) → Fit s → s .countdown ≡ 0 → (k : ℕ) (x : A) (xs : List A) → Onward s (riseState o s (some x)) k (x ∷ xs) xs (risenOf o s (some x))
+  onward-due : (s : State A) → Fit s → s .countdown ≡ 0 → (k : ℕ) (x : A) (xs : List A) → Onward s (riseState o s (some x)) k (x ∷ xs) xs (riseGiven o s (some x))
   onward-due s f z k x xs =
       let d = risings-due o s k (x ∷ xs) z x refl in
       record {
@@ -69,7 +69,7 @@ module _ {A : Type 0} (o : Ops A) where
       }
 
   -- none is due
-  onward-wait : (s : State A) → Fit s → 0 < s .countdown → (k : ℕ) (xs : List A) → Onward s (riseState o s none) k xs xs (risenOf o s none)
+  onward-wait : (s : State A) → Fit s → 0 < s .countdown → (k : ℕ) (xs : List A) → Onward s (riseState o s none) k xs xs (riseGiven o s none)
   onward-wait s f h k xs =
       let d = risings-wait o s k xs h in
       record {
@@ -84,16 +84,16 @@ module _ {A : Type 0} (o : Ops A) where
       ⊎-elim
       (λ z. absurd (omega (arith, needed-give n (s .countdown) (s .rate) z)))
       (λ h. let w = onward-wait s f h in
-      parts-more s (riseState o s none) n m [] [] rest (risenOf o s none) (w n []) (w (n + m) rest)
+      parts-more s (riseState o s none) n m [] [] rest (riseGiven o s none) (w n []) (w (n + m) rest)
       (parts n (riseState o s none) (rise-waits-fit o s f h) m [] rest (omega (arith, w n [] .counts))))
       (down (s .countdown))
   parts (suc n) s f m (x ∷ xs) rest e =
       ⊎-elim
       (λ z. let d = onward-due s f z in
-      parts-more s (riseState o s (some x)) n m (x ∷ xs) xs rest (risenOf o s (some x)) (d n x xs) (d (n + m) x (xs ++ rest))
+      parts-more s (riseState o s (some x)) n m (x ∷ xs) xs rest (riseGiven o s (some x)) (d n x xs) (d (n + m) x (xs ++ rest))
       (parts n (riseState o s (some x)) (rise-takes-fit o s f x z) m xs rest (omega (arith, d n x xs .counts))))
       (λ h. let w = onward-wait s f h in
-      parts-more s (riseState o s none) n m (x ∷ xs) (x ∷ xs) rest (risenOf o s none) (w n (x ∷ xs)) (w (n + m) (x ∷ (xs ++ rest)))
+      parts-more s (riseState o s none) n m (x ∷ xs) (x ∷ xs) rest (riseGiven o s none) (w n (x ∷ xs)) (w (n + m) (x ∷ (xs ++ rest)))
       (parts n (riseState o s none) (rise-waits-fit o s f h) m (x ∷ xs) rest (omega (arith, w n (x ∷ xs) .counts))))
       (down (s .countdown))
 
@@ -195,11 +195,11 @@ module _ (o : Ops ℤ) where
   one s f (fill xs out) = fill-climbed s f xs out (ltb (length xs) (needed (length out) (s .countdown) (s .rate))) refl
 
   pub climbed : (s : State ℤ) → Fit s → (calls : List Raise)
-      → Climbed o s (along (lifts o) samples s calls) (along (lifts o) (yields o) s calls) (ends (lifts o) s calls)
-  unfolding along ends
+      → Climbed o s (along (lifts o) samples s calls) (along (lifts o) (yields o) s calls) (afterCalls (lifts o) s calls)
+  unfolding along afterCalls
   climbed s f [] = none-climbed s
   climbed s f (c ∷ cs) =
       let a = one s f c in
       let t : State ℤ = lifts o s c in
-      climbed-on s t (ends (lifts o) t cs) f (samples s c) (yields o s c) (along (lifts o) samples t cs) (along (lifts o) (yields o) t cs) a
+      climbed-on s t (afterCalls (lifts o) t cs) f (samples s c) (yields o s c) (along (lifts o) samples t cs) (along (lifts o) (yields o) t cs) a
       (climbed t (climbed-fit s t f (samples s c) (yields o s c) a) cs)

@@ -10,7 +10,7 @@ use lib.ListN.{length}
 use Rattle.sums.specs.Ops.{Ops}
 use Rattle.sums.specs.Machine.{Output, decimated, decimatedAt, given, givenAt, interpolated, interpolatedAt, risen, risenAt}
 use Rattle.sums.specs.State.{State, view, put, refusal}
-use Rattle.sums.specs.Calls.{riseNumber, stepState, stepGiven, riseState, risenOf}
+use Rattle.sums.specs.Calls.{riseNumber, stepState, stepGiven, riseState, riseGiven}
 use Rattle.sums.proofs.Refusals.{Good, good, good-accepts}
 use Rattle.sums.proofs.Arrays.{Room, rows-back}
 use Rattle.sums.proofs.Loops.{partInts, partSum, partCells, partComb, ints-length, cells-length}
@@ -141,8 +141,8 @@ module _ {A : Type 0} (o : Ops A) (s : State A) (f : Fit s) where
       ≡ packed (s .order) (s .delay) (s .rate) (s .countdown - 1) (s .unsettled) (s .hold) (partInts o (s .order) (s .integrators) (s .hold)) (s .combs)
   rise-waits h = riseAt (s .countdown - 1) (omega arith)
 
-  pub risen-waits : 0 < s .countdown → risenOf o s none ≡ partSum o (s .order) (s .integrators) (s .hold)
-  unfolding risenOf risen risenAt view
+  pub risen-waits : 0 < s .countdown → riseGiven o s none ≡ partSum o (s .order) (s .integrators) (s .hold)
+  unfolding riseGiven risen risenAt view
   risen-waits h = let e : s .countdown ≡ suc (s .countdown - 1) = omega arith in rw e
 
   module _ (x : A) where
@@ -157,8 +157,8 @@ module _ {A : Type 0} (o : Ops A) (s : State A) (f : Fit s) where
     unfolding riseState riseNumber interpolated interpolatedAt view put
     rise-takes e = rw (accepted s f, e)
 
-    pub risen-takes : s .countdown ≡ 0 → risenOf o s (some x) ≡ partSum o (s .order) (s .integrators) lowest
-    unfolding risenOf risen risenAt view
+    pub risen-takes : s .countdown ≡ 0 → riseGiven o s (some x) ≡ partSum o (s .order) (s .integrators) lowest
+    unfolding riseGiven risen risenAt view
     risen-takes e = rw e
 
   -- a step ends in an accepted state
@@ -181,7 +181,7 @@ module _ {A : Type 0} (o : Ops A) (s : State A) (f : Fit s) where
 -- t and y are what an interpolator's step of s on a sample or none leaves and gives, and t is accepted again
 pub record Rise {A : Type 0} (o : Ops A) (s : State A) (x : Option A) (t : State A) (y : A) : Type 0 where
   pub state : t ≡ riseState o s x
-  pub out : y ≡ risenOf o s x
+  pub out : y ≡ riseGiven o s x
   pub fit : Fit t
 
 module _ {A : Type 0} (o : Ops A) (s : State A) (f : Fit s) where

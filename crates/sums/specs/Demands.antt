@@ -17,7 +17,8 @@ use Rattle.sums.specs.Signed.{signedOps, exactOps}
 use Rattle.sums.specs.Machine.{Output}
 use Rattle.sums.specs.Moving.{moving, held}
 use Rattle.sums.specs.State.{State, refusal}
-use Rattle.sums.specs.Calls.{unless, newNumber, resumeNumber, rateNumber, riseNumber, newState, resumeState, rateState, clearState, settleState, stepState, stepGiven, riseState, risenOf, gain, gainLog2, fitNumber, fits}
+use Rattle.blocks.specs.Blocks.{unless}
+use Rattle.sums.specs.Calls.{newNumber, resumeNumber, rateNumber, riseNumber, newState, resumeState, rateState, clearState, settleState, stepState, stepGiven, riseState, riseGiven, gain, gainLog2, fitNumber, fits}
 use Rattle.sums.specs.Runs.{needed, join, blockNumber, fillNumber, outputs, blockState, blockOut, risings, fillState, settledPart}
 
 -- A list as a sequence, number 0 first and zeros behind it; and whole numbers that all fit the word.
@@ -32,9 +33,9 @@ unfoldable pub along : {S C X : Type 0} → (S → C → S) → (S → C → Lis
 along next f s [] = []
 along next f s (c ∷ cs) = f s c ++ along next f (next s c) cs
 
-unfoldable pub ends : {S C : Type 0} → (S → C → S) → S → List C → S
-ends next s [] = s
-ends next s (c ∷ cs) = ends next (next s c) cs
+unfoldable pub afterCalls : {S C : Type 0} → (S → C → S) → S → List C → S
+afterCalls next s [] = s
+afterCalls next s (c ∷ cs) = afterCalls next (next s c) cs
 
 -- A decimator's call: a step on one input, or a block of inputs with the slice that is lent for its outputs.
 pub data Call : Type 0 where
@@ -70,7 +71,7 @@ module _ (o : Ops ℤ) where
   lifts s (fill xs out) = fillState o s xs out
 
   unfoldable pub yields : State ℤ → Raise → List ℤ
-  yields s (rise x) = unless (riseNumber s x) [] (risenOf o s x ∷ [])
+  yields s (rise x) = unless (riseNumber s x) [] (riseGiven o s x ∷ [])
   yields s (fill xs out) = unless (fillNumber s xs out) [] (risings o s (length out) xs)
 
 -- What the outputs ys are to the inputs xs, where the first output is due after c inputs and the first u aren't to be believed.
@@ -88,7 +89,7 @@ pub record Decimates (w : Width) (N M rate c u : ℕ) (xs : List ℤ) (ys : List
 abbrev pub Decimator : (w : Width) (N M rate c u : ℕ) → State ℤ → Type 0
 Decimator w N M rate c u s =
     (calls : List Call)
-    → (refusal (ends (leaves (signedOps w)) s calls) ≡ 0)
+    → (refusal (afterCalls (leaves (signedOps w)) s calls) ≡ 0)
     × (InWord w (along (leaves (signedOps w)) reads s calls)
     → Decimates w N M rate c u (along (leaves (signedOps w)) reads s calls) (along (leaves (signedOps w)) (gives (signedOps w)) s calls))
 
@@ -101,7 +102,7 @@ pub record Interpolates (w : Width) (N M rate : ℕ) (xs ys : List ℤ) : Type 0
 abbrev pub Interpolator : (w : Width) (N M rate : ℕ) → State ℤ → Type 0
 Interpolator w N M rate s =
     (calls : List Raise)
-    → (refusal (ends (lifts (signedOps w)) s calls) ≡ 0)
+    → (refusal (afterCalls (lifts (signedOps w)) s calls) ≡ 0)
     × (InWord w (along (lifts (signedOps w)) samples s calls)
     → Interpolates w N M rate (along (lifts (signedOps w)) samples s calls) (along (lifts (signedOps w)) (yields (signedOps w)) s calls))
 
