@@ -1,20 +1,23 @@
--- Steps of an accepted state that is taken apart: its numbers passed, its arrays lent.
-use mathlib.Core.Path.{_≡_}
+-- Steps of an accepted state that is taken apart, as the rules read them: its numbers passed, its arrays lent.
 use mathlib.Core.List.{List}
-use mathlib.Core.Option.{Option}
+use mathlib.Core.Option.{Option, none, some}
 use Prim.Native.Nat.{ℕ}
+use lib.Dec.{eqb}
 use lib.IntN.{ℤ}
-use lib.ListN.{length}
-use Rattle.sums.specs.State.{State, refusal}
-use Rattle.sums.specs.Calls.{stepState, stepGiven, riseState, risenOf}
-use Rattle.sums.specs.Runs.{needed, values, over, outputs, after, risings, risenAfter}
+use Rattle.sums.specs.Machine.{Output}
+use Rattle.sums.specs.State.{State}
+use Rattle.sums.specs.Calls.{riseState, riseGiven}
+use Rattle.sums.proofs.Lent as lent
+use Rattle.cic.specs.Word.{wordOps}
 use Rattle.cic.specs.declared.state.Cic.{Cic}
 use Rattle.cic.specs.declared.steps.Numbers.{Numbers}
+use Rattle.cic.specs.declared.steps.Gave.{Gave}
+use Rattle.cic.specs.declared.steps.Gave.the-variants as Gave
 use Rattle.cic.specs.declared.steps.Out.{Out}
+use Rattle.cic.specs.declared.steps.Out.the-variants as Out
 use Rattle.cic.specs.declared.steps.Risen.{Risen}
 use Rattle.cic.specs.declared.questions.Interpolated.the-variants as Interpolated
-use Rattle.cic.specs.Reading.{i32Ops, stateOf, cicOf}
-use Rattle.cic.specs.Answers.{outOf}
+use Rattle.cic.specs.Reading.{stateOf, cicOf}
 
 abbrev pub numbersOf : Cic → Numbers
 numbersOf s = record {
@@ -26,48 +29,35 @@ numbersOf s = record {
   hold = s .hold;
 }
 
-abbrev pub apart : Numbers → List ℤ → List ℤ → State ℤ
-apart n integrators combs = record {
+abbrev pub figuresOf : Numbers → lent.Figures ℤ
+figuresOf n = record {
   order = n .order;
   delay = n .delay;
   rate = n .rate;
   countdown = n .countdown;
   unsettled = n .unsettled;
   hold = n .hold;
-  integrators = integrators;
-  combs = combs;
 }
 
-pub record Ready (s : State ℤ) : Type 0 where
-  pub accepted : refusal s ≡ 0
-  pub long8 : length (s .integrators) ≡ 8
-  pub long64 : length (s .combs) ≡ 64
+abbrev pub apart : Numbers → List ℤ → List ℤ → State ℤ
+apart n integrators combs = lent.apart (figuresOf n) integrators combs
 
--- The decimator's step of s on x leaves t and gives out.
-pub record Turns (s : State ℤ) (x : ℤ) (t : State ℤ) (out : Out) : Type 0 where
-  pub state : t ≡ stepState i32Ops s x
-  pub gives : out ≡ outOf 0 (stepGiven i32Ops s x)
+abbrev pub ringed : Numbers → List ℤ → List ℤ → ℕ → State ℤ
+ringed n integrators combs at = lent.ringed (figuresOf n) integrators combs at
 
--- The interpolator's step of s, with a sample or none, leaves t and gives y.
-pub record Rises (s : State ℤ) (x : Option ℤ) (t : State ℤ) (y : ℤ) : Type 0 where
-  pub state : t ≡ riseState i32Ops s x
-  pub gives : y ≡ risenOf i32Ops s x
+-- What a step on lent arrays gives.
+abbrev pub givenOf : Gave → Option (Output ℤ)
+givenOf (Gave.Output y unsettled) = some (record { value = y; settled = eqb unsettled 0 })
+givenOf Gave.Nothing = none
+
+-- And what its call answers.
+abbrev pub markedOf : Gave → Out
+markedOf (Gave.Output y unsettled) = Out.Given (record { value = y; settled = eqb unsettled 0 })
+markedOf Gave.Nothing = Out.Nothing
 
 -- The interpolator's step of an accepted `Cic`, as its call answers it.
 abbrev pub liftedOf : Cic → Option ℤ → Risen
 liftedOf s x = record {
-  state = cicOf (riseState i32Ops (stateOf s) x);
-  out = Interpolated.Value (risenOf i32Ops (stateOf s) x);
+  state = cicOf (riseState wordOps (stateOf s) x);
+  out = Interpolated.Value (riseGiven wordOps (stateOf s) x);
 }
-
--- The decimator's steps of s on xs in turn leave t; k outputs stand in front of the slice that was out, which is now left.
-pub record Drives (s : State ℤ) (xs out : List ℤ) (t : State ℤ) (k : ℕ) (left : List ℤ) : Type 0 where
-  pub state : t ≡ after i32Ops s xs
-  pub count : k ≡ needed (length xs) (s .countdown) (s .rate)
-  pub wrote : left ≡ over (values (outputs i32Ops s xs)) out
-
--- The interpolator's steps of s in turn, as many as out has elements, leave t and read k of the samples xs; out is now left.
-pub record Fills (s : State ℤ) (xs out : List ℤ) (t : State ℤ) (k : ℕ) (left : List ℤ) : Type 0 where
-  pub state : t ≡ risenAfter i32Ops s (length out) xs
-  pub count : k ≡ needed (length out) (s .countdown) (s .rate)
-  pub wrote : left ≡ risings i32Ops s (length out) xs

@@ -27,8 +27,13 @@ returns-5 : tie.Need-returns-5
 unfolding refusalOf
 returns-5 c =
     let e4 = c .before in let e3 = e4 .before in let e2 = e3 .before in let e1 = e2 .before in
-    simp (le-ltb _ _ (e1 .if1 .left), ne-eqb _ _ (e2 .if2 .left), le-ltb _ _ (e3 .if3 .left), le-ltb _ _ (e4 .if4 .left),
-    lt-ltb _ _ (c .if5 .taken))
+    simp (
+      le-ltb _ _ (e1 .if1 .left),
+      ne-eqb _ _ (e2 .if2 .left),
+      le-ltb _ _ (e3 .if3 .left),
+      le-ltb _ _ (e4 .if4 .left),
+      lt-ltb _ _ (c .if5 .taken),
+    )
 
 mul-if6 : tie.Need-mul-if6
 mul-if6 c = let e3 = c .before .before in small _ _ (e3 .before .before .if1 .left) (e3 .if3 .left)
@@ -37,15 +42,27 @@ returns-6 : tie.Need-returns-6
 unfolding refusalOf
 returns-6 c =
     let e5 = c .before in let e4 = e5 .before in let e3 = e4 .before in let e2 = e3 .before in let e1 = e2 .before in
-    simp (le-ltb _ _ (e1 .if1 .left), ne-eqb _ _ (e2 .if2 .left), le-ltb _ _ (e3 .if3 .left), le-ltb _ _ (e4 .if4 .left),
-    le-ltb _ _ (e5 .if5 .left), lt-ltb _ _ (c .if6 .taken))
+    simp (
+      le-ltb _ _ (e1 .if1 .left),
+      ne-eqb _ _ (e2 .if2 .left),
+      le-ltb _ _ (e3 .if3 .left),
+      le-ltb _ _ (e4 .if4 .left),
+      le-ltb _ _ (e5 .if5 .left),
+      lt-ltb _ _ (c .if6 .taken),
+    )
 
 returns-7 : tie.Need-returns-7
 unfolding refusalOf
 returns-7 c =
     let e5 = c .before in let e4 = e5 .before in let e3 = e4 .before in let e2 = e3 .before in let e1 = e2 .before in
-    simp (le-ltb _ _ (e1 .if1 .left), ne-eqb _ _ (e2 .if2 .left), le-ltb _ _ (e3 .if3 .left), le-ltb _ _ (e4 .if4 .left),
-    le-ltb _ _ (e5 .if5 .left), le-ltb _ _ (c .if6 .left))
+    simp (
+      le-ltb _ _ (e1 .if1 .left),
+      ne-eqb _ _ (e2 .if2 .left),
+      le-ltb _ _ (e3 .if3 .left),
+      le-ltb _ _ (e4 .if4 .left),
+      le-ltb _ _ (e5 .if5 .left),
+      le-ltb _ _ (c .if6 .left),
+    )
 
 pub refusal-of-spec : {M : Type 1} → statement M
 refusal-of-spec =

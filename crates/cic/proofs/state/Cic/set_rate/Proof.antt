@@ -1,25 +1,17 @@
+-- One test for both rates, by their maximum; then only two numbers change.
 use borrow.Author.Needs.{needs}
 use mathlib.Core.Path.{_≡_, refl, sym, _∙_}
 use Prim.Native.Nat.{max}
 use Rattle.sums.specs.Calls.{rateNumber, rateState}
 use Rattle.sums.proofs.Refusals.{sound}
 use Rattle.cic.specs.Reading.{stateOf}
-use Rattle.cic.proofs.Numbers.{small}
+use Rattle.sums.proofs.Numbers.{small}
 use Rattle.cic.proofs.Ways.{refuses, takes}
 use Rattle.cic.proofs.state.Cic.set_rate.Statement.{statement}
 use Rattle.cic.proofs.state.Cic.set_rate.Tie as tie
 
 number : (c : tie.After-refusal-of) → c .refusal-of .result ≡ rateNumber (stateOf (c .before .before .args .self)) (c .before .before .args .rate)
 number c = rw (c .before .greater .ensures) at (c .refusal-of .ensures)
-
-greater-requires : tie.Need-greater-requires
-greater-requires c κs = search needs
-
-refusal-of-requires : tie.Need-refusal-of-requires
-refusal-of-requires c κs = search needs
-
-kept-requires : tie.Need-kept-requires
-kept-requires c κs = search needs
 
 returns : tie.Need-returns
 unfolding rateState
@@ -41,5 +33,4 @@ returns-2 c =
 
 pub set-rate-spec : {M : Type 1} → statement M
 set-rate-spec =
-    tie.close
-    (tie.spec greater-requires refusal-of-requires kept-requires returns mul-state returns-2)
+    tie.close (tie.spec (λ c κs. search needs) (λ c κs. search needs) (λ c κs. search needs) returns mul-state returns-2)
