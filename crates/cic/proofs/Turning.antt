@@ -18,7 +18,7 @@ use Rattle.cic.specs.declared.state.Cic.{Cic}
 use Rattle.cic.specs.declared.questions.Interpolated.the-variants as Interpolated
 use Rattle.cic.specs.Reading.{stateOf, cicOf}
 use Rattle.cic.specs.Answers.{outOf, steppedOf, interpolatedOf, sampleOf, risenOf}
-use Rattle.cic.specs.Turns.{givenOf, markedOf, liftedOf}
+use Rattle.cic.specs.Inner.Turns.{givenOf, markedOf, liftedOf}
 
 -- an output with its mark is the rule's
 marked-is : (g : Gave) → markedOf g ≡ outOf 0 (givenOf g)

@@ -16,7 +16,7 @@ ghost use lib.ListN.{length};
 ghost use Rattle.sums.specs.Runs.{needed};
 ghost use Rattle.sums.proofs.Lent.{Ready, Ring, Reaches, Rests, Drives};
 ghost use Rattle.cic.specs.Word.{wordOps};
-ghost use Rattle.cic.specs.Turns.{figuresOf, apart, ringed, givenOf};
+ghost use Rattle.cic.specs.Inner.Turns.{figuresOf, apart, ringed, givenOf};
 
 // Where a stretch ends: the numbers after it, what it gives, the place of the oldest cells, and the next input.
 pub(crate) struct StretchEnd {

@@ -13,7 +13,7 @@ ghost use lib.ListN.{length};
 ghost use Rattle.sums.specs.Runs.{needed};
 ghost use Rattle.sums.proofs.Lent.{Ready, Ring, Feeds, Coasts, Fills};
 ghost use Rattle.cic.specs.Word.{wordOps};
-ghost use Rattle.cic.specs.Turns.{figuresOf, apart, ringed};
+ghost use Rattle.cic.specs.Inner.Turns.{figuresOf, apart, ringed};
 
 // After a sample: the numbers, and the place of the oldest cells.
 pub(crate) struct SampleEnd {

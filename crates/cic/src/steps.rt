@@ -13,7 +13,7 @@ ghost use Rattle.cic.specs.Word.{wordOps};
 ghost use Rattle.cic.specs.Reading.{stateOf, cicOf};
 ghost use Rattle.cic.specs.Answers.{steppedOf, risenOf};
 ghost use Rattle.sums.proofs.Lent.{Ready, Turns, Rises};
-ghost use Rattle.cic.specs.Turns.{numbersOf, apart, liftedOf, givenOf, markedOf};
+ghost use Rattle.cic.specs.Inner.Turns.{numbersOf, apart, liftedOf, givenOf, markedOf};
 
 // An output of the decimator, and whether it is settled.
 pub struct Output {

@@ -10,7 +10,7 @@ use Rattle.sums.proofs.Stretches.{ran-length}
 use Rattle.sums.proofs.Striding.{reaches}
 use Rattle.shape.proofs.Places.{follows}
 use Rattle.cic.specs.Word.{width, wordOps}
-use Rattle.cic.specs.Turns.{figuresOf}
+use Rattle.cic.specs.Inner.Turns.{figuresOf}
 use Rattle.cic.proofs.decimating.decimate_stretch.Statement.{statement}
 use Rattle.cic.proofs.decimating.decimate_stretch.Tie as tie
 

@@ -12,7 +12,7 @@ use Rattle.sums.specs.State.{State}
 use Rattle.sums.proofs.Blocks.{Held, held-start}
 use Rattle.sums.proofs.Rings.{turned-none}
 use Rattle.cic.specs.Word.{width, wordOps}
-use Rattle.cic.specs.Turns.{figuresOf, apart, ringed, givenOf}
+use Rattle.cic.specs.Inner.Turns.{figuresOf, apart, ringed, givenOf}
 use Rattle.sums.proofs.Lent.{Ring}
 use Rattle.sums.proofs.Turning.{fit, ready}
 use Rattle.sums.proofs.Running.{drive-none, drive-room, drive-one, drive-ends}

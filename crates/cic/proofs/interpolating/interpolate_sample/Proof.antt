@@ -5,7 +5,7 @@ use Rattle.words.proofs.Reading.{read}
 use Rattle.sums.proofs.Striding.{feeds}
 use Rattle.shape.proofs.Places.{follows}
 use Rattle.cic.specs.Word.{width, wordOps}
-use Rattle.cic.specs.Turns.{figuresOf}
+use Rattle.cic.specs.Inner.Turns.{figuresOf}
 use Rattle.cic.proofs.interpolating.interpolate_sample.Statement.{statement}
 use Rattle.cic.proofs.interpolating.interpolate_sample.Tie as tie
 

@@ -12,7 +12,7 @@ use Rattle.sums.proofs.Fills.{Filling, filling-start, filling-read}
 use Rattle.sums.proofs.Stretches.{ran-length}
 use Rattle.sums.proofs.Rings.{turned-none}
 use Rattle.cic.specs.Word.{width, wordOps}
-use Rattle.cic.specs.Turns.{figuresOf, apart, ringed}
+use Rattle.cic.specs.Inner.Turns.{figuresOf, apart, ringed}
 use Rattle.sums.proofs.Lent.{Ring}
 use Rattle.sums.proofs.Turning.{fit}
 use Rattle.sums.proofs.Running.{raise-turn, raise-same, raise-ends}
