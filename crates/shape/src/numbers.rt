@@ -1,4 +1,5 @@
 // The tests of a state's numbers, and the small steps that they take.
+use std::num::wrapping_add_usize;
 ghost use mathlib.Core.Path.{_≡_};
 ghost use Prim.Native.Nat.{suc, max, _*_, _-_};
 ghost use Rattle.sums.specs.State.{refusalOf};
@@ -54,12 +55,9 @@ pub fn span(rate: u32, delay: u32) -> u64
 pub fn following(at: usize, m: usize) -> usize
     ensures { λ r. ⌜ r ≡ nextPlace at m ⌝ }
 {
-    if m <= at {
-        return 0;
+    let next = wrapping_add_usize(at, 1);
+    if next < m {
+        return next;
     }
-    let next = at + 1;
-    if next == m {
-        return 0;
-    }
-    next
+    0
 }
