@@ -62,5 +62,6 @@ module _ (s : Cic) (f : Fit (stateOf s)) (xs out : List ℤ) (e : blockNumber (s
       let p = values (outputsInTurn s xs) in let l = length-append p (drop (length p) out) in
       rw (block-out, le-ltb (length (over p out)) (length (outputsInTurn s xs)) (omega (arith, l, values-length (outputsInTurn s xs))))
 
-  pub settled-part : settledPart (blockOut wordOps (stateOf s) xs out) (length (outputsInTurn s xs)) (s .unsettled) ≡ believed (outputsInTurn s xs)
+  pub settled-part : settledPart (blockOut wordOps (stateOf s) xs out) (length (outputsInTurn s xs)) (s .unsettled)
+      ≡ believed (outputsInTurn s xs)
   settled-part = rw (outputs-is s xs) (sums.settled-part wordOps (stateOf s) f xs out e)

@@ -28,7 +28,8 @@ marked-is Nothing = refl
 
 -- the decimator's call: k is the number that the code found
 module _ (s : Cic) (x : ℤ) where
-  pub step-refuses : (k : ℕ) → k ≡ refusal (stateOf s) → (k ≡ 0 → ⊥) → _≡_ {A = Stepped} (record { state = s; out = Refused k }) (steppedOf s x)
+  pub step-refuses : (k : ℕ) → k ≡ refusal (stateOf s) → (k ≡ 0 → ⊥)
+      → _≡_ {A = Stepped} (record { state = s; out = Refused k }) (steppedOf s x)
   unfolding stepState outOf
   step-refuses zero e h = absurd (h refl)
   step-refuses (suc k) e h = rw (← e, ne-eqb (suc k) 0 h)
@@ -50,6 +51,7 @@ module _ (s : Cic) (x : Sample) where
   rise-refuses zero e h = absurd (h refl)
   rise-refuses (suc k) e h = rw (← e, ne-eqb (suc k) 0 h)
 
-  pub rise-takes : (r : Risen) (z : Option ℤ) → r ≡ liftedOf s z → z ≡ sampleOf x → riseNumber (stateOf s) (sampleOf x) ≡ 0 → r ≡ risenOf s x
+  pub rise-takes : (r : Risen) (z : Option ℤ) → r ≡ liftedOf s z → z ≡ sampleOf x → riseNumber (stateOf s) (sampleOf x) ≡ 0 → r
+      ≡ risenOf s x
   unfolding interpolatedOf
   rise-takes r z er ez e = er ∙ rw (ez, e)

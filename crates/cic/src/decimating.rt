@@ -37,7 +37,8 @@ fn decimate_stretch(
     input: &[Word],
     i: usize,
 ) -> StretchEnd
-    requires { ⌜ Ring n at (figuresOf first) (now combs) × Ready (ringed first (now integrators) (now combs) at) × (i + first .countdown < length (now input)) ⌝ }
+    requires { ⌜ Ring n at (figuresOf first) (now combs) × Ready (ringed first (now integrators) (now combs) at)
+        × (i + first .countdown < length (now input)) ⌝ }
     ensures { λ r. ⌜ Reaches wordOps n (now (input .entry)) (ringed first (now (integrators .entry)) (now (combs .entry)) at) i
         (figuresOf (r .numbers)) (now (integrators .exit)) (now (combs .exit)) (r .at) (givenOf (r .gave)) (r .next) ⌝ }
 {
@@ -68,7 +69,8 @@ fn decimate_rest(
     i: usize,
 ) -> Numbers
     requires { ⌜ (n ≤ 8) × (i ≤ length (now input)) × (length (now input) - i ≤ first .countdown) × (length (now integrators) ≡ 8) ⌝ }
-    ensures { λ r. ⌜ Rests wordOps n (now (input .entry)) i (figuresOf first) (now (integrators .entry)) (figuresOf r) (now (integrators .exit)) ⌝ }
+    ensures { λ r. ⌜ Rests wordOps n (now (input .entry)) i (figuresOf first) (now (integrators .entry)) (figuresOf r)
+        (now (integrators .exit)) ⌝ }
 {
     let mut numbers = first;
     let end = input.len();
@@ -88,8 +90,10 @@ fn decimate_stretches(
     input: &[Word],
     out: &mut [Word],
 ) -> RingEnd
-    requires { ⌜ (n ≡ first .order) × Ready (apart first (now integrators) (now combs)) × (needed (length (now input)) (first .countdown) (first .rate) ≤ length (now out)) ⌝ }
-    ensures { λ r. ⌜ Ring n (r .at) (figuresOf (r .numbers)) (now (combs .exit)) × Drives wordOps (apart first (now (integrators .entry)) (now (combs .entry))) (now (input .entry)) (now (out .entry))
+    requires { ⌜ (n ≡ first .order) × Ready (apart first (now integrators) (now combs))
+        × (needed (length (now input)) (first .countdown) (first .rate) ≤ length (now out)) ⌝ }
+    ensures { λ r. ⌜ Ring n (r .at) (figuresOf (r .numbers)) (now (combs .exit))
+        × Drives wordOps (apart first (now (integrators .entry)) (now (combs .entry))) (now (input .entry)) (now (out .entry))
         (ringed (r .numbers) (now (integrators .exit)) (now (combs .exit)) (r .at)) (r .count) (now (out .exit)) ⌝ }
 {
     let mut numbers = first;
@@ -124,8 +128,10 @@ fn decimate_by_order(
     input: &[Word],
     out: &mut [Word],
 ) -> RingEnd
-    requires { ⌜ Ready (apart first (now integrators) (now combs)) × (needed (length (now input)) (first .countdown) (first .rate) ≤ length (now out)) ⌝ }
-    ensures { λ r. ⌜ Ring (first .order) (r .at) (figuresOf (r .numbers)) (now (combs .exit)) × Drives wordOps (apart first (now (integrators .entry)) (now (combs .entry))) (now (input .entry)) (now (out .entry))
+    requires { ⌜ Ready (apart first (now integrators) (now combs))
+        × (needed (length (now input)) (first .countdown) (first .rate) ≤ length (now out)) ⌝ }
+    ensures { λ r. ⌜ Ring (first .order) (r .at) (figuresOf (r .numbers)) (now (combs .exit))
+        × Drives wordOps (apart first (now (integrators .entry)) (now (combs .entry))) (now (input .entry)) (now (out .entry))
         (ringed (r .numbers) (now (integrators .exit)) (now (combs .exit)) (r .at)) (r .count) (now (out .exit)) ⌝ }
 {
     let n = first.order;
@@ -152,7 +158,8 @@ pub(crate) fn decimate_run(
     input: &[Word],
     out: &mut [Word],
 ) -> BlockEnd
-    requires { ⌜ Ready (apart first (now integrators) (now combs)) × (needed (length (now input)) (first .countdown) (first .rate) ≤ length (now out)) ⌝ }
+    requires { ⌜ Ready (apart first (now integrators) (now combs))
+        × (needed (length (now input)) (first .countdown) (first .rate) ≤ length (now out)) ⌝ }
     ensures { λ r. ⌜ Drives wordOps (apart first (now (integrators .entry)) (now (combs .entry))) (now (input .entry)) (now (out .entry))
         (apart (r .numbers) (now (integrators .exit)) (now (combs .exit))) (r .count) (now (out .exit)) ⌝ }
 {

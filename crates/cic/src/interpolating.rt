@@ -51,7 +51,8 @@ fn interpolate_rest(
     i: usize,
 ) -> Numbers
     requires { ⌜ (n ≤ 8) × (i ≤ length (now out)) × (length (now out) - i ≤ first .countdown) × (length (now integrators) ≡ 8) ⌝ }
-    ensures { λ r. ⌜ Coasts wordOps n i (figuresOf first) (now (integrators .entry)) (now (out .entry)) (figuresOf r) (now (integrators .exit)) (now (out .exit)) ⌝ }
+    ensures { λ r. ⌜ Coasts wordOps n i (figuresOf first) (now (integrators .entry)) (now (out .entry)) (figuresOf r)
+        (now (integrators .exit)) (now (out .exit)) ⌝ }
 {
     let mut numbers = first;
     let end = out.len();
@@ -71,8 +72,10 @@ fn interpolate_stretches(
     input: &[Word],
     out: &mut [Word],
 ) -> RingEnd
-    requires { ⌜ (n ≡ first .order) × Ready (apart first (now integrators) (now combs)) × (needed (length (now out)) (first .countdown) (first .rate) ≤ length (now input)) ⌝ }
-    ensures { λ r. ⌜ Ring n (r .at) (figuresOf (r .numbers)) (now (combs .exit)) × Fills wordOps (apart first (now (integrators .entry)) (now (combs .entry))) (now (input .entry)) (now (out .entry))
+    requires { ⌜ (n ≡ first .order) × Ready (apart first (now integrators) (now combs))
+        × (needed (length (now out)) (first .countdown) (first .rate) ≤ length (now input)) ⌝ }
+    ensures { λ r. ⌜ Ring n (r .at) (figuresOf (r .numbers)) (now (combs .exit))
+        × Fills wordOps (apart first (now (integrators .entry)) (now (combs .entry))) (now (input .entry)) (now (out .entry))
         (ringed (r .numbers) (now (integrators .exit)) (now (combs .exit)) (r .at)) (r .count) (now (out .exit)) ⌝ }
 {
     let mut numbers = first;
@@ -106,8 +109,10 @@ fn interpolate_by_order(
     input: &[Word],
     out: &mut [Word],
 ) -> RingEnd
-    requires { ⌜ Ready (apart first (now integrators) (now combs)) × (needed (length (now out)) (first .countdown) (first .rate) ≤ length (now input)) ⌝ }
-    ensures { λ r. ⌜ Ring (first .order) (r .at) (figuresOf (r .numbers)) (now (combs .exit)) × Fills wordOps (apart first (now (integrators .entry)) (now (combs .entry))) (now (input .entry)) (now (out .entry))
+    requires { ⌜ Ready (apart first (now integrators) (now combs))
+        × (needed (length (now out)) (first .countdown) (first .rate) ≤ length (now input)) ⌝ }
+    ensures { λ r. ⌜ Ring (first .order) (r .at) (figuresOf (r .numbers)) (now (combs .exit))
+        × Fills wordOps (apart first (now (integrators .entry)) (now (combs .entry))) (now (input .entry)) (now (out .entry))
         (ringed (r .numbers) (now (integrators .exit)) (now (combs .exit)) (r .at)) (r .count) (now (out .exit)) ⌝ }
 {
     let n = first.order;
@@ -134,7 +139,8 @@ pub(crate) fn interpolate_run(
     input: &[Word],
     out: &mut [Word],
 ) -> BlockEnd
-    requires { ⌜ Ready (apart first (now integrators) (now combs)) × (needed (length (now out)) (first .countdown) (first .rate) ≤ length (now input)) ⌝ }
+    requires { ⌜ Ready (apart first (now integrators) (now combs))
+        × (needed (length (now out)) (first .countdown) (first .rate) ≤ length (now input)) ⌝ }
     ensures { λ r. ⌜ Fills wordOps (apart first (now (integrators .entry)) (now (combs .entry))) (now (input .entry)) (now (out .entry))
         (apart (r .numbers) (now (integrators .exit)) (now (combs .exit))) (r .count) (now (out .exit)) ⌝ }
 {

@@ -30,7 +30,8 @@ impl Cic {
     // A block of inputs in, its outputs to the front of out. The rest of out stays. Refused with 20 where out
     // is shorter than the block needs; a refused block changes nothing.
     pub fn decimate_block(self, input: &[Word], out: &mut [Word]) -> Decimated
-        ensures { λ r. ⌜ (r ≡ decimatedOf self (now (input .entry)) (now (out .entry))) × (now (out .exit) ≡ blockOut wordOps (stateOf self) (now (input .entry)) (now (out .entry))) ⌝ }
+        ensures { λ r. ⌜ (r ≡ decimatedOf self (now (input .entry)) (now (out .entry)))
+            × (now (out .exit) ≡ blockOut wordOps (stateOf self) (now (input .entry)) (now (out .entry))) ⌝ }
     {
         let number = self.refusal();
         if number != 0 {
@@ -63,7 +64,8 @@ impl Cic {
     // Every element of out is written, from as many inputs as are due; later ones stay unread. Refused with
     // 23 where input is shorter than needed; a refused block changes nothing.
     pub fn interpolate_block(self, input: &[Word], out: &mut [Word]) -> Filled
-        ensures { λ r. ⌜ (r ≡ filledOf self (now (input .entry)) (now (out .entry))) × (now (out .exit) ≡ fillOut wordOps (stateOf self) (now (input .entry)) (now (out .entry))) ⌝ }
+        ensures { λ r. ⌜ (r ≡ filledOf self (now (input .entry)) (now (out .entry)))
+            × (now (out .exit) ≡ fillOut wordOps (stateOf self) (now (input .entry)) (now (out .entry))) ⌝ }
     {
         let number = self.refusal();
         if number != 0 {
@@ -124,7 +126,8 @@ pub struct Part<'a> {
 // The settled part of what a decimator's block wrote into out, and 0; where more are said to be written than
 // out holds, the empty part and 20.
 pub fn settled<'a>(out: &'a [Word], written: usize, unsettled: usize) -> Part<'a>
-    ensures { λ r. ⌜ (now (r .part) ≡ settledPart (now (out .entry)) written unsettled) × (r .number ≡ settledNumber (now (out .entry)) written) ⌝ }
+    ensures { λ r. ⌜ (now (r .part) ≡ settledPart (now (out .entry)) written unsettled)
+        × (r .number ≡ settledNumber (now (out .entry)) written) ⌝ }
 {
     let number = settled_number(out, written);
     let part = settled_part(out, written, unsettled);

@@ -94,7 +94,8 @@ impl Cic {
         hold: Word,
         countdown: u32,
     ) -> Made
-        ensures { λ r. ⌜ r ≡ madeOf (resumeNumber order delay rate countdown) (resumeState wordOps order delay rate integrators combs hold countdown) ⌝ }
+        ensures { λ r. ⌜ r ≡ madeOf (resumeNumber order delay rate countdown)
+            (resumeState wordOps order delay rate integrators combs hold countdown) ⌝ }
     {
         let number = refusal_of(order, delay, rate, countdown, 0);
         if number != 0 {

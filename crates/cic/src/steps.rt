@@ -111,7 +111,8 @@ pub(crate) fn decimate_step(
     x: Word,
 ) -> StepEnd
     requires { ⌜ Ready (apart n (now integrators) (now combs)) ⌝ }
-    ensures { λ r. ⌜ Turns wordOps (apart n (now (integrators .entry)) (now (combs .entry))) x (apart (r .numbers) (now (integrators .exit)) (now (combs .exit))) (givenOf (r .gave)) ⌝ }
+    ensures { λ r. ⌜ Turns wordOps (apart n (now (integrators .entry)) (now (combs .entry))) x
+        (apart (r .numbers) (now (integrators .exit)) (now (combs .exit))) (givenOf (r .gave)) ⌝ }
 {
     let mut numbers = n;
     let unsettled = n.unsettled;
@@ -141,7 +142,8 @@ pub(crate) fn interpolate_step(
     x: Word,
 ) -> RiseEnd
     requires { ⌜ Ready (apart n (now integrators) (now combs)) ⌝ }
-    ensures { λ r. ⌜ Rises wordOps (apart n (now (integrators .entry)) (now (combs .entry))) (dueSample wordOps (n .countdown) (x ∷ [])) (apart (r .numbers) (now (integrators .exit)) (now (combs .exit))) (r .value) ⌝ }
+    ensures { λ r. ⌜ Rises wordOps (apart n (now (integrators .entry)) (now (combs .entry))) (dueSample wordOps (n .countdown) (x ∷ []))
+        (apart (r .numbers) (now (integrators .exit)) (now (combs .exit))) (r .value) ⌝ }
 {
     let mut next = n;
     if 0 < n.countdown {

@@ -80,7 +80,8 @@ pub fn fit(
     width: u32,
     b: u32,
 ) -> Fitting
-    ensures { λ r. ⌜ r ≡ fittingOf (fitNumberOf (refusalOf order delay rate countdown unsettled) width b) (fitsOf (gainLog2Of order delay rate) width b) ⌝ }
+    ensures { λ r. ⌜ r ≡ fittingOf (fitNumberOf (refusalOf order delay rate countdown unsettled) width b)
+        (fitsOf (gainLog2Of order delay rate) width b) ⌝ }
 {
     let number = refusal_of(order, delay, rate, countdown, unsettled);
     if number != 0 {

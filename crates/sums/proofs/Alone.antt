@@ -63,7 +63,8 @@ module _ (o : Ops ℤ) where
   alone s f [] = unfold outputs in refl
   alone s f (c ∷ cs) =
       let t = one s f c in
-      ap₂ _++_ (t .gave) (alone (leaves o s c) (leaves-fit s f c) cs ∙ ap (λ q. outputs o q (along (leaves o) reads (leaves o s c) cs)) (t .left))
+      ap₂ _++_ (t .gave) (alone (leaves o s c) (leaves-fit s f c) cs
+      ∙ ap (λ q. outputs o q (along (leaves o) reads (leaves o s c) cs)) (t .left))
       ∙ sym (outputs-append o s (reads s c) (along (leaves o) reads (leaves o s c) cs))
 
 -- what holds of the steps in turn holds of every run

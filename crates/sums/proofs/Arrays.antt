@@ -36,7 +36,8 @@ module _ {A : Type 0} where
   rows-put M (suc n) (l ∷ ls) c m e h b =
       let rest : List A = putRows M ls (drop 8 c) in
       ap₂ _∷_ (take-at l (drop M (take 8 c) ++ rest) M (h .0))
-      (ap (rows M n) (sym (ap (drop 8) (append-assoc l (drop M (take 8 c)) rest)) ∙ drop-at (l ++ drop M (take 8 c)) rest 8 (row-length M l c m (h .0) (omega arith)))
+      (ap (rows M n) (sym (ap (drop 8) (append-assoc l (drop M (take 8 c)) rest))
+      ∙ drop-at (l ++ drop M (take 8 c)) rest 8 (row-length M l c m (h .0) (omega arith)))
       ∙ rows-put M n ls (drop 8 c) m (omega (arith, e)) (h .1) (rw length-drop (omega arith)))
 
   pub rows-back : (M n : ℕ) (c : List A) → M ≤ 8 → n * 8 ≤ length c → putRows M (rows M n c) c ≡ c

@@ -114,7 +114,8 @@ module _ {A : Type 0} (o : Ops A) where
     pub wrote : left ≡ risings o s (length out) xs
 
   -- From input i and state s to the next output at input j - 1, which is gives.
-  pub record Reaches (n : ℕ) (xs : List A) (s : State A) (i : ℕ) (t : Figures A) (integrators combs : List A) (at : ℕ) (gives : Option (Output A)) (j : ℕ) : Type 0 where
+  pub record Reaches (n : ℕ) (xs : List A) (s : State A) (i : ℕ) (t : Figures A) (integrators combs : List A) (at : ℕ)
+      (gives : Option (Output A)) (j : ℕ) : Type 0 where
     pub ring : Ring n at t combs
     pub jump : Jump o xs s i (ringed t integrators combs at) gives j
     pub further : i < j

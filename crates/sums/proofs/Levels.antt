@@ -39,7 +39,8 @@ pub times-wrap : (w : Width) (n : ℕ) (x : ℤ) → times (signedOps w) n x ≡
 unfolding times
 times-wrap w zero x = rw zero-*ℤ (sym (wrap-is w (pos 0) (record { sfits = pow-pos _ })))
 times-wrap w (suc n) x =
-    ap (λ z. wrap w (z +ℤ x)) (times-wrap w n x) ∙ wrap-same (same-add (wrapped w (pos n *ℤ x)) (equal {a = x} refl)) ∙ ap (wrap w) (sym (sucℤ-*ℤ (pos n) x))
+    ap (λ z. wrap w (z +ℤ x)) (times-wrap w n x) ∙ wrap-same (same-add (wrapped w (pos n *ℤ x)) (equal {a = x} refl))
+    ∙ ap (wrap w) (sym (sucℤ-*ℤ (pos n) x))
 
 -- x by the factor, turn by turn
 pub times-once : (w : Width) (by : ℕ) (x : ℤ) → SFits w x → x ≡ times (signedOps w) (by ^ 0) x
@@ -47,7 +48,8 @@ times-once w by x h =
     let one : pos 1 *ℤ x ≡ x = sucℤ-*ℤ (pos 0) x ∙ ap (λ z. z +ℤ x) (zero-*ℤ x) ∙ +ℤ-idl x in
     rw pow-zero (sym (times-wrap w 1 x ∙ ap (wrap w) one ∙ wrap-is w x h))
 
-pub times-turn : (w : Width) (by i : ℕ) (x a : ℤ) → a ≡ times (signedOps w) (by ^ i) x → wrap w (a *ℤ pos by) ≡ times (signedOps w) (by ^ (i + 1)) x
+pub times-turn : (w : Width) (by i : ℕ) (x a : ℤ) → a ≡ times (signedOps w) (by ^ i) x → wrap w (a *ℤ pos by)
+    ≡ times (signedOps w) (by ^ (i + 1)) x
 times-turn w by i x a e =
     ap (λ z. wrap w (z *ℤ pos by)) (e ∙ times-wrap w (by ^ i) x)
     ∙ wrap-same (same-mul (wrapped w (pos (by ^ i) *ℤ x)) (equal {a = pos by} refl))
@@ -66,7 +68,8 @@ module _ {A : Type 0} where
   snoc (suc i) x l = ap (λ r. x ∷ r) (snoc i x l)
 
   -- the first cells of a list of one value, cell by cell
-  pub level-turn : (N i : ℕ) (x d : A) → i < N → set (replicate i x ++ replicate (N - i) d) i x ≡ replicate (i + 1) x ++ replicate (N - (i + 1)) d
+  pub level-turn : (N i : ℕ) (x d : A) → i < N → set (replicate i x ++ replicate (N - i) d) i x
+      ≡ replicate (i + 1) x ++ replicate (N - (i + 1)) d
   level-turn N i x d h =
       let e : N - i ≡ suc (N - suc i) = omega arith in
       ap (λ n. set (replicate i x ++ replicate n d) i x) e
@@ -91,8 +94,10 @@ module _ (w : Width) (s : State ℤ) (x : ℤ) where
 
   pub settle-some : 1 ≤ s .order → s .order ≤ 8 → (v : ℤ) (line : List ℤ) → v ≡ times (signedOps w) (gain s) x
       → line ≡ replicate (s .delay) x ++ replicate (64 - s .delay) (pos 0)
-      → packed (s .order) (s .delay) (s .rate) 0 0 (pos 0) (set (replicate 8 (pos 0)) (s .order - 1) v) line ≡ settledAt (signedOps w) s x (s .order)
+      → packed (s .order) (s .delay) (s .rate) 0 0 (pos 0) (set (replicate 8 (pos 0)) (s .order - 1) v) line
+      ≡ settledAt (signedOps w) s x (s .order)
   settle-some low high v line ev el =
       let e : s .order ≡ suc (s .order - 1) = omega arith in
-      subst (λ n. packed n (s .delay) (s .rate) 0 0 (pos 0) (set (replicate 8 (pos 0)) (s .order - 1) v) line ≡ settledAt (signedOps w) s x n) (sym e)
+      subst (λ n. packed n (s .delay) (s .rate) 0 0 (pos 0) (set (replicate 8 (pos 0)) (s .order - 1) v) line
+      ≡ settledAt (signedOps w) s x n) (sym e)
       (settle-suc (s .order - 1) e (omega arith) v line ev el)

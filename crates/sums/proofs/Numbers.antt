@@ -2,7 +2,8 @@
 use mathlib.Core.Path.{_≡_, refl, sym, _∙_}
 use mathlib.Core.Logic.{_⊎_, ⊎-elim}
 use Prim.Native.Nat.{ℕ, zero, suc, min, _+_, _-_, _*_, _/_, _^_, _≤_, _<_}
-use native.Mathlib.Nat.{pow-suc, min-eq-left, min-eq-right, min-le-left, mul-le-mul, mul-le-mul-left, mul-le-mul-right, div-lt-iff-lt-mul, div-mul-le-self, eq-zero-or-pos}
+use native.Mathlib.Nat.{pow-suc, min-eq-left, min-eq-right, min-le-left, mul-le-mul, mul-le-mul-left, mul-le-mul-right, div-lt-iff-lt-mul}
+use native.Mathlib.Nat.{div-mul-le-self, eq-zero-or-pos}
 use native.Mathlib.Numerals.{add-one}
 use native.Mathlib.Omega.{arith}
 use lib.Count.{leadingZeros}
@@ -28,7 +29,12 @@ stops cap a b p = ⊎-elim under above (eq-zero-or-pos (a - cap))
     above h =
         let u : cap * 1 ≤ cap * b = mul-le-mul-left cap p in
         let v : cap * b ≤ a * b = mul-le-mul-right b (omega arith) in
-        rw (min-eq-right {n = cap} {m = a} (omega arith), min-eq-right {n = cap} {m = cap * b} (omega arith), min-eq-right {n = cap} {m = a * b} (omega arith))
+        rw (
+          min-eq-right {n = cap} {m = a} (omega arith),
+          min-eq-right {n = cap} {m = cap * b} (omega arith),
+          min-eq-right {n = cap}
+              {m = a * b} (omega arith),
+        )
 
 pub power-turn : (cap base i r : ℕ) → 1 ≤ base → r ≡ min (base ^ i) cap → min (r * base) cap ≡ min (base ^ (i + 1)) cap
 power-turn cap base i r p e = rw (e, add-one, pow-suc) (stops cap (base ^ i) base p)
@@ -59,7 +65,8 @@ module _ (g p : ℕ) (e : p ≡ min g (2 ^ 63)) where
   capped-over h = omega (arith, min-le-left g (2 ^ 63))
 
   pub capped-is : p ≤ 2 ^ 63 - 1 → p ≡ g
-  capped-is h = ⊎-elim (λ z. e ∙ min-eq-left {n = g} {m = 2 ^ 63} (omega arith)) (λ z. absurd (omega (arith, min-eq-right {n = 2 ^ 63} {m = g} (omega arith)))) (eq-zero-or-pos (g - 2 ^ 63))
+  capped-is h = ⊎-elim (λ z. e ∙ min-eq-left {n = g} {m = 2 ^ 63} (omega arith))
+      (λ z. absurd (omega (arith, min-eq-right {n = 2 ^ 63} {m = g} (omega arith)))) (eq-zero-or-pos (g - 2 ^ 63))
 
 pub small : (a b : ℕ) → a ≤ 8 → b ≤ 8 → Fits w64 (a * b)
 small a b h k = product-fits a b 8 8 h k (omega arith)

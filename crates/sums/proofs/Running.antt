@@ -59,26 +59,30 @@ module _ {A : Type 0} (o : Ops A) (n : ℕ) (xs out₀ out : List A) (s₀ : Sta
       → left ≡ take i out ++ (tops o (s .order) (replicate (e - i) (s .hold)) is ++ drop e out)
   tops-of e is' left c = c .wrote ∙ ap (λ m. take i out ++ (tops o m (replicate (e - i) (s .hold)) is ++ drop e out)) (g .order)
 
-  cells-of : (e : ℕ) (is' left : List A) → Climbs o n (s .hold) i e is out is' left → is' ≡ ran o (s .order) (replicate (e - i) (s .hold)) is
+  cells-of : (e : ℕ) (is' left : List A) → Climbs o n (s .hold) i e is out is' left → is'
+      ≡ ran o (s .order) (replicate (e - i) (s .hold)) is
   cells-of e is' left c = c .cells ∙ ap (λ m. ran o m (replicate (e - i) (s .hold)) is) (g .order)
 
   pub raise-turn : s .countdown < length out₀ - i → (is' left : List A) → Climbs o n (s .hold) i (i + s .countdown) is out is' left
       → (x : A) → x ≡ getD xs k (o .nil) → (t : Figures A) (ks' : List A) (next : ℕ) → Feeds o n at s ks x t ks' next
       → Filling o xs out₀ left s₀ (ringed t is' ks' next) (k + 1) (i + s .countdown)
   raise-turn h is' left c x ex t ks' next f =
-      filling-turn o xs out₀ s₀ out (ringed s is ks at) k i a h left (tops-of (i + s .countdown) is' left c) x ex is' (cells-of (i + s .countdown) is' left c)
+      filling-turn o xs out₀ s₀ out (ringed s is ks at) k i a h left (tops-of (i + s .countdown) is' left c) x ex is'
+      (cells-of (i + s .countdown) is' left c)
       (ringed t is' ks' next) (f .state is')
 
   -- the end: the hold's outputs fill the slice
   module _ (h : length out₀ - i ≤ s .countdown) (t : Figures A) (is' left : List A) (r : Coasts o n i s is out t is' left) where
     pub raise-same : length left ≡ length out₀
-    raise-same = filling-same o xs out₀ s₀ out (ringed s is ks at) k i a (length out) (a .within) (omega arith) left (tops-of (length out) is' left (r .climb))
+    raise-same = filling-same o xs out₀ s₀ out (ringed s is ks at) k i a (length out) (a .within) (omega arith) left
+        (tops-of (length out) is' left (r .climb))
 
     pub raise-ends : Ring n at t ks × Fills o s₀ xs out₀ (ringed t is' ks at) k left
     raise-ends = (
       rw (r .numbers) (record { order = g .order; few = g .few; short = g .short; inside = g .inside; long = g .long }),
       record {
-        state = filled-state o xs out₀ s₀ out (ringed s is ks at) k i a h left (tops-of (length out) is' left (r .climb)) (ringed t is' ks at)
+        state =
+            filled-state o xs out₀ s₀ out (ringed s is ks at) k i a h left (tops-of (length out) is' left (r .climb)) (ringed t is' ks at)
             (rw (r .numbers, cells-of (length out) is' left (r .climb)));
         count = filled-count o xs out₀ s₀ out (ringed s is ks at) k i a h left (tops-of (length out) is' left (r .climb));
         wrote = filled-out o xs out₀ s₀ out (ringed s is ks at) k i a h left (tops-of (length out) is' left (r .climb));

@@ -113,5 +113,6 @@ fit-sound w s b e y x h t =
     let q = good s (a .0) in
     let room : gainLog2 s + (b - 1) ≤ hbits w = omega (arith, leb-true (b + gainLog2 s) (bits w) y, half-bits w, a .1) in
     let product : gain s * 2 ^ (b - 1) ≤ 2 ^ gainLog2 s * 2 ^ (b - 1) = mul-le-mul-right (2 ^ (b - 1)) (gain-bound s q) in
-    let total : 2 ^ gainLog2 s * 2 ^ (b - 1) ≤ 2 ^ hbits w = subst (λ n. n ≤ 2 ^ hbits w) (pow-add 2 (gainLog2 s) (b - 1)) (pow-mono room) in
+    let total : 2 ^ gainLog2 s * 2 ^ (b - 1) ≤ 2 ^ hbits w = subst (λ n. n ≤ 2 ^ hbits w) (pow-add 2 (gainLog2 s) (b - 1))
+    (pow-mono room) in
     exact w (suc (s .rate) * s .delay) (s .order) (2 ^ (b - 1)) x (length-pos s q) h (omega (arith, product, total)) t

@@ -52,14 +52,16 @@ module _ {A : Type 0} (o : Ops A) (s : State A) (f : Fit s) (x : A) where
   summit = partSum o (s .order) (s .integrators) x
 
   waitsAt : (n : ℕ) → s .countdown ≡ suc n
-      → stepState o s x ≡ packed (s .order) (s .delay) (s .rate) n (s .unsettled) (s .hold) (partInts o (s .order) (s .integrators) x) (s .combs)
+      → stepState o s x ≡ packed (s .order) (s .delay) (s .rate) n (s .unsettled) (s .hold) (partInts o (s .order) (s .integrators) x)
+      (s .combs)
   unfolding stepState decimated decimatedAt view put
   waitsAt n e = rw (accepted s f, e, rows-back (s .delay) (s .order) (s .combs) (f .good .short) (combs-room s f))
 
   -- above countdown 0
   pub step-waits : 0 < s .countdown
       → stepState o s x
-      ≡ packed (s .order) (s .delay) (s .rate) (s .countdown - 1) (s .unsettled) (s .hold) (partInts o (s .order) (s .integrators) x) (s .combs)
+      ≡ packed (s .order) (s .delay) (s .rate) (s .countdown - 1) (s .unsettled) (s .hold) (partInts o (s .order) (s .integrators) x)
+      (s .combs)
   step-waits h = waitsAt (s .countdown - 1) (omega arith)
 
   pub given-waits : 0 < s .countdown → stepGiven o s x ≡ none
@@ -80,7 +82,8 @@ module _ {A : Type 0} (o : Ops A) (s : State A) (f : Fit s) (x : A) where
   given-gives e = rw (accepted s f, e)
 
   fit-waits : 0 < s .countdown
-      → Fit (packed (s .order) (s .delay) (s .rate) (s .countdown - 1) (s .unsettled) (s .hold) (partInts o (s .order) (s .integrators) x) (s .combs))
+      → Fit (packed (s .order) (s .delay) (s .rate) (s .countdown - 1) (s .unsettled) (s .hold)
+      (partInts o (s .order) (s .integrators) x) (s .combs))
   fit-waits h =
       let g = f .good in record {
         good = record { few = g .few; some = g .some; short = g .short; slow = g .slow; near = omega (arith, g .near); owed = g .owed };
@@ -122,7 +125,8 @@ module _ {A : Type 0} (o : Ops A) (s : State A) (f : Fit s) (x : A) (is : List A
 
   pub turn-gives : s .countdown ≡ 0 → (v y : A) (u : ℕ) (ks : List A) → v ≡ partSum o (s .order) (s .integrators) x
       → y ≡ partComb o (s .delay) (s .order) (s .combs) v → ks ≡ partCells o (s .delay) (s .order) (s .combs) v → u ≡ s .unsettled - 1
-      → Turn o s x (packed (s .order) (s .delay) (s .rate) (s .rate) u y is ks) (some (record { value = y; settled = eqb (s .unsettled) 0 }))
+      → Turn o s x (packed (s .order) (s .delay) (s .rate) (s .rate) u y is ks)
+      (some (record { value = y; settled = eqb (s .unsettled) 0 }))
   turn-gives c v y u ks ev ey ek eu =
       let e : packed (s .order) (s .delay) (s .rate) (s .rate) u y is ks ≡ stepState o s x =
       rw (ei, ey, ek, eu, ev) (sym (step-gives o s f x c)) in
@@ -131,14 +135,16 @@ module _ {A : Type 0} (o : Ops A) (s : State A) (f : Fit s) (x : A) (is : List A
 -- the interpolator's steps
 module _ {A : Type 0} (o : Ops A) (s : State A) (f : Fit s) where
   riseAt : (n : ℕ) → s .countdown ≡ suc n
-      → riseState o s none ≡ packed (s .order) (s .delay) (s .rate) n (s .unsettled) (s .hold) (partInts o (s .order) (s .integrators) (s .hold)) (s .combs)
+      → riseState o s none ≡ packed (s .order) (s .delay) (s .rate) n (s .unsettled) (s .hold)
+      (partInts o (s .order) (s .integrators) (s .hold)) (s .combs)
   unfolding riseState riseNumber interpolated interpolatedAt view put
   riseAt n e = rw (accepted s f, e, eqb·suc-zero n, rows-back (s .delay) (s .order) (s .combs) (f .good .short) (combs-room s f))
 
   -- above countdown 0, with no sample
   pub rise-waits : 0 < s .countdown
       → riseState o s none
-      ≡ packed (s .order) (s .delay) (s .rate) (s .countdown - 1) (s .unsettled) (s .hold) (partInts o (s .order) (s .integrators) (s .hold)) (s .combs)
+      ≡ packed (s .order) (s .delay) (s .rate) (s .countdown - 1) (s .unsettled) (s .hold)
+      (partInts o (s .order) (s .integrators) (s .hold)) (s .combs)
   rise-waits h = riseAt (s .countdown - 1) (omega arith)
 
   pub risen-waits : 0 < s .countdown → riseGiven o s none ≡ partSum o (s .order) (s .integrators) (s .hold)
@@ -153,7 +159,8 @@ module _ {A : Type 0} (o : Ops A) (s : State A) (f : Fit s) where
     -- at countdown 0, with the sample x
     pub rise-takes : s .countdown ≡ 0
         → riseState o s (some x)
-        ≡ packed (s .order) (s .delay) (s .rate) (s .rate) (s .unsettled) lowest (partInts o (s .order) (s .integrators) lowest) (partCells o (s .delay) (s .order) (s .combs) x)
+        ≡ packed (s .order) (s .delay) (s .rate) (s .rate) (s .unsettled) lowest (partInts o (s .order) (s .integrators) lowest)
+        (partCells o (s .delay) (s .order) (s .combs) x)
     unfolding riseState riseNumber interpolated interpolatedAt view put
     rise-takes e = rw (accepted s f, e)
 

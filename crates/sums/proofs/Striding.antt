@@ -16,12 +16,14 @@ use Rattle.sums.proofs.Lent.{Figures, Ready, Stores, Follows, Ring, rin
 use Rattle.sums.proofs.Turning.{fit}
 
 -- the combs of a state, one step in their rings
-module _ {A : Type 0} (o : Ops A) (n at : ℕ) (s : Figures A) (ks : List A) (r : Ring n at s ks) (v y : A) (next : ℕ) (a : List A) (st : Stores o n at ks v a y) (f : Follows at (s .delay) next) where
+module _ {A : Type 0} (o : Ops A) (n at : ℕ) (s : Figures A) (ks : List A) (r : Ring n at s ks) (v y : A) (next : ℕ) (a : List A)
+    (st : Stores o n at ks v a y) (f : Follows at (s .delay) next) where
   long : n * 8 ≤ length ks
   long = omega (arith, r .few, r .long)
 
   pub ring-gives : y ≡ partComb o (s .delay) (s .order) (turned (s .delay) at (s .order) ks) v
-  ring-gives = st .last ∙ sym (ring-last (s .delay) (r .short) o at (r .inside) n v ks long) ∙ ap (λ k. partComb o (s .delay) k (turned (s .delay) at k ks) v) (r .order)
+  ring-gives = st .last ∙ sym (ring-last (s .delay) (r .short) o at (r .inside) n v ks long)
+      ∙ ap (λ k. partComb o (s .delay) k (turned (s .delay) at k ks) v) (r .order)
 
   pub ring-leaves : turned (s .delay) next (s .order) a ≡ partCells o (s .delay) (s .order) (turned (s .delay) at (s .order) ks) v
   ring-leaves =
@@ -38,12 +40,16 @@ module _ {A : Type 0} (o : Ops A) (n at : ℕ) (s : Figures A) (ks : List A) (r 
 abbrev pub gave : {A : Type 0} → Figures A → ℕ → A → Figures A
 gave s u y = record { order = s .order; delay = s .delay; rate = s .rate; countdown = s .rate; unsettled = u; hold = y }
 
-module _ {A : Type 0} (o : Ops A) (n at : ℕ) (s : Figures A) (is ks : List A) (r : Ring n at s ks) (ok : Ready (ringed s is ks at)) (xs : List A) (i : ℕ) (q : i + s .countdown < length xs) where
+module _ {A : Type 0} (o : Ops A) (n at : ℕ) (s : Figures A) (is ks : List A) (r : Ring n at s ks) (ok : Ready (ringed s is ks at))
+    (xs : List A) (i : ℕ) (q : i + s .countdown < length xs) where
   pub reaches : (is' ks' : List A) (x v y : A) (u next : ℕ) → is' ≡ ran o n (slice i (i + s .countdown + 1) xs) is
-      → x ≡ getD xs (i + s .countdown) (o .nil) → v ≡ lastOf o n x is' → Stores o n at ks v ks' y → u ≡ s .unsettled - 1 → Follows at (s .delay) next
-      → Reaches o n xs (ringed s is ks at) i (gave s u y) is' ks' next (some (record { value = y; settled = eqb (s .unsettled) 0 })) (i + s .countdown + 1)
+      → x ≡ getD xs (i + s .countdown) (o .nil) → v ≡ lastOf o n x is' → Stores o n at ks v ks' y → u ≡ s .unsettled - 1
+      → Follows at (s .delay) next
+      → Reaches o n xs (ringed s is ks at) i (gave s u y) is' ks' next (some (record { value = y; settled = eqb (s .unsettled) 0 }))
+      (i + s .countdown + 1)
   reaches is' ks' x v y u next ei ex ev st eu f = record {
-    ring = record { order = r .order; few = r .few; short = r .short; inside = f .inside; long = ring-long o n at s ks r v y next ks' st f };
+    ring =
+        record { order = r .order; few = r .few; short = r .short; inside = f .inside; long = ring-long o n at s ks r v y next ks' st f };
     jump = jump-gives o xs i (ringed s is ks at) (fit (ringed s is ks at) ok) (omega arith) q is'
         (ei ∙ ap (λ k. ran o k (slice i (i + s .countdown + 1) xs) is) (r .order)) v y u (turned (s .delay) next (s .order) ks')
         (ev ∙ ap₂ (λ k z. lastOf o k z is') (r .order) ex)
@@ -55,7 +61,8 @@ module _ {A : Type 0} (o : Ops A) (n at : ℕ) (s : Figures A) (is ks : List A) 
 abbrev pub took : {A : Type 0} → Figures A → A → Figures A
 took s y = record { order = s .order; delay = s .delay; rate = s .rate; countdown = s .rate + 1; unsettled = s .unsettled; hold = y }
 
-pub feeds : {A : Type 0} (o : Ops A) (n at : ℕ) (s : Figures A) (ks : List A) → Ring n at s ks → (x y : A) (next : ℕ) (a : List A) → Stores o n at ks x a y → Follows at (s .delay) next
+pub feeds : {A : Type 0} (o : Ops A) (n at : ℕ) (s : Figures A) (ks : List A) → Ring n at s ks → (x y : A) (next : ℕ) (a : List A)
+    → Stores o n at ks x a y → Follows at (s .delay) next
     → Feeds o n at s ks x (took s y) a next
 feeds o n at s ks r x y next a st f = record {
   ring = record { order = r .order; few = r .few; short = r .short; inside = f .inside; long = ring-long o n at s ks r x y next a st f };
@@ -75,4 +82,5 @@ high : (n : ℕ) → n ≤ 8 → 4 ≤ n → (n ≡ 4 → ⊥) → (n ≡ 5 → 
 high n h l a b c d = omega arith
 
 pub eighth : (n : ℕ) → n ≤ 8 → Others n → 8 ≡ n
-eighth n h r = high n h (low n (r .0 .0 .0 .0 .0 .0 .0 .1) (r .0 .0 .0 .0 .0 .0 .1) (r .0 .0 .0 .0 .0 .1) (r .0 .0 .0 .0 .1)) (r .0 .0 .0 .1) (r .0 .0 .1) (r .0 .1) (r .1)
+eighth n h r = high n h (low n (r .0 .0 .0 .0 .0 .0 .0 .1) (r .0 .0 .0 .0 .0 .0 .1) (r .0 .0 .0 .0 .0 .1) (r .0 .0 .0 .0 .1))
+    (r .0 .0 .0 .1) (r .0 .0 .1) (r .0 .1) (r .1)

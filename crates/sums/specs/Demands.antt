@@ -18,7 +18,8 @@ use Rattle.sums.specs.Machine.{Output}
 use Rattle.sums.specs.Moving.{moving, held}
 use Rattle.sums.specs.State.{State, refusal}
 use Rattle.blocks.specs.Blocks.{unless}
-use Rattle.sums.specs.Calls.{newNumber, resumeNumber, rateNumber, riseNumber, newState, resumeState, rateState, clearState, settleState, stepState, stepGiven, riseState, riseGiven, gain, gainLog2, fitNumber, fits}
+use Rattle.sums.specs.Calls.{newNumber, resumeNumber, rateNumber, riseNumber, newState, resumeState, rateState, clearState}
+use Rattle.sums.specs.Calls.{settleState, stepState, stepGiven, riseState, riseGiven, gain, gainLog2, fitNumber, fits}
 use Rattle.sums.specs.Runs.{needed, join, blockNumber, fillNumber, outputs, blockState, blockOut, risings, fillState, settledPart}
 
 -- A list as a sequence, number 0 first and zeros behind it; and whole numbers that all fit the word.
@@ -123,7 +124,8 @@ Demand2 =
 abbrev pub Demand2Cleared : Type 0
 Demand2Cleared =
     (w : Width) (s : State ℤ) → refusal s ≡ 0
-    → Decimator w (s .order) (s .delay) (s .rate) 0 0 (clearState (signedOps w) s) × Interpolator w (s .order) (s .delay) (s .rate) (clearState (signedOps w) s)
+    → Decimator w (s .order) (s .delay) (s .rate) 0 0 (clearState (signedOps w) s)
+    × Interpolator w (s .order) (s .delay) (s .rate) (clearState (signedOps w) s)
 
 -- Demand 3, settling. After a resume from any contents the first output falls on input countdown + 1, the first N · M outputs are
 -- marked unsettled, and every later one is settled and the moving sum of the inputs since the resume alone.
@@ -147,7 +149,8 @@ believed (y ∷ ys) = cond (y .settled) (y .value ∷ believed ys) (believed ys)
 abbrev pub SettledPart : Type 0
 SettledPart =
     (w : Width) (s : State ℤ) (xs out : List ℤ) → Contents w (s .integrators) (s .combs) → blockNumber s xs out ≡ 0
-    → settledPart (blockOut (signedOps w) s xs out) (length (outputs (signedOps w) s xs)) (s .unsettled) ≡ believed (outputs (signedOps w) s xs)
+    → settledPart (blockOut (signedOps w) s xs out) (length (outputs (signedOps w) s xs)) (s .unsettled)
+    ≡ believed (outputs (signedOps w) s xs)
 
 -- N · M can't be lowered: for every order above 0 there are contents and inputs for which output number N · M, counted from 1, is not the
 -- moving sum.
@@ -158,7 +161,8 @@ pub record Misleads (w : Width) (N M rate countdown : ℕ) : Type 0 where
   pub inputs : List ℤ
   pub inputs-in : InWord w inputs
   pub given : Output ℤ
-  pub is-given : getElem? (outputs (signedOps w) (resumeState (signedOps w) N M rate integrators combs (pos 0) countdown) inputs) (N * M - 1) ≡ some given
+  pub is-given : getElem? (outputs (signedOps w) (resumeState (signedOps w) N M rate integrators combs (pos 0) countdown) inputs)
+      (N * M - 1) ≡ some given
   pub differs : given .value ≡ wrap w (moving exactOps (suc rate * M) N (input inputs) (countdown + (N * M - 1) * suc rate)) → ⊥
 
 abbrev pub Demand3Tight : Type 0
@@ -166,14 +170,16 @@ Demand3Tight = (w : Width) (N M rate countdown : ℕ) → resumeNumber N M rate 
 
 -- The demands are of decimator calls alone: an interpolator's step leaves the unsettled count, and a decimator's output after it can be
 -- marked settled without being the moving sum. From new, N 1, M 2, rate 0: an interpolator's step on 1 and a decimator's step on 0 give 1,
--- where the moving sum is 0; and so after decimator's steps on 1 and 0, an interpolator's step on 0 and a decimator's step on 0 there comes -1.
+-- where the moving sum is 0; and so after decimator's steps on 1 and 0, an interpolator's step on 0 and a decimator's step on 0 there
+-- comes -1.
 abbrev pub Between : Type 0
 Between =
     let o : Ops ℤ = signedOps w32 in
     let new : State ℤ = newState o 1 2 0 in
     (stepGiven o (riseState o new (some (pos 1))) (pos 0) ≡ some (record { value = pos 1; settled = true }))
     × (moving exactOps 2 1 (input (pos 0 ∷ [])) 0 ≡ pos 0)
-    × (stepGiven o (riseState o (stepState o (stepState o new (pos 1)) (pos 0)) (some (pos 0))) (pos 0) ≡ some (record { value = negsuc 0; settled = true }))
+    × (stepGiven o (riseState o (stepState o (stepState o new (pos 1)) (pos 0)) (some (pos 0))) (pos 0)
+    ≡ some (record { value = negsuc 0; settled = true }))
     × (moving exactOps 2 1 (input (pos 1 ∷ pos 0 ∷ pos 0 ∷ [])) 2 ≡ pos 0)
     × (moving exactOps 2 1 (input (pos 1 ∷ pos 0 ∷ pos 0 ∷ pos 0 ∷ [])) 3 ≡ pos 0)
 
@@ -187,7 +193,8 @@ abbrev pub FitSound : Type 0
 FitSound =
     (w : Width) (s : State ℤ) (b : ℕ) → fitNumber s (bits w) b ≡ 0 → fits s (bits w) b ≡ true
     → (x : ℕ → ℤ) → ((t : ℕ) → mag (x t) < 2 ^ (b - 1))
-    → (t : ℕ) → wrap w (moving exactOps (suc (s .rate) * s .delay) (s .order) x t) ≡ moving exactOps (suc (s .rate) * s .delay) (s .order) x t
+    → (t : ℕ) → wrap w (moving exactOps (suc (s .rate) * s .delay) (s .order) x t)
+    ≡ moving exactOps (suc (s .rate) * s .delay) (s .order) x t
 
 -- The answer no doesn't say that some input wraps: N 3, M 1, rate 2, so R · M = 3, and b = 27.
 abbrev pub FitNotExact : Type 0
@@ -202,4 +209,5 @@ Stream w s x v =
     → (t : ℕ) (y : ℤ) → getElem? (along (lifts (signedOps w)) (yields (signedOps w)) s calls) t ≡ some y → y ≡ v
 
 abbrev pub Settled : Type 0
-Settled = (w : Width) (s : State ℤ) (x : ℤ) → refusal s ≡ 0 → SFits w x → Stream w (settleState (signedOps w) s x) x (wrap w (pos (gain s) *ℤ x))
+Settled =
+    (w : Width) (s : State ℤ) (x : ℤ) → refusal s ≡ 0 → SFits w x → Stream w (settleState (signedOps w) s x) x (wrap w (pos (gain s) *ℤ x))

@@ -25,15 +25,16 @@ loop-holds c = let p = c .before in (omega arith, p .pre .2, shift-start (p .arg
 
 loop-again : tie.Need-loop-again Inv-loop μ-loop
 loop-again c =
-    let l = c .before .before .loop in let p = c .before .before .before .before in let a = p .args in
+    let q = c .before .before in let l = q .loop in let p = q .before .before in let a = p .args in
     let short : a .base + l .i + 1 < length (a .cells .now) = omega (arith, p .pre .2) in
     let old = getD (l .cells) (a .base + l .i + 1) (pos 0) in
-    let turn = shift-turn (a .cells .now) (a .base) (l .i) (pos 0) (l .cells) (toZ width (ofZ width old)) short (l .inv .2) (read width old (c .cell .given)) in
+    let turn = shift-turn (a .cells .now) (a .base) (l .i) (pos 0) (l .cells) (toZ width (ofZ width old)) short (l .inv .2)
+    (read width old (c .cell .given)) in
     (omega arith, simp length-set (l .inv .1), turn)
 
 returns : tie.Need-returns Inv-loop μ-loop
 returns c =
-    let l = c .before .before .loop in let p = c .before .before .before .before in let a = p .args in
+    let q = c .before .before in let l = q .loop in let p = q .before .before in let a = p .args in
     let b = toZ-ofZ width (a .x) (p .fits .x) in
     let o = read width (getD (a .cells .now) (a .base) (pos 0)) (c .before .before .before .oldest .given) in
     let e : l .i + 1 ≡ a .m = omega arith in
@@ -41,7 +42,8 @@ returns c =
     let end = shift-end (a .cells .now) (a .base) (l .i) (pos 0) (a .m) (l .cells) (a .x) e (omega (arith, p .pre .2)) (l .inv .2) in
     record {
       cells = rw (b, ← at) end;
-      last = read width (c .sub .result) (c .sub .ok) ∙ (rw (b, o) at (c .sub .ensures)) ∙ sym (less-at wordOps (a .base) (a .m) (a .cells .now) (a .x) (p .pre .0));
+      last = read width (c .sub .result) (c .sub .ok) ∙ (rw (b, o) at (c .sub .ensures))
+          ∙ sym (less-at wordOps (a .base) (a .m) (a .cells .now) (a .x) (p .pre .0));
     }
 
 pub comb-spec : {M : Type 1} → statement M

@@ -4,7 +4,7 @@ use Rattle.cic.proofs.decimating.decimate_run.Statement.{statement}
 use Rattle.cic.proofs.decimating.decimate_run.Tie as tie
 
 returns : tie.Need-returns
-returns c = rw (c .unroll .ensures) (c .before .before .before .before .decimate-by-order .ensures .1)
+returns c = let d = c .before in rw (c .unroll .ensures) (d .before .before .before .decimate-by-order .ensures .1)
 
 pub decimate-run-spec : {M : Type 1} → statement M
 decimate-run-spec =

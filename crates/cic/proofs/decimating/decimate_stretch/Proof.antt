@@ -14,19 +14,31 @@ use Rattle.cic.specs.Inner.Turns.{figuresOf}
 use Rattle.cic.proofs.decimating.decimate_stretch.Statement.{statement}
 use Rattle.cic.proofs.decimating.decimate_stretch.Tie as tie
 
+-- the inputs have run
+abbrev ran-in : tie.After-last-arg → tie.After-integrate-inputs
+ran-in c = c .before .before .before
+
 last-requires : tie.Need-last-requires
 last-requires c κs =
-    let p = c .before .before .before .before .before .before in let a = p .args in
-    (p .pre .0 .few, ap length (c .before .before .before .integrate-inputs .ensures) ∙ ran-length wordOps (a .n) _ (a .integrators .now) (omega (arith, p .pre .0 .few, p .pre .1 .long8)) ∙ p .pre .1 .long8)
+    let g = ran-in c in let p = g .before .before .before in let a = p .args in (
+      p .pre .0 .few,
+      ap length (g .integrate-inputs .ensures)
+          ∙ ran-length wordOps (a .n) _ (a .integrators .now) (omega (arith, p .pre .0 .few, p .pre .1 .long8)) ∙ p .pre .1 .long8,
+    )
 
 returns : tie.Need-returns
 returns c =
-    let d = c .before .before in let la = d .before in let g = la .before .before .before .before in let p = g .before .before .before in let a = p .args in
+    let d = c .before .before in let la = d .before in let g = ran-in (la .before) in let p = g .before .before .before in
+    let a = p .args in
     let y = read width (d .difference-ring .result) (d .difference-ring .ok) in
     let x = getD (a .input .now) (a .i + a .first .countdown) (pos 0) in
-    rw y (reaches wordOps (a .n) (a .at) (figuresOf (a .first)) (a .integrators .now) (a .combs .now) (p .pre .0) (p .pre .1) (a .input .now) (a .i) (p .pre .2)
-    (g .integrate-inputs .last .0) (d .difference-ring .last .0) _ _ (d .difference-ring .result) (c .before .lowered .result) (c .following .result)
-    (g .integrate-inputs .ensures) (read width x (la .before .before .before .x .given)) (read width (la .last .result) (la .last .ok) ∙ la .last .ensures) (d .difference-ring .ensures) (c .before .lowered .ensures) (rw (c .following .ensures) (follows (a .at) (a .first .delay) (p .pre .0 .inside))))
+    rw y (reaches wordOps (a .n) (a .at) (figuresOf (a .first)) (a .integrators .now) (a .combs .now) (p .pre .0) (p .pre .1)
+    (a .input .now) (a .i) (p .pre .2)
+    (g .integrate-inputs .last .0) (d .difference-ring .last .0) _ _ (d .difference-ring .result) (c .before .lowered .result)
+    (c .following .result)
+    (g .integrate-inputs .ensures) (read width x (la .before .before .before .x .given))
+    (read width (la .last .result) (la .last .ok) ∙ la .last .ensures) (d .difference-ring .ensures) (c .before .lowered .ensures)
+    (rw (c .following .ensures) (follows (a .at) (a .first .delay) (p .pre .0 .inside))))
 
 pub decimate-stretch-spec : {M : Type 1} → statement M
 decimate-stretch-spec =

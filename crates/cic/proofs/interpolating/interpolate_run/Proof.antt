@@ -4,7 +4,7 @@ use Rattle.cic.proofs.interpolating.interpolate_run.Statement.{statemen
 use Rattle.cic.proofs.interpolating.interpolate_run.Tie as tie
 
 returns : tie.Need-returns
-returns c = rw (c .unroll .ensures) (c .before .before .before .before .interpolate-by-order .ensures .1)
+returns c = let d = c .before in rw (c .unroll .ensures) (d .before .before .before .interpolate-by-order .ensures .1)
 
 pub interpolate-run-spec : {M : Type 1} → statement M
 interpolate-run-spec =

@@ -13,7 +13,9 @@ returns : tie.Need-returns
 returns c =
     let g = c .before .before in let p = g .before .before in let a = p .args in
     rw (read width (g .difference-ring .result) (g .difference-ring .ok))
-    (feeds wordOps (a .n) (a .at) (figuresOf (a .first)) (a .combs .now) (p .pre .0) (a .x) (g .difference-ring .result) (c .following .result) (g .difference-ring .last .0) (rw (toZ-ofZ width (a .x) (p .fits .x)) at (g .difference-ring .ensures)) (rw (c .following .ensures) (follows (a .at) (a .first .delay) (p .pre .0 .inside))))
+    (feeds wordOps (a .n) (a .at) (figuresOf (a .first)) (a .combs .now) (p .pre .0) (a .x) (g .difference-ring .result)
+    (c .following .result) (g .difference-ring .last .0) (rw (toZ-ofZ width (a .x) (p .fits .x)) at (g .difference-ring .ensures))
+    (rw (c .following .ensures) (follows (a .at) (a .first .delay) (p .pre .0 .inside))))
 
 pub interpolate-sample-spec : {M : Type 1} → statement M
 interpolate-sample-spec =

@@ -24,7 +24,8 @@ returns-2 c =
 returns-3 : tie.Need-returns-3
 unfolding settledPart settledNumber
 returns-3 c =
-    let a = c .before .before .before .args in simp (le-ltb _ _ (c .before .before .if1 .left)) (window (a .unsettled) (a .written) (a .out .now))
+    let a = c .before .before .before .args in simp (le-ltb _ _ (c .before .before .if1 .left))
+    (window (a .unsettled) (a .written) (a .out .now))
 
 pub settled-part-spec : {M : Type 1} → statement M
 settled-part-spec =

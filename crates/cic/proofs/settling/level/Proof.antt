@@ -24,12 +24,12 @@ loop-holds c = (omega arith, refl)
 
 loop-again : tie.Need-loop-again Inv-loop μ-loop
 loop-again c =
-    let l = c .before .loop in let p = c .before .before in let x = toZ width (ofZ width (p .args .x)) in
+    let q = c .before in let l = q .loop in let p = q .before in let x = toZ width (ofZ width (p .args .x)) in
     (omega arith, ap (λ cells. set cells (l .i) x) (l .inv .1) ∙ level-turn 64 (l .i) x (pos 0) (omega arith))
 
 returns : tie.Need-returns Inv-loop μ-loop
 returns c =
-    let l = c .before .loop in let p = c .before .before in
+    let q = c .before in let l = q .loop in let p = q .before in
     let e : l .i ≡ p .args .m = omega arith in
     rw (e, toZ-ofZ width (p .args .x) (p .fits .x)) at (l .inv .1)
 

@@ -26,7 +26,7 @@ loop-holds c = (omega arith, rw (toZ-ofZ width (c .args .x) (c .fits .x)) (times
 
 loop-again : tie.Need-loop-again Inv-loop μ-loop
 loop-again c =
-    let l = c .before .before .loop in let p = c .before .before .before in
+    let q = c .before .before in let l = q .loop in let p = q .before in
     let factor = toZ-pos width (p .args .by) (omega (arith, p .pre)) in (
       omega arith,
       read width (c .mul .result) (c .mul .ok) ∙ (rw factor at (c .mul .ensures))
@@ -35,7 +35,7 @@ loop-again c =
 
 returns : tie.Need-returns Inv-loop μ-loop
 returns c =
-    let l = c .before .loop in let p = c .before .before in
+    let q = c .before in let l = q .loop in let p = q .before in
     let e : l .i ≡ p .args .n = omega arith in
     rw (e, toZ-ofZ width (p .args .x) (p .fits .x)) at (l .inv .1)
 

@@ -21,17 +21,19 @@ integrate-requires c κs = let p = c .before in (fit (given p) (p .pre) .good .f
 
 returns : tie.Need-returns
 returns c =
-    let i = c .before .before .before .integrate in let p = c .before .before .before .before .before in let a = p .args in
-    waits wordOps (given p) (p .pre) (a .x) (i .last .0) (i .result) (rw (toZ-ofZ width (a .x) (p .fits .x)) at (i .ensures)) (c .before .if1 .taken) (a .n .hold) refl
+    let g = c .before .before .before in let i = g .integrate in let p = g .before .before in let a = p .args in
+    waits wordOps (given p) (p .pre) (a .x) (i .last .0) (i .result) (rw (toZ-ofZ width (a .x) (p .fits .x)) at (i .ensures))
+    (c .before .if1 .taken) (a .n .hold) refl
 
 difference-requires : tie.Need-difference-requires
 difference-requires c κs =
-    let p = c .before .before .before .before .before in let ok = fit (given p) (p .pre) .good in (ok .few, ok .some, ok .short, p .pre .long64)
+    let g = c .before .before .before in let p = g .before .before in let ok = fit (given p) (p .pre) .good in
+    (ok .few, ok .some, ok .short, p .pre .long64)
 
 returns-2 : tie.Need-returns-2
 returns-2 c =
-    let k = c .before .before .before in let p = k .before .before .before .before in let a = p .args in
-    let i = k .before .before .integrate in let d = c .before .difference in
+    let k = c .before .before .before in let g = k .before .before in let p = g .before .before in let a = p .args in
+    let i = g .integrate in let d = c .before .difference in
     let combs : Combs wordOps (a .n .order) (a .n .delay) (a .combs .now) (i .result) (d .last .0) (toZ width (ofZ width (d .result))) =
     rw (read width (d .result) (d .ok)) (rw (read width (i .result) (i .ok)) at (d .ensures)) in
     gives wordOps (given p) (p .pre) (a .x) (i .last .0) (i .result) (rw (toZ-ofZ width (a .x) (p .fits .x)) at (i .ensures))

@@ -19,23 +19,27 @@ held : (p : tie.Start) → toZ width (ofZ width (p .args .n .hold)) ≡ p .args 
 held p = search needs
 
 integrate-requires : tie.Need-integrate-requires
-integrate-requires c κs = let p = c .before .before .before .before .before in (fit (given p) (p .pre) .good .few, p .pre .long8)
+integrate-requires c κs =
+    let k = c .before .before .before in let p = k .before .before in (fit (given p) (p .pre) .good .few, p .pre .long8)
 
 returns : tie.Need-returns
 returns c =
-    let k = c .before .before .before .before in let p = k .before .before in let a = p .args in let i = c .integrate in
-    rw (read width (i .result) (i .ok)) (lifts wordOps (given p) (p .pre) (a .x) (k .if1 .taken) (a .n .hold) (i .result) (i .last .0) refl (rw (held p) at (i .ensures)))
+    let t = c .before in let k = t .before .before .before in let p = k .before .before in let a = p .args in let i = c .integrate in
+    rw (read width (i .result) (i .ok)) (lifts wordOps (given p) (p .pre) (a .x) (k .if1 .taken) (a .n .hold) (i .result) (i .last .0)
+    refl (rw (held p) at (i .ensures)))
 
 difference-requires : tie.Need-difference-requires
 difference-requires c κs =
     let p = c .before .before .before in let ok = fit (given p) (p .pre) .good in (ok .few, ok .some, ok .short, p .pre .long64)
 
 integrate-requires-2 : tie.Need-integrate-requires-2
-integrate-requires-2 c κs = let p = c .before .before .before .before .before in (fit (given p) (p .pre) .good .few, p .pre .long8)
+integrate-requires-2 c κs =
+    let k = c .before .before .before in let p = k .before .before in (fit (given p) (p .pre) .good .few, p .pre .long8)
 
 returns-2 : tie.Need-returns-2
 returns-2 c =
-    let k = c .before .before .before .before in let p = k .before .before in let a = p .args in let i = c .integrate2 in let d = c .before .before .difference in
+    let g = c .before .before in let k = g .before .before in let p = k .before .before in let a = p .args in let i = c .integrate2 in
+    let d = g .difference in
     let hold = read width (d .result) (d .ok) in
     rw (hold, read width (i .result) (i .ok))
     (takes wordOps (given p) (p .pre) (a .x) (k .if1 .left) (d .result) (i .result) (i .last .0) (d .last .0)

@@ -14,7 +14,8 @@ use Rattle.cic.proofs.stretches.integrate_inputs.Statement.{statement}
 use Rattle.cic.proofs.stretches.integrate_inputs.Tie as tie
 
 abbrev Inv-loop : tie.InvT-loop
-Inv-loop cells n input from to held₀ i₀ held i = (i ≤ to) × (length held ≡ 8) × (ran wordOps n (slice from to input) cells ≡ ran wordOps n (slice i to input) held)
+Inv-loop cells n input from to held₀ i₀ held i =
+    (i ≤ to) × (length held ≡ 8) × (ran wordOps n (slice from to input) cells ≡ ran wordOps n (slice i to input) held)
 
 abbrev μ-loop : tie.MeasureT-loop
 μ-loop cells n input from to held₀ i₀ held i = to - i
@@ -24,12 +25,12 @@ loop-holds c = (c .before .pre .1, c .before .pre .3, refl)
 
 loop-again : tie.Need-loop-again Inv-loop μ-loop
 loop-again c =
-    let g = c .integrate in let l = c .before .before .before .before .loop in let p = c .before .before .before .before .before .before in let a = p .args in
+    let g = c .integrate in let u = c .before .before .before in let q = u .before in let l = q .loop in let p = q .before .before in let a = p .args in
     let x = getD (a .input .now) (l .i) (pos 0) in
     let e : g .last .0 ≡ partInts wordOps (a .n) (l .held) x = rw (read width x (c .before .before .x .given)) at (g .ensures .cells) in (
       search needs,
       ap length e ∙ ints-length wordOps (a .n) (l .held) x (omega (arith, p .pre .0, l .inv .1)) ∙ l .inv .1,
-      l .inv .2 ∙ ran-turn wordOps (a .n) (l .i) (a .to) (a .input .now) (l .held) (c .before .before .before .loop-test .taken) (p .pre .2)
+      l .inv .2 ∙ ran-turn wordOps (a .n) (l .i) (a .to) (a .input .now) (l .held) (u .loop-test .taken) (p .pre .2)
           ∙ ap (ran wordOps (a .n) (slice (l .i + 1) (a .to) (a .input .now))) (sym e),
     )
 

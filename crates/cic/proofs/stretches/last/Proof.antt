@@ -19,7 +19,8 @@ returns c = rw (c .if1 .taken) (toZ-ofZ width (c .before .args .x) (c .before .f
 returns-2 : tie.Need-returns-2
 returns-2 c =
     let a = c .before .before .args in
-    read width (getD (a .cells .now) (a .n - 1) (pos 0)) (c .result .given) ∙ last-at wordOps (a .n) (a .x) (a .cells .now) (omega (arith, c .before .if1 .left))
+    read width (getD (a .cells .now) (a .n - 1) (pos 0)) (c .result .given)
+    ∙ last-at wordOps (a .n) (a .x) (a .cells .now) (omega (arith, c .before .if1 .left))
 
 pub last-spec : {M : Type 1} → statement M
 last-spec =

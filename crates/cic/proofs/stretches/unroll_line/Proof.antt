@@ -19,15 +19,17 @@ abbrev μ-loop : tie.MeasureT-loop
 μ-loop cells₀ base m at k₀ cells k = at - k
 
 loop-holds : tie.Need-loop-holds Inv-loop μ-loop
-loop-holds c = (search needs, c .pre .3, roll-start (c .args .base) (c .args .m) (c .args .cells .now) (omega (arith, c .pre .2, c .pre .3)))
+loop-holds c =
+    (search needs, c .pre .3, roll-start (c .args .base) (c .args .m) (c .args .cells .now) (omega (arith, c .pre .2, c .pre .3)))
 
 loop-again : tie.Need-loop-again Inv-loop μ-loop
 loop-again c =
-    let l = c .before .before .before .before .loop in let p = c .before .before .before .before .before in let a = p .args in
+    let q = c .before .before in let l = q .before .before .loop in let p = q .before .before .before in let a = p .args in
     let old = getD (l .cells) (a .base) (pos 0) in
     let fits : a .base + a .m ≤ length (a .cells .now) = omega (arith, p .pre .2, p .pre .3) in
     let e = c .comb .ensures .cells ∙ roll-turn (a .base) (a .m) (a .cells .now) fits (l .k) (l .cells) (l .inv .2)
-    (omega (arith, p .pre .1, c .before .before .before .loop-test .taken)) (pos 0) (toZ width (ofZ width old)) (read width old (c .before .before .oldest .given)) in
+    (omega (arith, p .pre .1, c .before .before .before .loop-test .taken)) (pos 0) (toZ width (ofZ width old))
+    (read width old (c .before .before .oldest .given)) in
     (search needs, roll-length (a .base) (a .m) (a .cells .now) fits (l .k + 1) (c .comb .last .0) e ∙ p .pre .3, e)
 
 returns : tie.Need-returns Inv-loop μ-loop

@@ -10,7 +10,8 @@ use Rattle.shape.proofs.numbers.span.Tie as tie
 mul-result : tie.Need-mul-result
 mul-result c =
     let a = c .args in
-    product-fits (a .rate + 1) (a .delay) 4294967296 4294967295 (omega (arith, c .fits .rate .fits)) (omega (arith, c .fits .delay .fits)) (omega arith)
+    product-fits (a .rate + 1) (a .delay) 4294967296 4294967295 (omega (arith, c .fits .rate .fits))
+    (omega (arith, c .fits .delay .fits)) (omega arith)
 
 returns : tie.Need-returns
 returns c = rw (add-one (c .args .rate))

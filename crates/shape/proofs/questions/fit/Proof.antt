@@ -43,7 +43,11 @@ add-bits : tie.Need-add-bits
 add-bits c =
     let e1 = c .before .before .before in let start = e1 .before .before in let s = start .args in
     let most : c .shift .result ≤ 512 =
-    rw (c .shift .ensures) (omega (arith, mul-le-mul {n₁ = s .order} {n₂ = 8} (fine e1 .few) (length-most 64 (suc (s .rate) * s .delay - 1)))) in
+    rw (c .shift .ensures) (omega (
+      arith,
+      mul-le-mul {n₁ = s .order} {n₂ = 8} (fine e1 .few)
+          (length-most 64 (suc (s .rate) * s .delay - 1)),
+    )) in
     record { fits = omega (arith, most, start .fits .b .fits) }
 
 returns-4 : tie.Need-returns-4

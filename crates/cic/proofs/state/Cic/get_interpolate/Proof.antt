@@ -24,7 +24,7 @@ returns c = unheard (c .before .refusal .result) _ _ (c .before .refusal .ensure
 returns-2 : tie.Need-returns-2
 unfolding currentAt
 returns-2 c =
-    let s = c .before .before .before .before .args .self in
+    let e = c .before .before in let s = e .before .before .args .self in
     let b : toZ width (ofZ width (s .hold)) ≡ s .hold = search needs in
     heard _ _ _ (sym (c .before .before .before .refusal .ensures) ∙ c .before .before .if1 .left) (rw (b, c .before .if2 .taken))
 

@@ -20,30 +20,35 @@ accepted c = sym (c .before .refusal .ensures) ∙ c .if1 .left
 returns : tie.Need-returns
 returns c =
     let a = c .before .before .args in let f = c .before .refusal in
-    rise-refuses (a .self) (a .sample) (f .result) (rise-state (stateOf (a .self)) (f .result) (f .ensures) (c .if1 .taken) (sampleOf (a .sample))) (c .if1 .taken)
+    rise-refuses (a .self) (a .sample) (f .result)
+    (rise-state (stateOf (a .self)) (f .result) (f .ensures) (c .if1 .taken) (sampleOf (a .sample))) (c .if1 .taken)
 
 returns-2 : tie.Need-returns-2
 returns-2 c =
     let e = c .before .before .before in let a = e .before .before .args in
     let none-given : a .sample ≡ Missing = c .before .enum-told .given .1 in
-    rise-refuses (a .self) (a .sample) 22 (rw none-given (sym (missing-number (stateOf (a .self)) (accepted e) (c .if2 .taken)))) (λ z. omega arith)
+    rise-refuses (a .self) (a .sample) 22 (rw none-given (sym (missing-number (stateOf (a .self)) (accepted e) (c .if2 .taken))))
+    (λ z. omega arith)
 
 returns-3 : tie.Need-returns-3
 returns-3 c =
     let k = c .before in let e = k .before .before .before in let a = e .before .before .args in let s = stateOf (a .self) in
     let none-given : a .sample ≡ Missing = k .before .enum-told .given .1 in
     rise-takes (a .self) (a .sample) (c .lifted .result) _ (c .lifted .ensures)
-    (rw none-given (not-due wordOps (s .countdown) _ (omega (arith, k .if2 .left)))) (rw none-given (held-number s (accepted e) (omega (arith, k .if2 .left))))
+    (rw none-given (not-due wordOps (s .countdown) _ (omega (arith, k .if2 .left))))
+    (rw none-given (held-number s (accepted e) (omega (arith, k .if2 .left))))
 
 returns-4 : tie.Need-returns-4
 returns-4 c =
     let k = c .before .before in let e = k .before .before in let a = e .before .before .args in
     let given : a .sample ≡ Given (k .sample .given .0 .0) = k .sample .given .1 in
-    rise-refuses (a .self) (a .sample) 21 (rw given (sym (early-number (stateOf (a .self)) (accepted e) (k .sample .given .0 .0) (c .if3 .taken)))) (λ z. omega arith)
+    rise-refuses (a .self) (a .sample) 21 (rw given
+    (sym (early-number (stateOf (a .self)) (accepted e) (k .sample .given .0 .0) (c .if3 .taken)))) (λ z. omega arith)
 
 returns-5 : tie.Need-returns-5
 returns-5 c =
-    let h = c .before in let k = h .before .before in let e = k .before .before in let a = e .before .before .args in let s = stateOf (a .self) in
+    let h = c .before in let k = h .before .before in let e = k .before .before in let a = e .before .before .args in
+    let s = stateOf (a .self) in
     let x = k .sample .given .0 .0 in
     let given : a .sample ≡ Given x = k .sample .given .1 in
     let read-x : toZ width (ofZ width x) ≡ x = search needs in

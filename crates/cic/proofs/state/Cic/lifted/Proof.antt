@@ -18,17 +18,21 @@ long64 p = search needs
 gave : (c : tie.After-interpolate-step) → toZ width (ofZ width (c .interpolate-step .result .value)) ≡ c .interpolate-step .result .value
 gave c = search needs
 
+abbrev begin : tie.After-numbers → tie.Start
+begin c = let k = c .before .before .before in k .before .before
+
 interpolate-step-requires : tie.Need-interpolate-step-requires
 interpolate-step-requires c κs =
-    let p = c .before .before .before .before .before in
+    let p = begin c in
     rw (c .numbers .ensures) (record { accepted = p .pre; long8 = long8 p; long64 = long64 p })
 
 returns : tie.Need-returns
 returns c =
-    let p = c .before .before .before .before .before .before .before .before .before in let t = c .before .before .before .interpolate-step in
-    let gives : toZ width (ofZ width (t .result .value)) ≡ t .result .value = gave (c .before .before .before) in
+    let d = c .before .before .before in let n = d .before in let p = begin n in let t = d .interpolate-step in
+    let gives : toZ width (ofZ width (t .result .value)) ≡ t .result .value = gave d in
     rw (c .before .joined .ensures, gives)
-    (lift-takes (p .args .self) _ _ (t .result .value) (rw (c .before .before .before .before .numbers .ensures, toZ-ofZ width (p .args .x) (p .fits .x)) at (t .ensures)))
+    (lift-takes (p .args .self) _ _ (t .result .value)
+    (rw (n .numbers .ensures, toZ-ofZ width (p .args .x) (p .fits .x)) at (t .ensures)))
 
 pub lifted-spec : {M : Type 1} → statement M
 lifted-spec =

@@ -12,13 +12,15 @@ returns : tie.Need-returns
 unfolding newState
 returns c =
     let a = c .before .before .before .args in let f = c .before .before .refusal-of in
-    c .unmade .ensures ∙ refuses (f .result) (newNumber (a .order) (a .delay) (a .rate)) (f .ensures) (blank wordOps) _ (c .before .if1 .taken)
+    c .unmade .ensures ∙ refuses (f .result) (newNumber (a .order) (a .delay) (a .rate)) (f .ensures) (blank wordOps) _
+    (c .before .if1 .taken)
 
 returns-2 : tie.Need-returns-2
 unfolding newState
 returns-2 c =
     let a = c .before .before .before .args in let f = c .before .before .refusal-of in
-    takes (f .result) (newNumber (a .order) (a .delay) (a .rate)) (f .ensures) (blank wordOps) _ (c .before .if1 .left) (c .zeros .result) (c .zeros .ensures)
+    takes (f .result) (newNumber (a .order) (a .delay) (a .rate)) (f .ensures) (blank wordOps) _ (c .before .if1 .left)
+    (c .zeros .result) (c .zeros .ensures)
 
 pub new-spec : {M : Type 1} → statement M
 new-spec =

@@ -10,19 +10,22 @@ use Rattle.cic.proofs.Ways.{refuses, takes}
 use Rattle.cic.proofs.state.Cic.set_rate.Statement.{statement}
 use Rattle.cic.proofs.state.Cic.set_rate.Tie as tie
 
-number : (c : tie.After-refusal-of) → c .refusal-of .result ≡ rateNumber (stateOf (c .before .before .args .self)) (c .before .before .args .rate)
+number : (c : tie.After-refusal-of) → c .refusal-of .result
+    ≡ rateNumber (stateOf (c .before .before .args .self)) (c .before .before .args .rate)
 number c = rw (c .before .greater .ensures) at (c .refusal-of .ensures)
 
 returns : tie.Need-returns
 unfolding rateState
 returns c =
     let k = c .before .before in let a = k .before .before .args in let f = k .refusal-of in
-    c .kept .ensures ∙ refuses (f .result) (rateNumber (stateOf (a .self)) (a .rate)) (number k) (stateOf (a .self)) _ (c .before .if1 .taken)
+    c .kept .ensures ∙ refuses (f .result) (rateNumber (stateOf (a .self)) (a .rate)) (number k) (stateOf (a .self)) _
+    (c .before .if1 .taken)
 
 mul-state : tie.Need-mul-state
 mul-state c =
     let a = c .before .before .before .args in let s = a .self in
-    let ok = sound (s .order) (s .delay) (max (s .rate) (a .rate)) (s .countdown) (s .unsettled) (sym (number (c .before)) ∙ c .if1 .left) in
+    let ok = sound (s .order) (s .delay) (max (s .rate) (a .rate)) (s .countdown) (s .unsettled)
+    (sym (number (c .before)) ∙ c .if1 .left) in
     small (s .order) (s .delay) (ok .few) (ok .short)
 
 returns-2 : tie.Need-returns-2

@@ -21,10 +21,15 @@ use Rattle.cic.proofs.state.Cic.settle_interpolate.Tie as tie
 fine : (c : tie.Else1) → Good (stateOf (c .before .before .args .self))
 fine c = good (stateOf (c .before .before .args .self)) (sym (c .before .refusal .ensures) ∙ c .if1 .left)
 
-gained : (c : tie.After-scaled) → let p = c .before .before .before .before .before .before in c .scaled .result ≡ times wordOps (gain (stateOf (p .args .self))) (p .args .x)
+-- where the state is accepted
+abbrev at : tie.After-scaled → tie.Else1
+at c = let k = c .before .before in k .before .before
+
+gained : (c : tie.After-scaled) → let p = at c .before .before in
+    c .scaled .result ≡ times wordOps (gain (stateOf (p .args .self))) (p .args .x)
 unfolding gainOf
 gained c =
-    let p = c .before .before .before .before .before .before in
+    let p = at c .before .before in
     rw (c .before .span .ensures, toZ-ofZ width (p .args .x) (p .fits .x)) at (c .scaled .ensures)
 
 returns : tie.Need-returns
@@ -45,27 +50,30 @@ cast-span c = record { fits = omega (arith, fine (c .before .before) .short) }
 
 scaled-requires : tie.Need-scaled-requires
 scaled-requires c κs =
-    let s = c .before .before .before .before .before .args .self in let ok = fine (c .before .before .before) in
+    let e = c .before .before .before in let s = e .before .before .args .self in let ok = fine e in
     rw (c .span .ensures) (omega (arith, span-fits (s .rate) (s .delay) (ok .slow) (ok .short), add-one (s .rate)))
 
 mul-integrators : tie.Need-mul-integrators
-mul-integrators c = omega (arith, fine (c .before .before .before .before) .few)
+mul-integrators c = omega (arith, fine (at c) .few)
 
 array-set-from-integrators : tie.Need-array-set-from-integrators
-array-set-from-integrators c = omega (arith, fine (c .before .before .before .before) .few)
+array-set-from-integrators c = omega (arith, fine (at c) .few)
 
 level-requires : tie.Need-level-requires
-level-requires c κs = omega (arith, fine (c .before .before .before .before) .short)
+level-requires c κs = omega (arith, fine (at c) .short)
 
 returns-3 : tie.Need-returns-3
 unfolding settleState zeroed
 returns-3 c =
-    let k = c .before .before .before .before .before in let p = k .before .before in let a = p .args in let f = k .before .refusal in let s = stateOf (a .self) in let ok = fine k in
+    let z = c .before .before .before in let k = z .before .before in let p = k .before .before in let a = p .args in
+    let f = k .before .refusal in
+    let s = stateOf (a .self) in let ok = fine k in
     let bx = toZ-ofZ width (a .x) (p .fits .x) in let v = c .before .scaled in
     let gains : toZ width (ofZ width (v .result)) ≡ times wordOps (gain s) (a .x) = read width (v .result) (v .ok) ∙ gained (c .before) in
     takes (f .result) (refusal s) (f .ensures) (stateOf (a .self)) _ (k .if1 .left) _
-    (rw (c .before .before .before .before .zeros .ensures)
-    (ap cicOf (settle-some width s (a .x) (omega (arith, c .before .before .before .if2 .left)) (ok .few) _ (c .level .result) gains (rw bx at (c .level .ensures)))))
+    (rw (z .before .zeros .ensures)
+    (ap cicOf (settle-some width s (a .x) (omega (arith, z .if2 .left)) (ok .few) _ (c .level .result) gains
+    (rw bx at (c .level .ensures)))))
 
 pub settle-interpolate-spec : {M : Type 1} → statement M
 settle-interpolate-spec =
