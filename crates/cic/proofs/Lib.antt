@@ -1,4 +1,4 @@
 pub mod Ways
-pub mod Turning
-pub mod Blocks
+pub mod StepCalls
+pub mod BlockCalls
 pub mod InTurn

@@ -13,8 +13,8 @@ width = w32
 abbrev pub bits : ℕ
 bits = 32
 
-abbrev pub word : RattleType
-word = i32
+abbrev pub wordType : RattleType
+wordType = i32
 
 abbrev pub wordOps : Ops ℤ
 wordOps = signedOps width

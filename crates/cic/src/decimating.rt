@@ -14,9 +14,9 @@ ghost use mathlib.Core.Path.{_≡_};
 ghost use Prim.Native.Nat.{_+_, _-_, _≤_, _<_};
 ghost use lib.ListN.{length};
 ghost use Rattle.sums.specs.Runs.{needed};
-ghost use Rattle.sums.proofs.Lent.{Ready, Ring, Reaches, Rests, Drives};
+ghost use Rattle.sums.proofs.Lent.{Ready, Ring, DecimateStretch, DecimateRest, DecimateRun};
 ghost use Rattle.cic.specs.Word.{wordOps};
-ghost use Rattle.cic.specs.Inner.Turns.{figuresOf, apart, ringed, givenOf};
+ghost use Rattle.cic.specs.Inner.Apart.{figuresOf, apart, ringed, givenOf};
 
 // Where a stretch ends: the numbers after it, what it gives, the place of the oldest cells, and the next input.
 pub(crate) struct StretchEnd {
@@ -39,7 +39,7 @@ fn decimate_stretch(
 ) -> StretchEnd
     requires { ⌜ Ring n at (figuresOf first) (now combs) × Ready (ringed first (now integrators) (now combs) at)
         × (i + first .countdown < length (now input)) ⌝ }
-    ensures { λ r. ⌜ Reaches wordOps n (now (input .entry)) (ringed first (now (integrators .entry)) (now (combs .entry)) at) i
+    ensures { λ r. ⌜ DecimateStretch wordOps n (now (input .entry)) (ringed first (now (integrators .entry)) (now (combs .entry)) at) i
         (figuresOf (r .numbers)) (now (integrators .exit)) (now (combs .exit)) (r .at) (givenOf (r .gave)) (r .next) ⌝ }
 {
     let mut numbers = first;
@@ -69,7 +69,7 @@ fn decimate_rest(
     i: usize,
 ) -> Numbers
     requires { ⌜ (n ≤ 8) × (i ≤ length (now input)) × (length (now input) - i ≤ first .countdown) × (length (now integrators) ≡ 8) ⌝ }
-    ensures { λ r. ⌜ Rests wordOps n (now (input .entry)) i (figuresOf first) (now (integrators .entry)) (figuresOf r)
+    ensures { λ r. ⌜ DecimateRest wordOps n (now (input .entry)) i (figuresOf first) (now (integrators .entry)) (figuresOf r)
         (now (integrators .exit)) ⌝ }
 {
     let mut numbers = first;
@@ -93,7 +93,7 @@ fn decimate_stretches(
     requires { ⌜ (n ≡ first .order) × Ready (apart first (now integrators) (now combs))
         × (needed (length (now input)) (first .countdown) (first .rate) ≤ length (now out)) ⌝ }
     ensures { λ r. ⌜ Ring n (r .at) (figuresOf (r .numbers)) (now (combs .exit))
-        × Drives wordOps (apart first (now (integrators .entry)) (now (combs .entry))) (now (input .entry)) (now (out .entry))
+        × DecimateRun wordOps (apart first (now (integrators .entry)) (now (combs .entry))) (now (input .entry)) (now (out .entry))
         (ringed (r .numbers) (now (integrators .exit)) (now (combs .exit)) (r .at)) (r .count) (now (out .exit)) ⌝ }
 {
     let mut numbers = first;
@@ -131,7 +131,7 @@ fn decimate_by_order(
     requires { ⌜ Ready (apart first (now integrators) (now combs))
         × (needed (length (now input)) (first .countdown) (first .rate) ≤ length (now out)) ⌝ }
     ensures { λ r. ⌜ Ring (first .order) (r .at) (figuresOf (r .numbers)) (now (combs .exit))
-        × Drives wordOps (apart first (now (integrators .entry)) (now (combs .entry))) (now (input .entry)) (now (out .entry))
+        × DecimateRun wordOps (apart first (now (integrators .entry)) (now (combs .entry))) (now (input .entry)) (now (out .entry))
         (ringed (r .numbers) (now (integrators .exit)) (now (combs .exit)) (r .at)) (r .count) (now (out .exit)) ⌝ }
 {
     let n = first.order;
@@ -160,7 +160,7 @@ pub(crate) fn decimate_run(
 ) -> BlockEnd
     requires { ⌜ Ready (apart first (now integrators) (now combs))
         × (needed (length (now input)) (first .countdown) (first .rate) ≤ length (now out)) ⌝ }
-    ensures { λ r. ⌜ Drives wordOps (apart first (now (integrators .entry)) (now (combs .entry))) (now (input .entry)) (now (out .entry))
+    ensures { λ r. ⌜ DecimateRun wordOps (apart first (now (integrators .entry)) (now (combs .entry))) (now (input .entry)) (now (out .entry))
         (apart (r .numbers) (now (integrators .exit)) (now (combs .exit))) (r .count) (now (out .exit)) ⌝ }
 {
     let r = decimate_by_order(integrators, combs, first, input, out);

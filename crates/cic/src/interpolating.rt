@@ -11,9 +11,9 @@ ghost use mathlib.Core.Path.{_≡_};
 ghost use Prim.Native.Nat.{_-_, _≤_};
 ghost use lib.ListN.{length};
 ghost use Rattle.sums.specs.Runs.{needed};
-ghost use Rattle.sums.proofs.Lent.{Ready, Ring, Feeds, Coasts, Fills};
+ghost use Rattle.sums.proofs.Lent.{Ready, Ring, InterpolateSample, InterpolateRest, InterpolateRun};
 ghost use Rattle.cic.specs.Word.{wordOps};
-ghost use Rattle.cic.specs.Inner.Turns.{figuresOf, apart, ringed};
+ghost use Rattle.cic.specs.Inner.Apart.{figuresOf, apart, ringed};
 
 // After a sample: the numbers, and the place of the oldest cells.
 pub(crate) struct SampleEnd {
@@ -30,7 +30,7 @@ fn interpolate_sample(
     x: Word,
 ) -> SampleEnd
     requires { ⌜ Ring n at (figuresOf first) (now combs) × (first .rate ≤ 65535) ⌝ }
-    ensures { λ r. ⌜ Feeds wordOps n at (figuresOf first) (now (combs .entry)) x (figuresOf (r .numbers)) (now (combs .exit)) (r .at) ⌝ }
+    ensures { λ r. ⌜ InterpolateSample wordOps n at (figuresOf first) (now (combs .entry)) x (figuresOf (r .numbers)) (now (combs .exit)) (r .at) ⌝ }
 {
     let mut numbers = first;
     let y = difference_ring(combs, n, at, x);
@@ -51,7 +51,7 @@ fn interpolate_rest(
     i: usize,
 ) -> Numbers
     requires { ⌜ (n ≤ 8) × (i ≤ length (now out)) × (length (now out) - i ≤ first .countdown) × (length (now integrators) ≡ 8) ⌝ }
-    ensures { λ r. ⌜ Coasts wordOps n i (figuresOf first) (now (integrators .entry)) (now (out .entry)) (figuresOf r)
+    ensures { λ r. ⌜ InterpolateRest wordOps n i (figuresOf first) (now (integrators .entry)) (now (out .entry)) (figuresOf r)
         (now (integrators .exit)) (now (out .exit)) ⌝ }
 {
     let mut numbers = first;
@@ -75,7 +75,7 @@ fn interpolate_stretches(
     requires { ⌜ (n ≡ first .order) × Ready (apart first (now integrators) (now combs))
         × (needed (length (now out)) (first .countdown) (first .rate) ≤ length (now input)) ⌝ }
     ensures { λ r. ⌜ Ring n (r .at) (figuresOf (r .numbers)) (now (combs .exit))
-        × Fills wordOps (apart first (now (integrators .entry)) (now (combs .entry))) (now (input .entry)) (now (out .entry))
+        × InterpolateRun wordOps (apart first (now (integrators .entry)) (now (combs .entry))) (now (input .entry)) (now (out .entry))
         (ringed (r .numbers) (now (integrators .exit)) (now (combs .exit)) (r .at)) (r .count) (now (out .exit)) ⌝ }
 {
     let mut numbers = first;
@@ -112,7 +112,7 @@ fn interpolate_by_order(
     requires { ⌜ Ready (apart first (now integrators) (now combs))
         × (needed (length (now out)) (first .countdown) (first .rate) ≤ length (now input)) ⌝ }
     ensures { λ r. ⌜ Ring (first .order) (r .at) (figuresOf (r .numbers)) (now (combs .exit))
-        × Fills wordOps (apart first (now (integrators .entry)) (now (combs .entry))) (now (input .entry)) (now (out .entry))
+        × InterpolateRun wordOps (apart first (now (integrators .entry)) (now (combs .entry))) (now (input .entry)) (now (out .entry))
         (ringed (r .numbers) (now (integrators .exit)) (now (combs .exit)) (r .at)) (r .count) (now (out .exit)) ⌝ }
 {
     let n = first.order;
@@ -141,7 +141,7 @@ pub(crate) fn interpolate_run(
 ) -> BlockEnd
     requires { ⌜ Ready (apart first (now integrators) (now combs))
         × (needed (length (now out)) (first .countdown) (first .rate) ≤ length (now input)) ⌝ }
-    ensures { λ r. ⌜ Fills wordOps (apart first (now (integrators .entry)) (now (combs .entry))) (now (input .entry)) (now (out .entry))
+    ensures { λ r. ⌜ InterpolateRun wordOps (apart first (now (integrators .entry)) (now (combs .entry))) (now (input .entry)) (now (out .entry))
         (apart (r .numbers) (now (integrators .exit)) (now (combs .exit))) (r .count) (now (out .exit)) ⌝ }
 {
     let r = interpolate_by_order(integrators, combs, first, input, out);

@@ -12,8 +12,8 @@ ghost use Rattle.sums.specs.State.{refusal};
 ghost use Rattle.cic.specs.Word.{wordOps};
 ghost use Rattle.cic.specs.Reading.{stateOf, cicOf};
 ghost use Rattle.cic.specs.Answers.{steppedOf, risenOf};
-ghost use Rattle.sums.proofs.Lent.{Ready, Turns, Rises};
-ghost use Rattle.cic.specs.Inner.Turns.{numbersOf, apart, liftedOf, givenOf, markedOf};
+ghost use Rattle.sums.proofs.Lent.{Ready, DecimateStep, InterpolateStep};
+ghost use Rattle.cic.specs.Inner.Apart.{numbersOf, apart, acceptedOf, givenOf, markedOf};
 
 // An output of the decimator, and whether it is settled.
 pub struct Output {
@@ -111,7 +111,7 @@ pub(crate) fn decimate_step(
     x: Word,
 ) -> StepEnd
     requires { ⌜ Ready (apart n (now integrators) (now combs)) ⌝ }
-    ensures { λ r. ⌜ Turns wordOps (apart n (now (integrators .entry)) (now (combs .entry))) x
+    ensures { λ r. ⌜ DecimateStep wordOps (apart n (now (integrators .entry)) (now (combs .entry))) x
         (apart (r .numbers) (now (integrators .exit)) (now (combs .exit))) (givenOf (r .gave)) ⌝ }
 {
     let mut numbers = n;
@@ -142,7 +142,7 @@ pub(crate) fn interpolate_step(
     x: Word,
 ) -> RiseEnd
     requires { ⌜ Ready (apart n (now integrators) (now combs)) ⌝ }
-    ensures { λ r. ⌜ Rises wordOps (apart n (now (integrators .entry)) (now (combs .entry))) (dueSample wordOps (n .countdown) (x ∷ []))
+    ensures { λ r. ⌜ InterpolateStep wordOps (apart n (now (integrators .entry)) (now (combs .entry))) (dueSample wordOps (n .countdown) (x ∷ []))
         (apart (r .numbers) (now (integrators .exit)) (now (combs .exit))) (r .value) ⌝ }
 {
     let mut next = n;
@@ -180,9 +180,9 @@ impl Cic {
     }
 
     // The interpolator's step of an accepted state.
-    fn lifted(self, x: Word) -> Risen
+    fn interpolate_accepted(self, x: Word) -> Risen
         requires { ⌜ refusal (stateOf self) ≡ 0 ⌝ }
-        ensures { λ r. ⌜ r ≡ liftedOf self (dueSample wordOps (self .countdown) (x ∷ [])) ⌝ }
+        ensures { λ r. ⌜ r ≡ acceptedOf self (dueSample wordOps (self .countdown) (x ∷ [])) ⌝ }
     {
         let mut integrators = self.integrators;
         let mut combs = self.combs;
@@ -238,7 +238,7 @@ impl Cic {
                     out: Interpolated::Refused(22),
                 };
             }
-            return self.lifted(0);
+            return self.interpolate_accepted(0);
         };
         if 0 < countdown {
             return Risen {
@@ -246,6 +246,6 @@ impl Cic {
                 out: Interpolated::Refused(21),
             };
         }
-        self.lifted(x)
+        self.interpolate_accepted(x)
     }
 }

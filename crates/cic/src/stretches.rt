@@ -12,7 +12,7 @@ ghost use lib.Seq.{slice};
 ghost use Rattle.sums.proofs.Stretches.{ran, lastOf};
 ghost use Rattle.sums.proofs.Rings.{turned, rolledAt};
 ghost use Rattle.cic.specs.Word.{wordOps};
-ghost use Rattle.sums.proofs.Lent.{Stores, Climbs};
+ghost use Rattle.sums.proofs.Lent.{Stores, IntegrateOutputs};
 
 // A block on lent arrays: the numbers after it, and how many low-rate samples it wrote or read.
 pub(crate) struct BlockEnd {
@@ -61,7 +61,7 @@ pub(crate) fn integrate_outputs(
     to: usize,
 )
     requires { ⌜ (n ≤ 8) × (from ≤ to) × (to ≤ length (now out)) × (length (now cells) ≡ 8) ⌝ }
-    ensures { λ r. ⌜ Climbs wordOps n x from to (now (cells .entry)) (now (out .entry)) (now (cells .exit)) (now (out .exit)) ⌝ }
+    ensures { λ r. ⌜ IntegrateOutputs wordOps n x from to (now (cells .entry)) (now (out .entry)) (now (cells .exit)) (now (out .exit)) ⌝ }
 {
     let mut held = *cells;
     let mut i = from;

@@ -7,7 +7,7 @@ use borrow.Author.Tests.{lt-ltb, le-ltb, ne-eqb}
 use Rattle.sums.specs.Ops.{Ops}
 use Rattle.sums.specs.State.{State, refusal}
 use Rattle.sums.specs.Runs.{needed, blockNumber, blockState, blockOut, fillNumber, fillState, fillOut}
-use Rattle.sums.proofs.Lent.{Drives, Fills}
+use Rattle.sums.proofs.Lent.{DecimateRun, InterpolateRun}
 use Rattle.shape.specs.declared.runs.Wrote.the-variants as Wrote
 use Rattle.shape.specs.declared.runs.Read.the-variants as Read
 use Rattle.shape.specs.Answers.{wroteOf, readOf, blockWrote, blockRead}
@@ -47,7 +47,7 @@ module _ {A : Type 0} (s : State A) (xs out : List A) where
     block-refuses zero e h = absurd (h refl)
     block-refuses (suc k) e h = (rw (← e, ne-eqb (suc k) 0 h), rw (← e), rw (← e, ne-eqb (suc k) 0 h))
 
-    pub block-runs : blockNumber s xs out ≡ 0 → (t : State A) (count : ℕ) (left : List A) → Drives o s xs out t count left
+    pub block-runs : blockNumber s xs out ≡ 0 → (t : State A) (count : ℕ) (left : List A) → DecimateRun o s xs out t count left
         → (t ≡ blockState o s xs out) × (Wrote.Outputs (record { count = count; unsettled = s .unsettled }) ≡ blockWrote s xs out)
         × (left ≡ blockOut o s xs out)
     unfolding blockState blockOut wroteOf
@@ -59,7 +59,7 @@ module _ {A : Type 0} (s : State A) (xs out : List A) where
     fill-refuses zero e h = absurd (h refl)
     fill-refuses (suc k) e h = (rw (← e, ne-eqb (suc k) 0 h), rw (← e), rw (← e, ne-eqb (suc k) 0 h))
 
-    pub fill-runs : fillNumber s xs out ≡ 0 → (t : State A) (count : ℕ) (left : List A) → Fills o s xs out t count left
+    pub fill-runs : fillNumber s xs out ≡ 0 → (t : State A) (count : ℕ) (left : List A) → InterpolateRun o s xs out t count left
         → (t ≡ fillState o s xs out) × (Read.Inputs count ≡ blockRead s xs out) × (left ≡ fillOut o s xs out)
     unfolding fillState fillOut readOf
     fill-runs z t count left d = (rw z (d .state), rw (z, d .count), rw z (d .wrote))

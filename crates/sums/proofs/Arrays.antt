@@ -82,10 +82,6 @@ module _ {A : Type 0} where
       delay = rows-lines (s .delay) (s .order) (s .combs) (r .short) (r .combs-in);
     }
 
-    pub put-view : put s (view s) ≡ s
-    unfolding view put
-    put-view = rw (take-append-drop (s .order) (s .integrators), rows-back (s .delay) (s .order) (s .combs) (r .short) (r .combs-in))
-
     module _ (m : Machine A) (h : Shaped (s .order) (s .delay) m) where
       pub view-put : view (put s m) ≡ m
       unfolding view put
@@ -101,15 +97,6 @@ module _ {A : Type 0} where
       pub put-combs : length (put s m .combs) ≡ length (s .combs)
       unfolding put
       put-combs = putRows-length (s .delay) (s .order) (m .lines) (s .combs) (r .short) (h .lines-order) (h .delay) (r .combs-in)
-
-      pub put-room : Room (put s m)
-      unfolding put
-      put-room = record {
-        some = r .some;
-        short = r .short;
-        integrators-in = omega (arith, put-integrators, r .integrators-in);
-        combs-in = omega (arith, put-combs, r .combs-in);
-      }
 
 -- a step either way, on the arrays: the shape that `put` asks for
 module _ {A : Type 0} (o : Ops A) (s : State A) (x : A) (r : Room s) where

@@ -27,8 +27,7 @@ from-zero : (w : Width) (N M r : ℕ) → Sound N M r 0 0
     → Decimator w N M r 0 0 (zeroed (signedOps w) N M r) × Interpolator w N M r (zeroed (signedOps w) N M r)
 from-zero w N M r q = (
   decimator w N M r 0 0 (zeroed (signedOps w) N M r) (zeroed-fit (signedOps w) N M r q) (decimates-zero w N M r q),
-  interpolates-zero
-      w N M r q,
+  interpolates-zero w N M r q,
 )
 
 pub demand2 : Demand2

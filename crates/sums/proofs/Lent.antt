@@ -92,50 +92,50 @@ module _ {A : Type 0} (o : Ops A) where
     pub last : y ≡ handed (lessAt o at) n x l
 
   -- The decimator's step of s on x leaves t and gives g.
-  pub record Turns (s : State A) (x : A) (t : State A) (g : Option (Output A)) : Type 0 where
+  pub record DecimateStep (s : State A) (x : A) (t : State A) (g : Option (Output A)) : Type 0 where
     pub state : t ≡ stepState o s x
     pub gives : g ≡ stepGiven o s x
 
   -- The interpolator's step of s, with a sample or none, leaves t and gives y.
-  pub record Rises (s : State A) (x : Option A) (t : State A) (y : A) : Type 0 where
+  pub record InterpolateStep (s : State A) (x : Option A) (t : State A) (y : A) : Type 0 where
     pub state : t ≡ riseState o s x
     pub gives : y ≡ riseGiven o s x
 
   -- The decimator's steps of s on xs in turn leave t; k outputs stand in front of the slice that was out, which is now left.
-  pub record Drives (s : State A) (xs out : List A) (t : State A) (k : ℕ) (left : List A) : Type 0 where
+  pub record DecimateRun (s : State A) (xs out : List A) (t : State A) (k : ℕ) (left : List A) : Type 0 where
     pub state : t ≡ after o s xs
     pub count : k ≡ needed (length xs) (s .countdown) (s .rate)
     pub wrote : left ≡ over (values (outputs o s xs)) out
 
   -- The interpolator's steps of s in turn, as many as out has elements, leave t and read k of the samples xs; out is now left.
-  pub record Fills (s : State A) (xs out : List A) (t : State A) (k : ℕ) (left : List A) : Type 0 where
+  pub record InterpolateRun (s : State A) (xs out : List A) (t : State A) (k : ℕ) (left : List A) : Type 0 where
     pub state : t ≡ risenAfter o s (length out) xs
     pub count : k ≡ needed (length out) (s .countdown) (s .rate)
     pub wrote : left ≡ risings o s (length out) xs
 
   -- From input i and state s to the next output at input j - 1, which is gives.
-  pub record Reaches (n : ℕ) (xs : List A) (s : State A) (i : ℕ) (t : Figures A) (integrators combs : List A) (at : ℕ)
+  pub record DecimateStretch (n : ℕ) (xs : List A) (s : State A) (i : ℕ) (t : Figures A) (integrators combs : List A) (at : ℕ)
       (gives : Option (Output A)) (j : ℕ) : Type 0 where
     pub ring : Ring n at t combs
     pub jump : Jump o xs s i (ringed t integrators combs at) gives j
     pub further : i < j
 
-  pub record Rests (n : ℕ) (xs : List A) (i : ℕ) (s : Figures A) (l : List A) (t : Figures A) (a : List A) : Type 0 where
+  pub record DecimateRest (n : ℕ) (xs : List A) (i : ℕ) (s : Figures A) (l : List A) (t : Figures A) (a : List A) : Type 0 where
     pub numbers : t ≡ rested s (length xs - i)
     pub cells : a ≡ ran o n (slice i (length xs) xs) l
 
   -- The first n integrators have run from x once for each output from..to of out, which is now left.
-  pub record Climbs (n : ℕ) (x : A) (from to : ℕ) (l out a left : List A) : Type 0 where
+  pub record IntegrateOutputs (n : ℕ) (x : A) (from to : ℕ) (l out a left : List A) : Type 0 where
     pub cells : a ≡ ran o n (replicate (to - from) x) l
     pub wrote : left ≡ take from out ++ (tops o n (replicate (to - from) x) l ++ drop to out)
 
   -- The sample x has gone through the combs into the hold, which stands for R outputs.
-  pub record Feeds (n at : ℕ) (s : Figures A) (combs : List A) (x : A) (t : Figures A) (left : List A) (next : ℕ) : Type 0 where
+  pub record InterpolateSample (n at : ℕ) (s : Figures A) (combs : List A) (x : A) (t : Figures A) (left : List A) (next : ℕ) : Type 0 where
     pub ring : Ring n next t left
     pub same : t .rate ≡ s .rate
     pub state : (integrators : List A) → ringed t integrators left next ≡ fed o (ringed s integrators combs at) x
 
   -- The outputs from i on, all on the hold.
-  pub record Coasts (n i : ℕ) (s : Figures A) (l out : List A) (t : Figures A) (a left : List A) : Type 0 where
+  pub record InterpolateRest (n i : ℕ) (s : Figures A) (l out : List A) (t : Figures A) (a left : List A) : Type 0 where
     pub numbers : t ≡ rested s (length out - i)
-    pub climb : Climbs n (s .hold) i (length out) l out a left
+    pub climb : IntegrateOutputs n (s .hold) i (length out) l out a left

@@ -19,9 +19,9 @@ pub mod Settling
 pub mod Makers
 pub mod Alone
 pub mod Lent
-pub mod Turning
-pub mod Striding
-pub mod Running
+pub mod LentSteps
+pub mod LentStretches
+pub mod LentRuns
 pub mod Levels
 pub mod Lines
 pub mod Numbers

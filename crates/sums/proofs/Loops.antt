@@ -198,8 +198,7 @@ module _ {A : Type 0} (o : Ops A) (M : ℕ) where
           arith,
           first-length c v (omega arith),
           length-drop 8 c,
-          cells-length j (drop 8 c) (less o (take M c) v)
-              (rw length-drop (omega arith)),
+          cells-length j (drop 8 c) (less o (take M c) v) (rw length-drop (omega arith)),
         )
 
     take-past : (q r : List A) (n : ℕ) → length q ≡ 8 → take (8 + n) (q ++ r) ≡ q ++ take n r

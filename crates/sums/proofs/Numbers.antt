@@ -32,8 +32,7 @@ stops cap a b p = ⊎-elim under above (eq-zero-or-pos (a - cap))
         rw (
           min-eq-right {n = cap} {m = a} (omega arith),
           min-eq-right {n = cap} {m = cap * b} (omega arith),
-          min-eq-right {n = cap}
-              {m = a * b} (omega arith),
+          min-eq-right {n = cap} {m = a * b} (omega arith),
         )
 
 pub power-turn : (cap base i r : ℕ) → 1 ≤ base → r ≡ min (base ^ i) cap → min (r * base) cap ≡ min (base ^ (i + 1)) cap

@@ -65,8 +65,7 @@ accepts o d r c u h =
       le-ltb 8 d (h .short),
       le-ltb 65535 r (h .slow),
       le-ltb 65535 c (h .near),
-      le-ltb (o * d) u
-          (h .owed),
+      le-ltb (o * d) u (h .owed),
     )
 
 module _ {A : Type 0} (s : State A) where

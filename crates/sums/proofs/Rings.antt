@@ -121,8 +121,7 @@ module _ {A : Type 0} where
           drop-append-le 1 (drop k l) (take k l) (omega (arith, length-drop k l)),
           drop-drop 1 k l,
           add-one k,
-          drop-set-lt (suc k) l k
-              x (omega arith),
+          drop-set-lt (suc k) l k x (omega arith),
           take-suc-set l k x h,
         )
         (append-assoc (drop (suc k) l) (take k l) (x ∷ []))
@@ -230,18 +229,6 @@ module _ {A : Type 0} (M : ℕ) (m : M ≤ 8) where
       (λ w. ap (λ i. turned M i n l) (w .0) ∙ turned-none n l ∙ sym (turned-round n l) ∙ ap (λ i. turned M i n l) (sym (w .1)))
       h
 
-  pub turned-length : (k n : ℕ) (l : List A) → n * 8 ≤ length l → length (turned M k n l) ≡ length l
-  unfolding swept
-  turned-length k zero l f = refl
-  turned-length k (suc n) l f =
-      length-append (rolled M k (take 8 l)) (turned M k n (drop 8 l))
-      ∙ omega (
-        arith,
-        rolled-length M k (suc n) 0 l m (omega arith) f,
-        turned-length k n (drop 8 l) (rw length-drop (omega arith)),
-        length-drop 8 l,
-      )
-
   pub stores-length : (o : Ops A) (k n : ℕ) (x : A) (l : List A) → n * 8 ≤ length l → length (swept (stored k) (lessAt o k) n x l)
       ≡ length l
   unfolding swept
@@ -251,8 +238,7 @@ module _ {A : Type 0} (M : ℕ) (m : M ≤ 8) where
       ∙ omega (
         arith,
         stored-length M k (suc n) 0 l m (omega arith) f x,
-        stores-length o k n (lessAt o k x (take 8 l)) (drop 8 l)
-            (rw length-drop (omega arith)),
+        stores-length o k n (lessAt o k x (take 8 l)) (drop 8 l) (rw length-drop (omega arith)),
         length-drop 8 l,
       )
 
@@ -320,8 +306,7 @@ module _ {A : Type 0} (M : ℕ) (m : M ≤ 8) where
           t-rest n l f,
           t-less n l f x,
           ring-cells n y (drop 8 l) (rw length-drop (omega arith)),
-          s-row n
-              l f x q,
+          s-row n l f x q,
           s-rest n l f x q,
           ← t-pushed n l f x,
         )

@@ -1,4 +1,4 @@
--- A stretch is a jump to the next output: Striding puts the calls' promises together.
+-- A stretch is a jump to the next output: LentStretches puts the calls' promises together.
 use borrow.Author.Needs.{needs}
 use mathlib.Core.Path.{ap, _∙_}
 use Prim.Native.Nat.{_+_}
@@ -7,10 +7,10 @@ use lib.IntN.{pos}
 use lib.ListN.{length, getD}
 use Rattle.words.proofs.Reading.{read}
 use Rattle.sums.proofs.Stretches.{ran-length}
-use Rattle.sums.proofs.Striding.{reaches}
+use Rattle.sums.proofs.LentStretches.{reaches}
 use Rattle.shape.proofs.Places.{follows}
 use Rattle.cic.specs.Word.{width, wordOps}
-use Rattle.cic.specs.Inner.Turns.{figuresOf}
+use Rattle.cic.specs.Inner.Apart.{figuresOf}
 use Rattle.cic.proofs.decimating.decimate_stretch.Statement.{statement}
 use Rattle.cic.proofs.decimating.decimate_stretch.Tie as tie
 

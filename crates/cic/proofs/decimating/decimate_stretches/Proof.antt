@@ -12,10 +12,10 @@ use Rattle.sums.specs.State.{State}
 use Rattle.sums.proofs.Blocks.{Held, held-start}
 use Rattle.sums.proofs.Rings.{turned-none}
 use Rattle.cic.specs.Word.{width, wordOps}
-use Rattle.cic.specs.Inner.Turns.{figuresOf, apart, ringed, givenOf}
+use Rattle.cic.specs.Inner.Apart.{figuresOf, apart, ringed, givenOf}
 use Rattle.sums.proofs.Lent.{Ring}
-use Rattle.sums.proofs.Turning.{fit, ready}
-use Rattle.sums.proofs.Running.{drive-none, drive-room, drive-one, drive-ends}
+use Rattle.sums.proofs.LentSteps.{fit, ready}
+use Rattle.sums.proofs.LentRuns.{decimate-none, decimate-room, decimate-one, decimate-ends}
 use Rattle.cic.proofs.decimating.decimate_stretches.Statement.{statement}
 use Rattle.cic.proofs.decimating.decimate_stretches.Tie as tie
 
@@ -72,7 +72,7 @@ slice-set-from-y c =
     let tu = reached c in let q = turn (tu .before) in let l = q .loop in
     let a = q .before .args in
     let t = tu .decimate-stretch in
-    drive-room wordOps (a .n) (a .input .now) (a .out .now) (l .out) (begun (q .before)) (at q) (l .k) (l .i) (l .inv .0)
+    decimate-room wordOps (a .n) (a .input .now) (a .out .now) (l .out) (begun (q .before)) (at q) (l .k) (l .i) (l .inv .0)
     (figuresOf (t .result .numbers)) (t .last .0) (t .last .1 .0) (t .result .at) (givenOf (t .result .gave)) (t .result .next) (t .ensures)
     (c .before .given .given .0 .0) (eqb (c .before .given .given .0 .1 .0) 0) (ap givenOf (c .before .given .given .1))
 
@@ -88,7 +88,7 @@ loop-again c =
     let tu = reached c in let q = turn (tu .before) in let l = q .loop in
     let a = q .before .args in
     let t = tu .decimate-stretch in let y = c .before .given .given .0 .0 in (
-      drive-one wordOps (a .n) (a .input .now) (a .out .now) (l .out) (begun (q .before)) (at q) (l .k) (l .i) (l .inv .0)
+      decimate-one wordOps (a .n) (a .input .now) (a .out .now) (l .out) (begun (q .before)) (at q) (l .k) (l .i) (l .inv .0)
           (figuresOf (t .result .numbers)) (t .last .0) (t .last .1 .0) (t .result .at) (givenOf (t .result .gave)) (t .result .next)
           (t .ensures)
           y (eqb (c .before .given .given .0 .1 .0) 0) (ap givenOf (c .before .given .given .1)) (toZ width (ofZ width y))
@@ -104,7 +104,7 @@ loop-again-2 c =
     let tu = c .before .before .before in let q = turn (tu .before) in let l = q .loop in
     let a = q .before .args in
     let t = tu .decimate-stretch in (
-      drive-none wordOps (a .n) (a .input .now) (a .out .now) (l .out) (begun (q .before)) (at q) (l .k) (l .i) (l .inv .0)
+      decimate-none wordOps (a .n) (a .input .now) (a .out .now) (l .out) (begun (q .before)) (at q) (l .k) (l .i) (l .inv .0)
           (figuresOf (t .result .numbers)) (t .last .0) (t .last .1 .0) (t .result .at) (givenOf (t .result .gave)) (t .result .next)
           (t .ensures) (ap givenOf (c .enum-told .given .1)),
       t .ensures .ring,
@@ -120,7 +120,7 @@ same-length c = let rest = c .before in rest .before .before .before .loop .inv 
 returns : tie.Need-returns Inv-loop μ-loop
 returns c =
     let rest = c .before in let q = rest .before .before .before in let l = q .loop in let p = q .before in let a = p .args in
-    drive-ends wordOps (a .n) (a .input .now) (a .out .now) (l .out) (begun p) (fit (begun p) (p .pre .1)) (figuresOf (l .numbers))
+    decimate-ends wordOps (a .n) (a .input .now) (a .out .now) (l .out) (begun p) (fit (begun p) (p .pre .1)) (figuresOf (l .numbers))
     (l .integrators) (l .combs) (l .at) (l .k) (l .i)
     (l .inv .0) (l .inv .1) (omega (arith, c .before .before .if1 .left)) (figuresOf (c .decimate-rest .result))
     (c .decimate-rest .last .0) (c .decimate-rest .ensures)

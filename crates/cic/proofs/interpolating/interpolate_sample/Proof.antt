@@ -1,11 +1,11 @@
--- A comb step in the rings, as Striding has it for both directions.
+-- A comb step in the rings, as LentStretches has it for both directions.
 use borrow.Author.Needs.{needs}
 use mir.ValLaws.{toZ-ofZ}
 use Rattle.words.proofs.Reading.{read}
-use Rattle.sums.proofs.Striding.{feeds}
+use Rattle.sums.proofs.LentStretches.{feeds}
 use Rattle.shape.proofs.Places.{follows}
 use Rattle.cic.specs.Word.{width, wordOps}
-use Rattle.cic.specs.Inner.Turns.{figuresOf}
+use Rattle.cic.specs.Inner.Apart.{figuresOf}
 use Rattle.cic.proofs.interpolating.interpolate_sample.Statement.{statement}
 use Rattle.cic.proofs.interpolating.interpolate_sample.Tie as tie
 

@@ -1,4 +1,4 @@
--- What is left to run, `Filling` of sums Fills, on the state that the rings stand for; a turn is the outputs of a hold and a sample.
+-- What is left to run, `Filling` of sums InterpolateRun, on the state that the rings stand for; a turn is the outputs of a hold and a sample.
 use borrow.Author.Needs.{needs}
 use mathlib.Core.Path.{_≡_, ap, _∙_}
 use Prim.Native.Nat.{_-_, _*_, _^_, _<_, _≤_}
@@ -12,10 +12,10 @@ use Rattle.sums.proofs.Fills.{Filling, filling-start, filling-read}
 use Rattle.sums.proofs.Stretches.{ran-length}
 use Rattle.sums.proofs.Rings.{turned-none}
 use Rattle.cic.specs.Word.{width, wordOps}
-use Rattle.cic.specs.Inner.Turns.{figuresOf, apart, ringed}
+use Rattle.cic.specs.Inner.Apart.{figuresOf, apart, ringed}
 use Rattle.sums.proofs.Lent.{Ring}
-use Rattle.sums.proofs.Turning.{fit}
-use Rattle.sums.proofs.Running.{raise-turn, raise-same, raise-ends}
+use Rattle.sums.proofs.LentSteps.{fit}
+use Rattle.sums.proofs.LentRuns.{interpolate-turn, interpolate-same, interpolate-ends}
 use Rattle.cic.proofs.interpolating.interpolate_stretches.Statement.{statement}
 use Rattle.cic.proofs.interpolating.interpolate_stretches.Tie as tie
 
@@ -115,7 +115,7 @@ loop-again c =
     let l = q .loop in let a = q .before .args in let g = l .inv .1 in
     let x = getD (a .input .now) (l .k) (pos 0) in
     let e = rw (held (d .before)) at (d .integrate-outputs .ensures) in (
-      raise-turn wordOps (a .n) (a .input .now) (a .out .now) (l .out) (begun (q .before)) (figuresOf (l .numbers)) (l .integrators)
+      interpolate-turn wordOps (a .n) (a .input .now) (a .out .now) (l .out) (begun (q .before)) (figuresOf (l .numbers)) (l .integrators)
           (l .combs) (l .at) (l .k) (l .i) (l .inv .0) g
           (more q (t .if1 .taken)) (d .integrate-outputs .last .0) (d .integrate-outputs .last .1 .1 .1 .0) e (toZ width (ofZ width x))
           (read width x (u .x .given))
@@ -137,7 +137,7 @@ interpolate-rest-requires c κs =
 same-length : tie.Need-same-length Inv-loop μ-loop
 same-length c =
     let d = c .before in let t = d .before .before .before in let q = t .before .before in let l = q .loop in let a = q .before .args in
-    raise-same wordOps (a .n) (a .input .now) (a .out .now) (l .out) (begun (q .before)) (figuresOf (l .numbers)) (l .integrators)
+    interpolate-same wordOps (a .n) (a .input .now) (a .out .now) (l .out) (begun (q .before)) (figuresOf (l .numbers)) (l .integrators)
     (l .combs) (l .at) (l .k) (l .i) (l .inv .0) (l .inv .1)
     (omega (arith, t .if1 .left, l .inv .0 .same)) (figuresOf (d .interpolate-rest .result)) (d .interpolate-rest .last .0)
     (d .interpolate-rest .last .1 .1 .1 .0) (d .interpolate-rest .ensures)
@@ -145,7 +145,7 @@ same-length c =
 returns : tie.Need-returns Inv-loop μ-loop
 returns c =
     let d = c .before in let t = d .before .before .before in let q = t .before .before in let l = q .loop in let a = q .before .args in
-    raise-ends wordOps (a .n) (a .input .now) (a .out .now) (l .out) (begun (q .before)) (figuresOf (l .numbers)) (l .integrators)
+    interpolate-ends wordOps (a .n) (a .input .now) (a .out .now) (l .out) (begun (q .before)) (figuresOf (l .numbers)) (l .integrators)
     (l .combs) (l .at) (l .k) (l .i) (l .inv .0) (l .inv .1)
     (omega (arith, t .if1 .left, l .inv .0 .same)) (figuresOf (d .interpolate-rest .result)) (d .interpolate-rest .last .0)
     (d .interpolate-rest .last .1 .1 .1 .0) (d .interpolate-rest .ensures)

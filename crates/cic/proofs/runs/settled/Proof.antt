@@ -41,7 +41,7 @@ use denote.Triple.Walked.{says, Stays, stay-none, stay-none-slice, walkOf, goes-
 use denote.Triple.Clauses.{ensured, lasts}
 use denote.Exit.{yes}
 use Rattle.sums.specs.Runs.{settledNumber, settledPart}
-use Rattle.cic.specs.Word.{width, word}
+use Rattle.cic.specs.Word.{width, wordType}
 use Rattle.cic.specs.declared.runs.Part.{Part}
 use Rattle.cic.proofs.runs.Part as T
 use Rattle.cic.proofs.runs.Part.Laws as T′
@@ -59,7 +59,7 @@ use Rattle.cic.proofs.runs.settled.Statement as stated
 use Rattle.cic.proofs.runs.settled.Code as code
 
 abbrev stayed : Stays (settled.ended .signature .params) (settled.ended .kept)
-stayed = (stay-none-slice (0 ∷ []) tt (plain (λ _. word)) yes, (stay-none (λ _. usize) yes, (stay-none (λ _. usize) yes, tt)))
+stayed = (stay-none-slice (0 ∷ []) tt (plain (λ _. wordType)) yes, (stay-none (λ _. usize) yes, (stay-none (λ _. usize) yes, tt)))
 
 module _ {M : Type 1} (𝓤 : URA M) (H : Heap 𝓤) (A : Atoms 𝓤) (mem : Memory → SProp 𝓤) (run : Routine → Fun 𝓤) where
   -- the contracts that the proof cites
@@ -76,7 +76,7 @@ module _ {M : Type 1} (𝓤 : URA M) (H : Heap 𝓤) (A : Atoms 𝓤) (W : Given
   α = namedLft 1 0 tt (κ, tt)
 
   abbrev S : RattleType
-  S = ShrSlice (named 0) κ word
+  S = ShrSlice (named 0) κ wordType
 
   -- a slice's machine value
   abbrev v : RefT (List ℤ) → Val
@@ -105,7 +105,7 @@ module _ {M : Type 1} (𝓤 : URA M) (H : Heap 𝓤) (A : Atoms 𝓤) (W : Given
   goes-num =
       qed W ((‵ (flft κ q) ⊛ ‵ ftrue) ∷ ‵ (owns (S ∷ usize ∷ usize ∷ []) (s, (w, (u, tt))) at) ∷ []) ∵
       move ! (1 ∷ []) $ fsplit ! $ move ! (1 ∷ []) $ drop ! $ use1 W (‵ Own ⊛ ‵ Own)
-      (shr-slice-copy 𝓤 H A W (named 0) κ word .twice s (v s ∷ [])) $ split ! $
+      (shr-slice-copy 𝓤 H A W (named 0) κ wordType .twice s (v s ∷ [])) $ split ! $
       -- [what out owns; what out owns; the token]
       nothing ! $ owned ! usize (Is usize) (uint-makes 𝓤 H A W w64) w _ (refl, w-fits) $ fjoin ! $ move ! (1 ∷ 0 ∷ []) $ fjoin ! $
       move ! (2 ∷ 0 ∷ []) $ use2 W (raw (Num 𝓤 H A mem run .pre to-num)) num-asked $ frame ! $ done !
@@ -124,7 +124,7 @@ module _ {M : Type 1} (𝓤 : URA M) (H : Heap 𝓤) (A : Atoms 𝓤) (W : Given
   goes-cut : ent 𝓤 (⋆ 𝓤 H A ((‵ (flft κ q) ⊛ ‵ ftrue) ∷ ‵ Own ∷ [])) (sep 𝓤 (Cut 𝓤 H A mem run .pre to-cut) (sem 𝓤 H A Own))
   goes-cut =
       qed W ((‵ (flft κ q) ⊛ ‵ ftrue) ∷ ‵ Own ∷ []) ∵
-      move ! (1 ∷ []) $ use1 W (‵ Own ⊛ ‵ Own) (shr-slice-copy 𝓤 H A W (named 0) κ word .twice s (v s ∷ [])) $ split ! $
+      move ! (1 ∷ []) $ use1 W (‵ Own ⊛ ‵ Own) (shr-slice-copy 𝓤 H A W (named 0) κ wordType .twice s (v s ∷ [])) $ split ! $
       nothing ! $ owned ! usize (Is usize) (uint-makes 𝓤 H A W w64) u _ (refl, u-fits) $ fjoin ! $ owned ! usize (Is usize)
       (uint-makes 𝓤 H A W w64) w _ (refl, w-fits) $ fjoin ! $ move ! (1 ∷ 0 ∷ []) $ fjoin ! $
       move ! (2 ∷ 0 ∷ []) $ use2 W (raw (Cut 𝓤 H A mem run .pre to-cut)) cut-asked $ frame ! $ done !
@@ -159,7 +159,7 @@ module _ {M : Type 1} (𝓤 : URA M) (H : Heap 𝓤) (A : Atoms 𝓤) (W : Given
         qed W (raw (onEntry 𝓤 H A settled.signature (κ, tt) (q, tt) (s, (w, (u, tt))) at) ∷ []) ∵ enter ! C Λ code.function
         (v s ∷ vint w64 w ∷ vint w64 u ∷ []) _ $
         alloc1 ! (λ l₀. alloc1 ! (λ l₁. alloc1 ! (λ l₂. alloc1 ! (λ l₃. alloc1 ! (λ l₄. alloc1 ! (λ l₅. alloc0 ! $ params1 ! $
-        pass1 ! (init ! 8 refl (shr-slice-lawful 𝓤 H A W (named 0) κ word .typed s (v s ∷ []) p .0)) $ pass1 !
+        pass1 ! (init ! 8 refl (shr-slice-lawful 𝓤 H A W (named 0) κ wordType .typed s (v s ∷ []) p .0)) $ pass1 !
         (init ! 6 refl (tt, record { fits = w-fits })) $ pass1 ! (init ! 4 refl (tt, record { fits = u-fits })) $ pass0 ! $
         move ! (12 ∷ []) $ use1 W (raw (Num 𝓤 H A mem run .pre to-num) ⊛ ‵ Own) goes-num $ split ! $
         calls-at ! fm (Num 𝓤 H A mem run) known-num to-num
@@ -184,7 +184,7 @@ module _ {M : Type 1} (𝓤 : URA M) (H : Heap 𝓤) (A : Atoms 𝓤) (W : Given
         (now r ≡ settledPart (now s) w u) (λ er. split ! $ move ! (1 ∷ []) $
         -- [what the part owns; the token; what out owns; room for _5; …; _4; …; _3; …; _2; …; _1; …; room for _0; …]
         peeks ! S (Is S) (shows 𝓤 H A S) r (b ∷ []) (λ it.
-        land ! (from ! (stop !)) (init ! 3 refl (shr-slice-lawful 𝓤 H A W erased κ word .typed r _ it .0)) $
+        land ! (from ! (stop !)) (init ! 3 refl (shr-slice-lawful 𝓤 H A W erased κ wordType .typed r _ it .0)) $
         rewrite ! 3 (λ (x : Val). ‵ (fat fullShare (sliceTy (tyRef erased imm (tyInt width))) l₅ 0 x)) (ap only (it .0 .0)) refl $
         rewrite ! 0 (λ (x : Val). ‵ (S .own r (x ∷ []))) (ap only (it .0 .0)) refl $
         assigns ! (agg ! (and-then ! (load ! (from ! (stop !)) (look ! 3 refl))
@@ -202,7 +202,7 @@ module _ {M : Type 1} (𝓤 : URA M) (H : Heap 𝓤) (A : Atoms 𝓤) (W : Given
       → Walks 𝓤 H A settled.ended stayed (WpFn 𝓤 H C Λ code.function) (settled.clauses 𝓤 H A mem run)
   settled-walks C Λ fm known-num known-cut = walked 𝓤 H A settled.ended stayed (settled.clauses 𝓤 H A mem run) (WpFn 𝓤 H C Λ code.function)
       (λ κs. (slice-vals, (uint-vals w64, (uint-vals w64, tt))))
-      (λ κs. (shr-slice-tells (named 0) (κs .0) word, (uint-tells w64, (uint-tells w64, tt))))
+      (λ κs. (shr-slice-tells (named 0) (κs .0) wordType, (uint-tells w64, (uint-tells w64, tt))))
       (λ κs qs bounds a g are. via 𝓤 _ (fst∗ 𝓤 _ (emp 𝓤))
       (walk 𝓤 H A W mem run (κs .0) (qs .0) (a .0) (a .1 .0) (a .1 .1 .0) (are .1 .0 .1) (are .1 .1 .0 .1) C Λ fm known-num known-cut
       (are .0)))
@@ -213,7 +213,7 @@ settled-meets : {M : Type 1} (𝓤 : URA M) (H : Heap 𝓤) (A : Atoms 𝓤) (W 
     → Meets 𝓤 H A settled.signature (WpFn 𝓤 H (𝓣 .C) (𝓣 .Λ) code.function) (settled.spec 𝓤 H A mem run)
 settled-meets 𝓤 H A W mem run 𝓣 known-num known-cut =
     walk-meets 𝓤 H A settled.ended stayed W (
-      goes-none-slice 𝓤 H A W 1 (0 ∷ []) tt (plain (λ _. word)) yes,
+      goes-none-slice 𝓤 H A W 1 (0 ∷ []) tt (plain (λ _. wordType)) yes,
       (goes-none 𝓤 H A W 1 (λ _. usize) yes (λ κs x f. refl), (goes-none 𝓤 H A W 1 (λ _. usize) yes (λ κs x f. refl), tt)),
     )
     (settled.clauses 𝓤 H A mem run) (WpFn 𝓤 H (𝓣 .C) (𝓣 .Λ) code.function) (WpFn-mono 𝓤 H (W .laws) 𝓣 code.function)

@@ -5,7 +5,7 @@ use Prim.Native.Nat.{_-_}
 use native.Mathlib.Omega.{arith}
 use borrow.Author.Tests.{lt-ltb, le-ltb}
 use Rattle.sums.specs.Runs.{settledNumber, settledPart}
-use Rattle.sums.proofs.Running.{window}
+use Rattle.sums.proofs.LentRuns.{window}
 use Rattle.cic.proofs.runs.settled_part.Statement.{statement}
 use Rattle.cic.proofs.runs.settled_part.Tie as tie
 

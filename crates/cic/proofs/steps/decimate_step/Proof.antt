@@ -8,8 +8,8 @@ use Rattle.words.proofs.Reading.{read}
 use Rattle.sums.specs.State.{State}
 use Rattle.sums.proofs.Lent.{Combs}
 use Rattle.cic.specs.Word.{width, wordOps}
-use Rattle.cic.specs.Inner.Turns.{apart}
-use Rattle.sums.proofs.Turning.{fit, waits, gives}
+use Rattle.cic.specs.Inner.Apart.{apart}
+use Rattle.sums.proofs.LentSteps.{fit, waits, gives}
 use Rattle.cic.proofs.steps.decimate_step.Statement.{statement}
 use Rattle.cic.proofs.steps.decimate_step.Tie as tie
 

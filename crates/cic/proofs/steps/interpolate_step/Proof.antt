@@ -7,8 +7,8 @@ use mir.ValLaws.{toZ-ofZ}
 use Rattle.words.proofs.Reading.{read}
 use Rattle.sums.specs.State.{State}
 use Rattle.cic.specs.Word.{width, wordOps}
-use Rattle.cic.specs.Inner.Turns.{apart}
-use Rattle.sums.proofs.Turning.{fit, lifts, takes}
+use Rattle.cic.specs.Inner.Apart.{apart}
+use Rattle.sums.proofs.LentSteps.{fit, lifts, takes}
 use Rattle.cic.proofs.steps.interpolate_step.Statement.{statement}
 use Rattle.cic.proofs.steps.interpolate_step.Tie as tie
 

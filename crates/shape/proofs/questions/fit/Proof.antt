@@ -45,8 +45,7 @@ add-bits c =
     let most : c .shift .result ≤ 512 =
     rw (c .shift .ensures) (omega (
       arith,
-      mul-le-mul {n₁ = s .order} {n₂ = 8} (fine e1 .few)
-          (length-most 64 (suc (s .rate) * s .delay - 1)),
+      mul-le-mul {n₁ = s .order} {n₂ = 8} (fine e1 .few) (length-most 64 (suc (s .rate) * s .delay - 1)),
     )) in
     record { fits = omega (arith, most, start .fits .b .fits) }
 

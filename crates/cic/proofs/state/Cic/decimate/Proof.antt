@@ -6,7 +6,7 @@ use mir.ValLaws.{toZ-ofZ}
 use Rattle.sums.specs.State.{refusal}
 use Rattle.cic.specs.Word.{width}
 use Rattle.cic.specs.Reading.{stateOf}
-use Rattle.cic.proofs.Turning.{step-refuses, step-takes}
+use Rattle.cic.proofs.StepCalls.{step-refuses, step-takes}
 use Rattle.cic.proofs.state.Cic.decimate.Statement.{statement}
 use Rattle.cic.proofs.state.Cic.decimate.Tie as tie
 

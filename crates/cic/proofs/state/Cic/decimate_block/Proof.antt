@@ -9,8 +9,8 @@ use Rattle.sums.specs.Runs.{needed}
 use Rattle.shape.proofs.Blocks.{block-state, block-short, block-fits, block-refuses, block-runs}
 use Rattle.cic.specs.Word.{wordOps}
 use Rattle.cic.specs.Reading.{stateOf}
-use Rattle.cic.specs.Inner.Turns.{apart}
-use Rattle.cic.proofs.Blocks.{decimated}
+use Rattle.cic.specs.Inner.Apart.{apart}
+use Rattle.cic.proofs.BlockCalls.{decimated}
 use Rattle.cic.proofs.state.Cic.decimate_block.Statement.{statement}
 use Rattle.cic.proofs.state.Cic.decimate_block.Tie as tie
 

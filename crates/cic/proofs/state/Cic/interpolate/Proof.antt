@@ -8,8 +8,8 @@ use Rattle.cic.specs.Word.{width, wordOps}
 use Rattle.cic.specs.declared.steps.Sample.the-variants.{Given, Missing}
 use Rattle.cic.specs.Reading.{stateOf}
 use Rattle.cic.specs.Answers.{sampleOf}
-use Rattle.sums.proofs.Turning.{rise-state, not-due, is-due}
-use Rattle.cic.proofs.Turning.{rise-refuses, rise-takes}
+use Rattle.sums.proofs.LentSteps.{rise-state, not-due, is-due}
+use Rattle.cic.proofs.StepCalls.{rise-refuses, rise-takes}
 use Rattle.sums.proofs.Rising.{due-number, early-number, missing-number, held-number}
 use Rattle.cic.proofs.state.Cic.interpolate.Statement.{statement}
 use Rattle.cic.proofs.state.Cic.interpolate.Tie as tie
@@ -34,7 +34,7 @@ returns-3 : tie.Need-returns-3
 returns-3 c =
     let k = c .before in let e = k .before .before .before in let a = e .before .before .args in let s = stateOf (a .self) in
     let none-given : a .sample ≡ Missing = k .before .enum-told .given .1 in
-    rise-takes (a .self) (a .sample) (c .lifted .result) _ (c .lifted .ensures)
+    rise-takes (a .self) (a .sample) (c .interpolate-accepted .result) _ (c .interpolate-accepted .ensures)
     (rw none-given (not-due wordOps (s .countdown) _ (omega (arith, k .if2 .left))))
     (rw none-given (held-number s (accepted e) (omega (arith, k .if2 .left))))
 
@@ -52,7 +52,7 @@ returns-5 c =
     let x = k .sample .given .0 .0 in
     let given : a .sample ≡ Given x = k .sample .given .1 in
     let read-x : toZ width (ofZ width x) ≡ x = search needs in
-    rise-takes (a .self) (a .sample) (c .lifted2 .result) _ (rw read-x at (c .lifted2 .ensures))
+    rise-takes (a .self) (a .sample) (c .interpolate-accepted2 .result) _ (rw read-x at (c .interpolate-accepted2 .ensures))
     (rw given (is-due wordOps (s .countdown) x (h .if3 .left))) (rw given (due-number s (accepted e) x (omega (arith, h .if3 .left))))
 
 pub interpolate-spec : {M : Type 1} → statement M

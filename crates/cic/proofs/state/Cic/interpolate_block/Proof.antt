@@ -9,8 +9,8 @@ use Rattle.sums.specs.Runs.{needed}
 use Rattle.shape.proofs.Blocks.{fill-state, fill-short, fill-fits, fill-refuses, fill-runs}
 use Rattle.cic.specs.Word.{wordOps}
 use Rattle.cic.specs.Reading.{stateOf}
-use Rattle.cic.specs.Inner.Turns.{apart}
-use Rattle.cic.proofs.Blocks.{filled}
+use Rattle.cic.specs.Inner.Apart.{apart}
+use Rattle.cic.proofs.BlockCalls.{filled}
 use Rattle.cic.proofs.state.Cic.interpolate_block.Statement.{statement}
 use Rattle.cic.proofs.state.Cic.interpolate_block.Tie as tie
 

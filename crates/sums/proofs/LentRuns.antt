@@ -16,25 +16,25 @@ use Rattle.sums.proofs.Counts.{outputs-length}
 use Rattle.sums.proofs.Blocks.{Held, held-none, held-room, held-one, end-state, end-count, end-out}
 use Rattle.sums.proofs.Stretches.{ran, tops, jump-waits}
 use Rattle.sums.proofs.Fills.{Filling, filling-same, filling-turn, filled-state, filled-count, filled-out}
-use Rattle.sums.proofs.Lent.{Figures, Drives, Fills, Ring, ringed, Reaches, rested, Rests, Climbs, Feeds, Coasts}
+use Rattle.sums.proofs.Lent.{Figures, DecimateRun, InterpolateRun, Ring, ringed, DecimateStretch, rested, DecimateRest, IntegrateOutputs, InterpolateSample, InterpolateRest}
 
 -- a turn of the decimator's loop: a stretch
 module _ {A : Type 0} (o : Ops A) (n : ℕ) (xs out₀ out : List A) (s₀ s : State A) (k i : ℕ) (a : Held o xs out₀ out s₀ s k i)
-    (t : Figures A) (is ks : List A) (at : ℕ) (g : Option (Output A)) (j : ℕ) (r : Reaches o n xs s i t is ks at g j) where
-  pub drive-none : g ≡ none → Held o xs out₀ out s₀ (ringed t is ks at) k j
-  drive-none e = held-none o xs out₀ s₀ out s (ringed t is ks at) k i j g a (r .jump) e
+    (t : Figures A) (is ks : List A) (at : ℕ) (g : Option (Output A)) (j : ℕ) (r : DecimateStretch o n xs s i t is ks at g j) where
+  pub decimate-none : g ≡ none → Held o xs out₀ out s₀ (ringed t is ks at) k j
+  decimate-none e = held-none o xs out₀ s₀ out s (ringed t is ks at) k i j g a (r .jump) e
 
   module _ (y : A) (b : Bool) (e : g ≡ some (record { value = y; settled = b })) where
-    pub drive-room : k < length out
-    drive-room = held-room o xs out₀ s₀ out s (ringed t is ks at) k i j g a (r .jump) (record { value = y; settled = b }) e
+    pub decimate-room : k < length out
+    decimate-room = held-room o xs out₀ s₀ out s (ringed t is ks at) k i j g a (r .jump) (record { value = y; settled = b }) e
 
-    pub drive-one : (v : A) → v ≡ y → Held o xs out₀ (set out k v) s₀ (ringed t is ks at) (k + 1) j
-    drive-one v ev = held-one o xs out₀ s₀ out s (ringed t is ks at) k i j g a (r .jump) (record { value = y; settled = b }) e v ev
+    pub decimate-one : (v : A) → v ≡ y → Held o xs out₀ (set out k v) s₀ (ringed t is ks at) (k + 1) j
+    decimate-one v ev = held-one o xs out₀ s₀ out s (ringed t is ks at) k i j g a (r .jump) (record { value = y; settled = b }) e v ev
 
 -- the end of the decimator's loop: no output falls on the inputs from i on
 module _ {A : Type 0} (o : Ops A) (n : ℕ) (xs out₀ out : List A) (s₀ : State A) (f : Fit s₀) (s : Figures A) (is ks : List A) (at k i : ℕ)
     (a : Held o xs out₀ out s₀ (ringed s is ks at) k i) (g : Ring n at s ks) (q : length xs - i ≤ s .countdown)
-    (t : Figures A) (is' : List A) (r : Rests o n xs i s is t is') where
+    (t : Figures A) (is' : List A) (r : DecimateRest o n xs i s is t is') where
   over-all : Held o xs out₀ out s₀ (ringed t is' ks at) k (length xs)
   over-all =
       rw (r .numbers)
@@ -42,8 +42,8 @@ module _ {A : Type 0} (o : Ops A) (n : ℕ) (xs out₀ out : List A) (s₀ : Sta
       (jump-waits o xs i (ringed s is ks at) (a .fit) (a .within) q (s .countdown - (length xs - i)) refl (s .hold) refl is'
       (r .cells ∙ ap (λ m. ran o m (slice i (length xs) xs) is) (g .order))) refl)
 
-  pub drive-ends : Ring n at t ks × Drives o s₀ xs out₀ (ringed t is' ks at) k out
-  drive-ends = (
+  pub decimate-ends : Ring n at t ks × DecimateRun o s₀ xs out₀ (ringed t is' ks at) k out
+  decimate-ends = (
     rw (r .numbers) (record { order = g .order; few = g .few; short = g .short; inside = g .inside; long = g .long }),
     record {
       state = end-state o xs out₀ s₀ out (ringed t is' ks at) k (length xs) over-all (omega arith);
@@ -55,30 +55,30 @@ module _ {A : Type 0} (o : Ops A) (n : ℕ) (xs out₀ out : List A) (s₀ : Sta
 -- a turn of the interpolator's loop: the hold's outputs, then a sample
 module _ {A : Type 0} (o : Ops A) (n : ℕ) (xs out₀ out : List A) (s₀ : State A) (s : Figures A) (is ks : List A) (at k i : ℕ)
     (a : Filling o xs out₀ out s₀ (ringed s is ks at) k i) (g : Ring n at s ks) where
-  tops-of : (e : ℕ) (is' left : List A) → Climbs o n (s .hold) i e is out is' left
+  tops-of : (e : ℕ) (is' left : List A) → IntegrateOutputs o n (s .hold) i e is out is' left
       → left ≡ take i out ++ (tops o (s .order) (replicate (e - i) (s .hold)) is ++ drop e out)
   tops-of e is' left c = c .wrote ∙ ap (λ m. take i out ++ (tops o m (replicate (e - i) (s .hold)) is ++ drop e out)) (g .order)
 
-  cells-of : (e : ℕ) (is' left : List A) → Climbs o n (s .hold) i e is out is' left → is'
+  cells-of : (e : ℕ) (is' left : List A) → IntegrateOutputs o n (s .hold) i e is out is' left → is'
       ≡ ran o (s .order) (replicate (e - i) (s .hold)) is
   cells-of e is' left c = c .cells ∙ ap (λ m. ran o m (replicate (e - i) (s .hold)) is) (g .order)
 
-  pub raise-turn : s .countdown < length out₀ - i → (is' left : List A) → Climbs o n (s .hold) i (i + s .countdown) is out is' left
-      → (x : A) → x ≡ getD xs k (o .nil) → (t : Figures A) (ks' : List A) (next : ℕ) → Feeds o n at s ks x t ks' next
+  pub interpolate-turn : s .countdown < length out₀ - i → (is' left : List A) → IntegrateOutputs o n (s .hold) i (i + s .countdown) is out is' left
+      → (x : A) → x ≡ getD xs k (o .nil) → (t : Figures A) (ks' : List A) (next : ℕ) → InterpolateSample o n at s ks x t ks' next
       → Filling o xs out₀ left s₀ (ringed t is' ks' next) (k + 1) (i + s .countdown)
-  raise-turn h is' left c x ex t ks' next f =
+  interpolate-turn h is' left c x ex t ks' next f =
       filling-turn o xs out₀ s₀ out (ringed s is ks at) k i a h left (tops-of (i + s .countdown) is' left c) x ex is'
       (cells-of (i + s .countdown) is' left c)
       (ringed t is' ks' next) (f .state is')
 
   -- the end: the hold's outputs fill the slice
-  module _ (h : length out₀ - i ≤ s .countdown) (t : Figures A) (is' left : List A) (r : Coasts o n i s is out t is' left) where
-    pub raise-same : length left ≡ length out₀
-    raise-same = filling-same o xs out₀ s₀ out (ringed s is ks at) k i a (length out) (a .within) (omega arith) left
+  module _ (h : length out₀ - i ≤ s .countdown) (t : Figures A) (is' left : List A) (r : InterpolateRest o n i s is out t is' left) where
+    pub interpolate-same : length left ≡ length out₀
+    interpolate-same = filling-same o xs out₀ s₀ out (ringed s is ks at) k i a (length out) (a .within) (omega arith) left
         (tops-of (length out) is' left (r .climb))
 
-    pub raise-ends : Ring n at t ks × Fills o s₀ xs out₀ (ringed t is' ks at) k left
-    raise-ends = (
+    pub interpolate-ends : Ring n at t ks × InterpolateRun o s₀ xs out₀ (ringed t is' ks at) k left
+    interpolate-ends = (
       rw (r .numbers) (record { order = g .order; few = g .few; short = g .short; inside = g .inside; long = g .long }),
       record {
         state =

@@ -6,7 +6,7 @@ use lib.IntN.{ℤ}
 use borrow.Author.Tests.{ne-eqb}
 use Rattle.sums.specs.State.{State, refusal}
 use Rattle.sums.specs.Calls.{stepState, stepGiven, riseNumber, riseState}
-use Rattle.sums.proofs.Lent.{Turns, Rises}
+use Rattle.sums.proofs.Lent.{DecimateStep, InterpolateStep}
 use Rattle.cic.specs.Word.{wordOps}
 use Rattle.cic.specs.declared.steps.Gave.{Gave}
 use Rattle.cic.specs.declared.steps.Gave.the-variants.{Output, Nothing}
@@ -18,7 +18,7 @@ use Rattle.cic.specs.declared.state.Cic.{Cic}
 use Rattle.cic.specs.declared.questions.Interpolated.the-variants as Interpolated
 use Rattle.cic.specs.Reading.{stateOf, cicOf}
 use Rattle.cic.specs.Answers.{outOf, steppedOf, interpolatedOf, sampleOf, risenOf}
-use Rattle.cic.specs.Inner.Turns.{givenOf, markedOf, liftedOf}
+use Rattle.cic.specs.Inner.Apart.{givenOf, markedOf, acceptedOf}
 
 -- an output with its mark is the rule's
 marked-is : (g : Gave) → markedOf g ≡ outOf 0 (givenOf g)
@@ -34,15 +34,15 @@ module _ (s : Cic) (x : ℤ) where
   step-refuses zero e h = absurd (h refl)
   step-refuses (suc k) e h = rw (← e, ne-eqb (suc k) 0 h)
 
-  pub step-takes : refusal (stateOf s) ≡ 0 → (t : State ℤ) (g : Gave) → Turns wordOps (stateOf s) x t (givenOf g)
+  pub step-takes : refusal (stateOf s) ≡ 0 → (t : State ℤ) (g : Gave) → DecimateStep wordOps (stateOf s) x t (givenOf g)
       → _≡_ {A = Stepped} (record { state = cicOf t; out = markedOf g }) (steppedOf s x)
   step-takes z t g r =
       let out : markedOf g ≡ outOf 0 (stepGiven wordOps (stateOf s) x) = marked-is g ∙ ap (outOf 0) (r .gives) in rw (r .state, z, out)
 
 -- the interpolator's call
-pub lift-takes : (s : Cic) (x : Option ℤ) (t : State ℤ) (y : ℤ) → Rises wordOps (stateOf s) x t y
-    → _≡_ {A = Risen} (record { state = cicOf t; out = Interpolated.Value y }) (liftedOf s x)
-lift-takes s x t y r = rw (r .state, r .gives)
+pub accepted-takes : (s : Cic) (x : Option ℤ) (t : State ℤ) (y : ℤ) → InterpolateStep wordOps (stateOf s) x t y
+    → _≡_ {A = Risen} (record { state = cicOf t; out = Interpolated.Value y }) (acceptedOf s x)
+accepted-takes s x t y r = rw (r .state, r .gives)
 
 module _ (s : Cic) (x : Sample) where
   pub rise-refuses : (k : ℕ) → k ≡ riseNumber (stateOf s) (sampleOf x) → (k ≡ 0 → ⊥)
@@ -51,7 +51,7 @@ module _ (s : Cic) (x : Sample) where
   rise-refuses zero e h = absurd (h refl)
   rise-refuses (suc k) e h = rw (← e, ne-eqb (suc k) 0 h)
 
-  pub rise-takes : (r : Risen) (z : Option ℤ) → r ≡ liftedOf s z → z ≡ sampleOf x → riseNumber (stateOf s) (sampleOf x) ≡ 0 → r
+  pub rise-takes : (r : Risen) (z : Option ℤ) → r ≡ acceptedOf s z → z ≡ sampleOf x → riseNumber (stateOf s) (sampleOf x) ≡ 0 → r
       ≡ risenOf s x
   unfolding interpolatedOf
   rise-takes r z er ez e = er ∙ rw (ez, e)

@@ -11,7 +11,7 @@ use Rattle.sums.specs.State.{State, refusal}
 use Rattle.sums.specs.Calls.{riseNumber}
 use Rattle.sums.specs.Runs.{dueSample}
 use Rattle.sums.proofs.Steps.{Fit, fitted, accepted, packed, turn-waits, turn-gives, rise-on, rise-due}
-use Rattle.sums.proofs.Lent.{Integrates, Combs, Ready, Turns, Rises}
+use Rattle.sums.proofs.Lent.{Integrates, Combs, Ready, DecimateStep, InterpolateStep}
 
 pub fit : {A : Type 0} (s : State A) → Ready s → Fit s
 fit s r = fitted s (r .accepted) (r .long8) (r .long64)
@@ -23,11 +23,11 @@ ready s f = record { accepted = accepted s f; long8 = f .long8; long64 = f .long
 module _ {A : Type 0} (o : Ops A) (s : State A) (r : Ready s) (x : A) (is : List A) (v : A)
     (run : Integrates o (s .order) (s .integrators) x is v) where
   pub waits : 0 < s .countdown → (h : A) → h ≡ s .hold
-      → Turns o s x (packed (s .order) (s .delay) (s .rate) (s .countdown - 1) (s .unsettled) h is (s .combs)) none
+      → DecimateStep o s x (packed (s .order) (s .delay) (s .rate) (s .countdown - 1) (s .unsettled) h is (s .combs)) none
   waits c h eh = let t = turn-waits o s (fit s r) x is (run .cells) c h eh in record { state = t .state; gives = t .out }
 
   pub gives : s .countdown ≤ 0 → (y : A) (u : ℕ) (ks : List A) → Combs o (s .order) (s .delay) (s .combs) v ks y → u ≡ s .unsettled - 1
-      → Turns o s x (packed (s .order) (s .delay) (s .rate) (s .rate) u y is ks)
+      → DecimateStep o s x (packed (s .order) (s .delay) (s .rate) (s .rate) u y is ks)
       (some (record { value = y; settled = eqb (s .unsettled) 0 }))
   gives c y u ks runs eu =
       let t = turn-gives o s (fit s r) x is (run .cells) (omega arith) v y u ks (run .last) (runs .last) (runs .cells) eu in
@@ -45,7 +45,7 @@ is-due o (suc c) x h = absurd (omega arith)
 -- the interpolator's two ways
 module _ {A : Type 0} (o : Ops A) (s : State A) (r : Ready s) (x : A) where
   pub lifts : 0 < s .countdown → (h y : A) (is : List A) → h ≡ s .hold → Integrates o (s .order) (s .integrators) h is y
-      → Rises o s (dueSample o (s .countdown) (x ∷ []))
+      → InterpolateStep o s (dueSample o (s .countdown) (x ∷ []))
       (packed (s .order) (s .delay) (s .rate) (s .countdown - 1) (s .unsettled) h is (s .combs)) y
   lifts c h y is eh run =
       let t = rise-on o s (fit s r) c h y is eh (run .cells) (run .last) in
@@ -53,7 +53,7 @@ module _ {A : Type 0} (o : Ops A) (s : State A) (r : Ready s) (x : A) where
 
   pub takes : s .countdown ≤ 0 → (h y : A) (is ks : List A) → Combs o (s .order) (s .delay) (s .combs) x ks h
       → Integrates o (s .order) (s .integrators) h is y
-      → Rises o s (dueSample o (s .countdown) (x ∷ [])) (packed (s .order) (s .delay) (s .rate) (s .rate) (s .unsettled) h is ks) y
+      → InterpolateStep o s (dueSample o (s .countdown) (x ∷ [])) (packed (s .order) (s .delay) (s .rate) (s .rate) (s .unsettled) h is ks) y
   takes c h y is ks runs run =
       let t = rise-due o s (fit s r) (omega arith) x h y is ks (runs .last) (runs .cells) (run .cells) (run .last) in
       rw (is-due o (s .countdown) x c) (record { state = t .state; gives = t .out })

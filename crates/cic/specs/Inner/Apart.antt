@@ -56,8 +56,8 @@ markedOf (Gave.Output y unsettled) = Out.Given (record { value = y; settled = eq
 markedOf Gave.Nothing = Out.Nothing
 
 -- The interpolator's step of an accepted `Cic`, as its call answers it.
-abbrev pub liftedOf : Cic → Option ℤ → Risen
-liftedOf s x = record {
+abbrev pub acceptedOf : Cic → Option ℤ → Risen
+acceptedOf s x = record {
   state = cicOf (riseState wordOps (stateOf s) x);
   out = Interpolated.Value (riseGiven wordOps (stateOf s) x);
 }

@@ -5,9 +5,9 @@ use lib.ListN.{length}
 use mir.Val.{toZ, ofZ}
 use mir.ValLaws.{toZ-ofZ}
 use Rattle.cic.specs.Word.{width}
-use Rattle.cic.proofs.Turning.{lift-takes}
-use Rattle.cic.proofs.state.Cic.lifted.Statement.{statement}
-use Rattle.cic.proofs.state.Cic.lifted.Tie as tie
+use Rattle.cic.proofs.StepCalls.{accepted-takes}
+use Rattle.cic.proofs.state.Cic.interpolate_accepted.Statement.{statement}
+use Rattle.cic.proofs.state.Cic.interpolate_accepted.Tie as tie
 
 long8 : (p : tie.Start) → length (p .args .self .integrators) ≡ 8
 long8 p = search needs
@@ -31,9 +31,9 @@ returns c =
     let d = c .before .before .before in let n = d .before in let p = begin n in let t = d .interpolate-step in
     let gives : toZ width (ofZ width (t .result .value)) ≡ t .result .value = gave d in
     rw (c .before .joined .ensures, gives)
-    (lift-takes (p .args .self) _ _ (t .result .value)
+    (accepted-takes (p .args .self) _ _ (t .result .value)
     (rw (n .numbers .ensures, toZ-ofZ width (p .args .x) (p .fits .x)) at (t .ensures)))
 
-pub lifted-spec : {M : Type 1} → statement M
-lifted-spec =
+pub interpolate-accepted-spec : {M : Type 1} → statement M
+interpolate-accepted-spec =
     tie.close (tie.spec (λ c κs. search needs) interpolate-step-requires (λ c κs. search needs) returns)

@@ -12,8 +12,8 @@ use Rattle.sums.specs.Ops.{Ops}
 use Rattle.sums.proofs.Loops.{partCells, partComb}
 use Rattle.sums.proofs.Stretches.{ran, lastOf, jump-gives}
 use Rattle.sums.proofs.Rings.{turned, turned-next, stores-length, ring-last, ring-cells}
-use Rattle.sums.proofs.Lent.{Figures, Ready, Stores, Follows, Ring, ringed, Reaches, Feeds}
-use Rattle.sums.proofs.Turning.{fit}
+use Rattle.sums.proofs.Lent.{Figures, Ready, Stores, Follows, Ring, ringed, DecimateStretch, InterpolateSample}
+use Rattle.sums.proofs.LentSteps.{fit}
 
 -- the combs of a state, one step in their rings
 module _ {A : Type 0} (o : Ops A) (n at : ℕ) (s : Figures A) (ks : List A) (r : Ring n at s ks) (v y : A) (next : ℕ) (a : List A)
@@ -45,7 +45,7 @@ module _ {A : Type 0} (o : Ops A) (n at : ℕ) (s : Figures A) (is ks : List A) 
   pub reaches : (is' ks' : List A) (x v y : A) (u next : ℕ) → is' ≡ ran o n (slice i (i + s .countdown + 1) xs) is
       → x ≡ getD xs (i + s .countdown) (o .nil) → v ≡ lastOf o n x is' → Stores o n at ks v ks' y → u ≡ s .unsettled - 1
       → Follows at (s .delay) next
-      → Reaches o n xs (ringed s is ks at) i (gave s u y) is' ks' next (some (record { value = y; settled = eqb (s .unsettled) 0 }))
+      → DecimateStretch o n xs (ringed s is ks at) i (gave s u y) is' ks' next (some (record { value = y; settled = eqb (s .unsettled) 0 }))
       (i + s .countdown + 1)
   reaches is' ks' x v y u next ei ex ev st eu f = record {
     ring =
@@ -63,24 +63,9 @@ took s y = record { order = s .order; delay = s .delay; rate = s .rate; countdow
 
 pub feeds : {A : Type 0} (o : Ops A) (n at : ℕ) (s : Figures A) (ks : List A) → Ring n at s ks → (x y : A) (next : ℕ) (a : List A)
     → Stores o n at ks x a y → Follows at (s .delay) next
-    → Feeds o n at s ks x (took s y) a next
+    → InterpolateSample o n at s ks x (took s y) a next
 feeds o n at s ks r x y next a st f = record {
   ring = record { order = r .order; few = r .few; short = r .short; inside = f .inside; long = ring-long o n at s ks r x y next a st f };
   same = refl;
   state = λ is. rw (add-one (s .rate), ring-leaves o n at s ks r x y next a st f, ring-gives o n at s ks r x y next a st f);
 }
-
--- the last of nine orders: a match has ruled out the others
-abbrev Others : ℕ → Type 0
-Others n =
-    (((((((Unit {0} × (n ≡ 0 → ⊥)) × (n ≡ 1 → ⊥)) × (n ≡ 2 → ⊥)) × (n ≡ 3 → ⊥)) × (n ≡ 4 → ⊥)) × (n ≡ 5 → ⊥)) × (n ≡ 6 → ⊥)) × (n ≡ 7 → ⊥)
-
-low : (n : ℕ) → (n ≡ 0 → ⊥) → (n ≡ 1 → ⊥) → (n ≡ 2 → ⊥) → (n ≡ 3 → ⊥) → 4 ≤ n
-low n a b c d = omega arith
-
-high : (n : ℕ) → n ≤ 8 → 4 ≤ n → (n ≡ 4 → ⊥) → (n ≡ 5 → ⊥) → (n ≡ 6 → ⊥) → (n ≡ 7 → ⊥) → 8 ≡ n
-high n h l a b c d = omega arith
-
-pub eighth : (n : ℕ) → n ≤ 8 → Others n → 8 ≡ n
-eighth n h r = high n h (low n (r .0 .0 .0 .0 .0 .0 .0 .1) (r .0 .0 .0 .0 .0 .0 .1) (r .0 .0 .0 .0 .0 .1) (r .0 .0 .0 .0 .1))
-    (r .0 .0 .0 .1) (r .0 .0 .1) (r .0 .1) (r .1)
