@@ -34,24 +34,25 @@ unfoldable pub riseNumber : {A : Type 0} → State A → Option A → ℕ
 riseNumber s (some x) = unless (refusal s) (refusal s) (cond (eqb (s .countdown) 0) 0 21)
 riseNumber s none = unless (refusal s) (refusal s) (cond (eqb (s .countdown) 0) 22 0)
 
+-- A state as resume makes it: order, delay, rate, all cells, hold and countdown as given; the unsettled count becomes N · M.
+abbrev pub resumed : {A : Type 0} → ℕ → ℕ → ℕ → List A → List A → A → ℕ → State A
+resumed order delay rate integrators combs hold countdown = record {
+  order = order;
+  delay = delay;
+  rate = rate;
+  countdown = countdown;
+  unsettled = order * delay;
+  hold = hold;
+  integrators = integrators;
+  combs = combs;
+}
+
 module _ {A : Type 0} (o : Ops A) where
   -- new: a new state has countdown 0 and unsettled count 0.
   unfoldable pub newState : ℕ → ℕ → ℕ → State A
   newState order delay rate = unless (newNumber order delay rate) (blank o) (zeroed o order delay rate)
 
-  -- resume: order, delay, rate, all cells, hold and countdown as given; the unsettled count becomes N · M.
-  abbrev pub resumed : ℕ → ℕ → ℕ → List A → List A → A → ℕ → State A
-  resumed order delay rate integrators combs hold countdown = record {
-    order = order;
-    delay = delay;
-    rate = rate;
-    countdown = countdown;
-    unsettled = order * delay;
-    hold = hold;
-    integrators = integrators;
-    combs = combs;
-  }
-
+  -- resume.
   unfoldable pub resumeState : ℕ → ℕ → ℕ → List A → List A → A → ℕ → State A
   resumeState order delay rate integrators combs hold countdown =
       unless (resumeNumber order delay rate countdown) (blank o) (resumed order delay rate integrators combs hold countdown)

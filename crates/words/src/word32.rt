@@ -1,4 +1,5 @@
-// The words of 32 bits under names that every width shares: sums, differences and products modulo 2^BITS, read as signed.
+// The words of 32 bits under names that every width shares: sums, differences and products modulo 2^BITS,
+// read as signed.
 use crate::signed::add_i32;
 use crate::signed::mul_i32;
 use crate::signed::sub_i32;

@@ -1,4 +1,5 @@
-// The words of 64 bits under names that every width shares: sums, differences and products modulo 2^BITS, read as signed.
+// The words of 64 bits under names that every width shares: sums, differences and products modulo 2^BITS,
+// read as signed.
 use crate::signed::add_i64;
 use crate::signed::mul_i64;
 use crate::signed::sub_i64;
