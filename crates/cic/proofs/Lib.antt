@@ -1,9 +1,4 @@
 pub mod Ways
-pub mod Numbers
-pub mod Lines
-pub mod Turning
-pub mod Striding
-pub mod Running
-pub mod Blocks
-pub mod Levels
+pub mod StepCalls
+pub mod BlockCalls
 pub mod InTurn

@@ -1,5 +1,4 @@
 -- What a caller gets who calls `decimate` on inputs in turn, by its promise.
-use mathlib.Core.Bool.{cond}
 use mathlib.Core.List.{List, [], _∷_, _++_}
 use lib.IntN.{ℤ}
 use Rattle.sums.specs.Machine.{Output}
@@ -15,16 +14,11 @@ inTurn s (x ∷ xs) = inTurn (steppedOf s x .state) xs
 
 -- one call's output, if any,
 abbrev pub outputOf : Out → List (Output ℤ)
-outputOf (Given y settled) = record { value = y; settled = settled } ∷ []
+outputOf (Given y) = record { value = y .value; settled = y .settled } ∷ []
 outputOf Nothing = []
 outputOf (Refused k) = []
 
--- the outputs with their marks,
-unfoldable pub given : Cic → List ℤ → List (Output ℤ)
-given s [] = []
-given s (x ∷ xs) = outputOf (steppedOf s x .out) ++ given (steppedOf s x .state) xs
-
--- and those that are marked settled.
-unfoldable pub marked : List (Output ℤ) → List (Output ℤ)
-marked [] = []
-marked (y ∷ l) = cond (y .settled) (y ∷ marked l) (marked l)
+-- and the outputs with their marks.
+unfoldable pub outputsInTurn : Cic → List ℤ → List (Output ℤ)
+outputsInTurn s [] = []
+outputsInTurn s (x ∷ xs) = outputOf (steppedOf s x .out) ++ outputsInTurn (steppedOf s x .state) xs

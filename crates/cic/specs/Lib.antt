@@ -1,6 +1,7 @@
+-- Word, Reading and Answers are what the promises of public functions cite; InTurn says what steps in turn give.
+-- Inner serves private functions alone: whoever reads the promises needs none of it.
+pub mod Word
 pub mod Reading
 pub mod Answers
-pub mod Cascade
-pub mod Turns
-pub mod Stretches
 pub mod InTurn
+pub mod Inner

@@ -1,14 +1,7 @@
 -- A `Cic` read as the rules' state, and back: field by field.
 use lib.IntN.{ℤ}
-use mir.Syntax.{w32}
-use Rattle.sums.specs.Ops.{Ops}
-use Rattle.sums.specs.Signed.{signedOps}
 use Rattle.sums.specs.State.{State}
 use Rattle.cic.specs.declared.state.Cic.{Cic}
-
--- 01: all sums are modulo 2 ^ 32, read as i32.
-abbrev pub i32Ops : Ops ℤ
-i32Ops = signedOps w32
 
 abbrev pub stateOf : Cic → State ℤ
 stateOf s = record {

@@ -1,21 +1,23 @@
 // The cascade's two halves on lent arrays: N integrators, and N combs over their delay lines.
-use words::signed::add_i32;
-use words::signed::sub_i32;
+use crate::word::Word;
+use crate::word::add;
+use crate::word::sub;
 ghost use mathlib.Core.Path.{_≡_};
 ghost use Prim.Native.Nat.{_+_, _≤_};
 ghost use lib.ListN.{length};
-ghost use Rattle.cic.specs.Cascade.{Integrates, Pushes, Combs};
+ghost use Rattle.sums.proofs.Lent.{Integrates, Pushes, Combs};
+ghost use Rattle.cic.specs.Word.{wordOps};
 
 // The first n integrators run in order from x, each adding its predecessor's new value. Gives the last one's;
 // other cells stay.
-pub(crate) fn integrate(cells: &mut [i32; 8], n: usize, x: i32) -> i32
+pub(crate) fn integrate(cells: &mut [Word; 8], n: usize, x: Word) -> Word
     requires { ⌜ (n ≤ 8) × (length (now cells) ≡ 8) ⌝ }
-    ensures { λ r. ⌜ Integrates n (now (cells .entry)) x (now (cells .exit)) r ⌝ }
+    ensures { λ r. ⌜ Integrates wordOps n (now (cells .entry)) x (now (cells .exit)) r ⌝ }
 {
     let mut acc = x;
     let mut i: usize = 0;
     while i < n {
-        acc = add_i32(cells[i], acc);
+        acc = add(cells[i], acc);
         cells[i] = acc;
         i += 1;
     }
@@ -24,9 +26,9 @@ pub(crate) fn integrate(cells: &mut [i32; 8], n: usize, x: i32) -> i32
 
 // The comb whose line of m cells starts at base: it gives x less its oldest cell, drops that and stores x
 // last. Other cells stay.
-pub(crate) fn comb(cells: &mut [i32; 64], base: usize, m: usize, x: i32) -> i32
+pub(crate) fn comb(cells: &mut [Word; 64], base: usize, m: usize, x: Word) -> Word
     requires { ⌜ (1 ≤ m) × (base + m ≤ 64) × (length (now cells) ≡ 64) ⌝ }
-    ensures { λ r. ⌜ Pushes base m (now (cells .entry)) x (now (cells .exit)) r ⌝ }
+    ensures { λ r. ⌜ Pushes wordOps base m (now (cells .entry)) x (now (cells .exit)) r ⌝ }
 {
     let last = m - 1;
     let end = base + last;
@@ -39,14 +41,14 @@ pub(crate) fn comb(cells: &mut [i32; 64], base: usize, m: usize, x: i32) -> i32
         i += 1;
     }
     cells[end] = x;
-    sub_i32(x, oldest)
+    sub(x, oldest)
 }
 
 // The first n combs, of m cells each, run in order from x. Gives what the last gives; cells beyond n and m
 // stay.
-pub(crate) fn difference(cells: &mut [i32; 64], n: usize, m: usize, x: i32) -> i32
+pub(crate) fn difference(cells: &mut [Word; 64], n: usize, m: usize, x: Word) -> Word
     requires { ⌜ (n ≤ 8) × (1 ≤ m) × (m ≤ 8) × (length (now cells) ≡ 64) ⌝ }
-    ensures { λ r. ⌜ Combs n m (now (cells .entry)) x (now (cells .exit)) r ⌝ }
+    ensures { λ r. ⌜ Combs wordOps n m (now (cells .entry)) x (now (cells .exit)) r ⌝ }
 {
     let mut acc = x;
     let mut j: usize = 0;

@@ -1,64 +1,81 @@
 // The interpolator's block on lent arrays, from sample to sample: all outputs of a hold at a time.
 use crate::steps::Numbers;
-use crate::stretches::Ran;
-use crate::stretches::Strode;
-use crate::stretches::climb;
-use crate::stretches::following;
-use crate::stretches::ring;
+use crate::stretches::BlockEnd;
+use crate::stretches::RingEnd;
+use crate::stretches::difference_ring;
+use crate::stretches::integrate_outputs;
 use crate::stretches::unroll;
+use crate::word::Word;
+use shape::numbers::following;
 ghost use mathlib.Core.Path.{_≡_};
 ghost use Prim.Native.Nat.{_-_, _≤_};
 ghost use lib.ListN.{length};
 ghost use Rattle.sums.specs.Runs.{needed};
-ghost use Rattle.cic.specs.Turns.{apart, Ready, Fills};
-ghost use Rattle.cic.specs.Stretches.{Ring, ringed, Feeds, Coasts};
+ghost use Rattle.sums.proofs.Lent.{Ready, Ring, InterpolateSample, InterpolateRest, InterpolateRun};
+ghost use Rattle.cic.specs.Word.{wordOps};
+ghost use Rattle.cic.specs.Inner.Apart.{figuresOf, apart, ringed};
 
 // After a sample: the numbers, and the place of the oldest cells.
-pub(crate) struct Fed {
+pub(crate) struct SampleEnd {
     pub numbers: Numbers,
     pub at: usize,
 }
 
 // The sample x goes through the combs into the hold, which then stands for R outputs: the countdown says so.
-fn feed(combs: &mut [i32; 64], n: usize, first: Numbers, at: usize, x: i32) -> Fed
-    requires { ⌜ Ring n at first (now combs) × (first .rate ≤ 65535) ⌝ }
-    ensures { λ r. ⌜ Feeds n at first (now (combs .entry)) x (r .numbers) (now (combs .exit)) (r .at) ⌝ }
+fn interpolate_sample(
+    combs: &mut [Word; 64],
+    n: usize,
+    first: Numbers,
+    at: usize,
+    x: Word,
+) -> SampleEnd
+    requires { ⌜ Ring n at (figuresOf first) (now combs) × (first .rate ≤ 65535) ⌝ }
+    ensures { λ r. ⌜ InterpolateSample wordOps n at (figuresOf first) (now (combs .entry)) x (figuresOf (r .numbers)) (now (combs .exit)) (r .at) ⌝ }
 {
     let mut numbers = first;
-    let y = ring(combs, n, at, x);
+    let y = difference_ring(combs, n, at, x);
     numbers.countdown = first.rate + 1;
     numbers.hold = y;
-    Fed {
+    SampleEnd {
         numbers,
         at: following(at, first.delay),
     }
 }
 
 // The outputs from i on, which end before the next sample is due.
-fn coast(integrators: &mut [i32; 8], n: usize, first: Numbers, out: &mut [i32], i: usize) -> Numbers
+fn interpolate_rest(
+    integrators: &mut [Word; 8],
+    n: usize,
+    first: Numbers,
+    out: &mut [Word],
+    i: usize,
+) -> Numbers
     requires { ⌜ (n ≤ 8) × (i ≤ length (now out)) × (length (now out) - i ≤ first .countdown) × (length (now integrators) ≡ 8) ⌝ }
-    ensures { λ r. ⌜ Coasts n i first (now (integrators .entry)) (now (out .entry)) r (now (integrators .exit)) (now (out .exit)) ⌝ }
+    ensures { λ r. ⌜ InterpolateRest wordOps n i (figuresOf first) (now (integrators .entry)) (now (out .entry)) (figuresOf r)
+        (now (integrators .exit)) (now (out .exit)) ⌝ }
 {
     let mut numbers = first;
     let end = out.len();
-    climb(integrators, n, first.hold, out, i, end);
+    integrate_outputs(integrators, n, first.hold, out, i, end);
     let left = end - i;
     numbers.countdown = first.countdown - left as u32;
     numbers
 }
 
 // The steps of an interpolator's block, from sample to sample, with the delay lines as rings. n is the order, as
-// in stride.
-fn ramp(
-    integrators: &mut [i32; 8],
-    combs: &mut [i32; 64],
+// in decimate_stretches.
+fn interpolate_stretches(
+    integrators: &mut [Word; 8],
+    combs: &mut [Word; 64],
     n: usize,
     first: Numbers,
-    input: &[i32],
-    out: &mut [i32],
-) -> Strode
-    requires { ⌜ (n ≡ first .order) × Ready (apart first (now integrators) (now combs)) × (needed (length (now out)) (first .countdown) (first .rate) ≤ length (now input)) ⌝ }
-    ensures { λ r. ⌜ Ring n (r .at) (r .numbers) (now (combs .exit)) × Fills (apart first (now (integrators .entry)) (now (combs .entry))) (now (input .entry)) (now (out .entry))
+    input: &[Word],
+    out: &mut [Word],
+) -> RingEnd
+    requires { ⌜ (n ≡ first .order) × Ready (apart first (now integrators) (now combs))
+        × (needed (length (now out)) (first .countdown) (first .rate) ≤ length (now input)) ⌝ }
+    ensures { λ r. ⌜ Ring n (r .at) (figuresOf (r .numbers)) (now (combs .exit))
+        × InterpolateRun wordOps (apart first (now (integrators .entry)) (now (combs .entry))) (now (input .entry)) (now (out .entry))
         (ringed (r .numbers) (now (integrators .exit)) (now (combs .exit)) (r .at)) (r .count) (now (out .exit)) ⌝ }
 {
     let mut numbers = first;
@@ -67,17 +84,17 @@ fn ramp(
     let mut i: usize = 0;
     while (numbers.countdown as usize) < out.len() - i {
         let end = i + numbers.countdown as usize;
-        climb(integrators, n, numbers.hold, out, i, end);
+        integrate_outputs(integrators, n, numbers.hold, out, i, end);
         let x = input[k];
-        let f = feed(combs, n, numbers, at, x);
+        let f = interpolate_sample(combs, n, numbers, at, x);
         let next = f.numbers;
         numbers = next;
         at = f.at;
         k += 1;
         i = end;
     }
-    let numbers = coast(integrators, n, numbers, out, i);
-    Strode {
+    let numbers = interpolate_rest(integrators, n, numbers, out, i);
+    RingEnd {
         numbers,
         at,
         count: k,
@@ -85,49 +102,53 @@ fn ramp(
 }
 
 // The same, once for each order.
-fn ramps(
-    integrators: &mut [i32; 8],
-    combs: &mut [i32; 64],
+fn interpolate_by_order(
+    integrators: &mut [Word; 8],
+    combs: &mut [Word; 64],
     first: Numbers,
-    input: &[i32],
-    out: &mut [i32],
-) -> Strode
-    requires { ⌜ Ready (apart first (now integrators) (now combs)) × (needed (length (now out)) (first .countdown) (first .rate) ≤ length (now input)) ⌝ }
-    ensures { λ r. ⌜ Ring (first .order) (r .at) (r .numbers) (now (combs .exit)) × Fills (apart first (now (integrators .entry)) (now (combs .entry))) (now (input .entry)) (now (out .entry))
+    input: &[Word],
+    out: &mut [Word],
+) -> RingEnd
+    requires { ⌜ Ready (apart first (now integrators) (now combs))
+        × (needed (length (now out)) (first .countdown) (first .rate) ≤ length (now input)) ⌝ }
+    ensures { λ r. ⌜ Ring (first .order) (r .at) (figuresOf (r .numbers)) (now (combs .exit))
+        × InterpolateRun wordOps (apart first (now (integrators .entry)) (now (combs .entry))) (now (input .entry)) (now (out .entry))
         (ringed (r .numbers) (now (integrators .exit)) (now (combs .exit)) (r .at)) (r .count) (now (out .exit)) ⌝ }
 {
     let n = first.order;
     match n {
-        0 => ramp(integrators, combs, 0, first, input, out),
-        1 => ramp(integrators, combs, 1, first, input, out),
-        2 => ramp(integrators, combs, 2, first, input, out),
-        3 => ramp(integrators, combs, 3, first, input, out),
-        4 => ramp(integrators, combs, 4, first, input, out),
-        5 => ramp(integrators, combs, 5, first, input, out),
-        6 => ramp(integrators, combs, 6, first, input, out),
-        7 => ramp(integrators, combs, 7, first, input, out),
-        _ => ramp(integrators, combs, 8, first, input, out),
+        0 => interpolate_stretches(integrators, combs, n, first, input, out),
+        1 => interpolate_stretches(integrators, combs, n, first, input, out),
+        2 => interpolate_stretches(integrators, combs, n, first, input, out),
+        3 => interpolate_stretches(integrators, combs, n, first, input, out),
+        4 => interpolate_stretches(integrators, combs, n, first, input, out),
+        5 => interpolate_stretches(integrators, combs, n, first, input, out),
+        6 => interpolate_stretches(integrators, combs, n, first, input, out),
+        7 => interpolate_stretches(integrators, combs, n, first, input, out),
+        8 => interpolate_stretches(integrators, combs, n, first, input, out),
+        _ => interpolate_stretches(integrators, combs, n, first, input, out),
     }
 }
 
 // The steps of an interpolator's block in turn, on an accepted state whose arrays are lent. Every element of
 // out is written.
-pub(crate) fn raise(
-    integrators: &mut [i32; 8],
-    combs: &mut [i32; 64],
+pub(crate) fn interpolate_run(
+    integrators: &mut [Word; 8],
+    combs: &mut [Word; 64],
     first: Numbers,
-    input: &[i32],
-    out: &mut [i32],
-) -> Ran
-    requires { ⌜ Ready (apart first (now integrators) (now combs)) × (needed (length (now out)) (first .countdown) (first .rate) ≤ length (now input)) ⌝ }
-    ensures { λ r. ⌜ Fills (apart first (now (integrators .entry)) (now (combs .entry))) (now (input .entry)) (now (out .entry))
+    input: &[Word],
+    out: &mut [Word],
+) -> BlockEnd
+    requires { ⌜ Ready (apart first (now integrators) (now combs))
+        × (needed (length (now out)) (first .countdown) (first .rate) ≤ length (now input)) ⌝ }
+    ensures { λ r. ⌜ InterpolateRun wordOps (apart first (now (integrators .entry)) (now (combs .entry))) (now (input .entry)) (now (out .entry))
         (apart (r .numbers) (now (integrators .exit)) (now (combs .exit))) (r .count) (now (out .exit)) ⌝ }
 {
-    let rose = ramps(integrators, combs, first, input, out);
-    let numbers = rose.numbers;
-    unroll(combs, numbers.order, numbers.delay, rose.at);
-    Ran {
+    let r = interpolate_by_order(integrators, combs, first, input, out);
+    let numbers = r.numbers;
+    unroll(combs, numbers.order, numbers.delay, r.at);
+    BlockEnd {
         numbers,
-        count: rose.count,
+        count: r.count,
     }
 }

@@ -1,25 +1,27 @@
 // The state of a decimator or interpolator, the calls that make one or put it in order, and its fields.
+use crate::word::Word;
 use blocks::Verdict;
+use shape::numbers::greater;
+use shape::numbers::refusal_of;
 ghost use mathlib.Core.Path.{_≡_};
-ghost use Prim.Native.Nat.{max};
 ghost use lib.Dec.{eqb};
-ghost use Rattle.sums.specs.State.{refusalOf, refusal, zeroed, blank};
+ghost use Rattle.sums.specs.State.{refusal, zeroed, blank};
 ghost use Rattle.sums.specs.Calls.{newNumber, resumeNumber, rateNumber, newState, resumeState, rateState, clearState};
-ghost use Rattle.cic.specs.Reading.{i32Ops, stateOf, cicOf};
+ghost use Rattle.cic.specs.Word.{wordOps};
+ghost use Rattle.cic.specs.Reading.{stateOf, cicOf};
 ghost use Rattle.cic.specs.Answers.{madeOf};
 
 // N = order integrators, N delay lines of M = delay cells, line j at 8 j .. 8 j + M of combs, the oldest cell
-// first. Rate is R - 1. Outputs are unsettled while `unsettled` is above 0. Cells beyond N and M never
-// matter.
+// first. Rate is R - 1. Outputs are unsettled while `unsettled` is above 0. Cells beyond N and M never matter.
 pub struct Cic {
     pub order: usize,
     pub delay: usize,
     pub rate: u32,
     pub countdown: u32,
     pub unsettled: usize,
-    pub hold: i32,
-    pub integrators: [i32; 8],
-    pub combs: [i32; 64],
+    pub hold: Word,
+    pub integrators: [Word; 8],
+    pub combs: [Word; 64],
 }
 
 // A state, and whether the call that gives it was done.
@@ -28,43 +30,12 @@ pub struct Made {
     pub verdict: Verdict,
 }
 
-// The number of the first test that fails, or 0 (01, refusal numbers 10 to 13 and 15).
-pub(crate) fn refusal_of(
-    order: usize,
-    delay: usize,
-    rate: u32,
-    countdown: u32,
-    unsettled: usize,
-) -> u32
-    ensures { λ r. ⌜ r ≡ refusalOf order delay rate countdown unsettled ⌝ }
-{
-    if 8 < order {
-        return 10;
-    }
-    if delay == 0 {
-        return 11;
-    }
-    if 8 < delay {
-        return 11;
-    }
-    if 65535 < rate {
-        return 12;
-    }
-    if 65535 < countdown {
-        return 13;
-    }
-    if order * delay < unsettled {
-        return 15;
-    }
-    0
-}
-
 // All cells, hold, countdown and unsettled count zero.
 pub(crate) fn zeros(order: usize, delay: usize, rate: u32) -> Cic
-    ensures { λ r. ⌜ r ≡ cicOf (zeroed i32Ops order delay rate) ⌝ }
+    ensures { λ r. ⌜ r ≡ cicOf (zeroed wordOps order delay rate) ⌝ }
 {
-    let integrators = [0i32; 8];
-    let combs = [0i32; 64];
+    let integrators: [Word; 8] = [0; 8];
+    let combs: [Word; 64] = [0; 64];
     Cic {
         order,
         delay,
@@ -79,7 +50,7 @@ pub(crate) fn zeros(order: usize, delay: usize, rate: u32) -> Cic
 
 // A refused maker's answer: its number, and the blank state.
 fn unmade(number: u32) -> Made
-    ensures { λ r. ⌜ r ≡ record { state = cicOf (blank i32Ops); verdict = Verdict.Refused number } ⌝ }
+    ensures { λ r. ⌜ r ≡ record { state = cicOf (blank wordOps); verdict = Verdict.Refused number } ⌝ }
 {
     let state = zeros(0, 1, 0);
     Made {
@@ -96,16 +67,10 @@ pub(crate) fn kept(state: Cic, number: u32) -> Made
     Made { state, verdict }
 }
 
-fn greater(a: u32, b: u32) -> u32
-    ensures { λ r. ⌜ r ≡ max a b ⌝ }
-{
-    if a < b { b } else { a }
-}
-
 impl Cic {
     // A state of zeros, settled, whose first step gives an output. Refused: the number, and the blank state.
     pub fn new(order: usize, delay: usize, rate: u32) -> Made
-        ensures { λ r. ⌜ r ≡ madeOf (newNumber order delay rate) (newState i32Ops order delay rate) ⌝ }
+        ensures { λ r. ⌜ r ≡ madeOf (newNumber order delay rate) (newState wordOps order delay rate) ⌝ }
     {
         let number = refusal_of(order, delay, rate, 0, 0);
         if number != 0 {
@@ -124,12 +89,13 @@ impl Cic {
         order: usize,
         delay: usize,
         rate: u32,
-        integrators: [i32; 8],
-        combs: [i32; 64],
-        hold: i32,
+        integrators: [Word; 8],
+        combs: [Word; 64],
+        hold: Word,
         countdown: u32,
     ) -> Made
-        ensures { λ r. ⌜ r ≡ madeOf (resumeNumber order delay rate countdown) (resumeState i32Ops order delay rate integrators combs hold countdown) ⌝ }
+        ensures { λ r. ⌜ r ≡ madeOf (resumeNumber order delay rate countdown)
+            (resumeState wordOps order delay rate integrators combs hold countdown) ⌝ }
     {
         let number = refusal_of(order, delay, rate, countdown, 0);
         if number != 0 {
@@ -168,7 +134,7 @@ impl Cic {
     // The state at another rate: cells, hold and countdown stay, and the next N·M outputs are unsettled, also
     // at the same rate.
     pub fn set_rate(self, rate: u32) -> Made
-        ensures { λ r. ⌜ r ≡ madeOf (rateNumber (stateOf self) rate) (rateState i32Ops (stateOf self) rate) ⌝ }
+        ensures { λ r. ⌜ r ≡ madeOf (rateNumber (stateOf self) rate) (rateState wordOps (stateOf self) rate) ⌝ }
     {
         let order = self.order;
         let delay = self.delay;
@@ -188,7 +154,7 @@ impl Cic {
 
     // The state of zeros, settled, at the same order, delay and rate.
     pub fn clear(self) -> Made
-        ensures { λ r. ⌜ r ≡ madeOf (refusal (stateOf self)) (clearState i32Ops (stateOf self)) ⌝ }
+        ensures { λ r. ⌜ r ≡ madeOf (refusal (stateOf self)) (clearState wordOps (stateOf self)) ⌝ }
     {
         let number = self.refusal();
         if number != 0 {
@@ -230,7 +196,7 @@ impl Cic {
     }
 
     // The decimator's last output.
-    pub fn get_decimate(self) -> i32
+    pub fn get_decimate(self) -> Word
         ensures { λ r. ⌜ r ≡ self .hold ⌝ }
     {
         self.hold

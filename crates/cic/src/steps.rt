@@ -3,20 +3,35 @@ use crate::cascade::difference;
 use crate::cascade::integrate;
 use crate::questions::Interpolated;
 use crate::state::Cic;
+use crate::word::Word;
+use shape::numbers::lowered;
 ghost use mathlib.Core.Path.{_≡_};
 ghost use mathlib.Core.List.{_∷_, []};
-ghost use Prim.Native.Nat.{_-_};
 ghost use Rattle.sums.specs.Runs.{dueSample};
 ghost use Rattle.sums.specs.State.{refusal};
-ghost use Rattle.cic.specs.Reading.{i32Ops, stateOf, cicOf};
+ghost use Rattle.cic.specs.Word.{wordOps};
+ghost use Rattle.cic.specs.Reading.{stateOf, cicOf};
 ghost use Rattle.cic.specs.Answers.{steppedOf, risenOf};
-ghost use Rattle.cic.specs.Turns.{numbersOf, apart, liftedOf, Ready, Turns, Rises};
+ghost use Rattle.sums.proofs.Lent.{Ready, DecimateStep, InterpolateStep};
+ghost use Rattle.cic.specs.Inner.Apart.{numbersOf, apart, acceptedOf, givenOf, markedOf};
 
-// What a decimator's step gives: an output and whether it is settled, nothing, or the number of a refusal.
+// An output of the decimator, and whether it is settled.
+pub struct Output {
+    pub value: Word,
+    pub settled: bool,
+}
+
+// What a decimator's step gives: an output, nothing, or the number of a refusal.
 pub enum Out {
-    Given(i32, bool),
+    Given(Output),
     Nothing,
     Refused(u32),
+}
+
+// What a step on lent arrays gives: an output and the unsettled count that it found, or nothing.
+pub(crate) enum Gave {
+    Output(Word, usize),
+    Nothing,
 }
 
 // A decimator's step: the state after it, and what it gives.
@@ -27,7 +42,7 @@ pub struct Stepped {
 
 // What an interpolator's step is given.
 pub enum Sample {
-    Given(i32),
+    Given(Word),
     Missing,
 }
 
@@ -44,23 +59,23 @@ pub(crate) struct Numbers {
     pub rate: u32,
     pub countdown: u32,
     pub unsettled: usize,
-    pub hold: i32,
+    pub hold: Word,
 }
 
 // A decimator's step on lent arrays: the numbers after it, and what it gives.
-pub(crate) struct Turned {
+pub(crate) struct StepEnd {
     pub numbers: Numbers,
-    pub out: Out,
+    pub gave: Gave,
 }
 
 // An interpolator's step on lent arrays: the numbers after it, and its output.
-pub(crate) struct Lifted {
+pub(crate) struct RiseEnd {
     pub numbers: Numbers,
-    pub value: i32,
+    pub value: Word,
 }
 
 // A state put together.
-pub(crate) fn joined(n: Numbers, integrators: [i32; 8], combs: [i32; 64]) -> Cic
+pub(crate) fn joined(n: Numbers, integrators: [Word; 8], combs: [Word; 64]) -> Cic
     ensures { λ r. ⌜ r ≡ cicOf (apart n integrators combs) ⌝ }
 {
     Cic {
@@ -75,47 +90,66 @@ pub(crate) fn joined(n: Numbers, integrators: [i32; 8], combs: [i32; 64]) -> Cic
     }
 }
 
-pub(crate) fn lowered(n: usize) -> usize
-    ensures { λ r. ⌜ r ≡ n - 1 ⌝ }
+// What the call answers: the output with its mark.
+fn marked(gave: Gave) -> Out
+    ensures { λ r. ⌜ r ≡ markedOf gave ⌝ }
 {
-    if n == 0 { 0 } else { n - 1 }
+    match gave {
+        Gave::Output(value, unsettled) => Out::Given(Output {
+            value,
+            settled: unsettled == 0,
+        }),
+        Gave::Nothing => Out::Nothing,
+    }
 }
 
 // The decimator's step of an accepted state whose arrays are lent.
-pub(crate) fn turn(integrators: &mut [i32; 8], combs: &mut [i32; 64], n: Numbers, x: i32) -> Turned
+pub(crate) fn decimate_step(
+    integrators: &mut [Word; 8],
+    combs: &mut [Word; 64],
+    n: Numbers,
+    x: Word,
+) -> StepEnd
     requires { ⌜ Ready (apart n (now integrators) (now combs)) ⌝ }
-    ensures { λ r. ⌜ Turns (apart n (now (integrators .entry)) (now (combs .entry))) x (apart (r .numbers) (now (integrators .exit)) (now (combs .exit))) (r .out) ⌝ }
+    ensures { λ r. ⌜ DecimateStep wordOps (apart n (now (integrators .entry)) (now (combs .entry))) x
+        (apart (r .numbers) (now (integrators .exit)) (now (combs .exit))) (givenOf (r .gave)) ⌝ }
 {
     let mut numbers = n;
     let unsettled = n.unsettled;
     let sum = integrate(integrators, n.order, x);
     if 0 < n.countdown {
         numbers.countdown = n.countdown - 1;
-        return Turned {
+        return StepEnd {
             numbers,
-            out: Out::Nothing,
+            gave: Gave::Nothing,
         };
     }
     let y = difference(combs, n.order, n.delay, sum);
     numbers.countdown = n.rate;
     numbers.unsettled = lowered(unsettled);
     numbers.hold = y;
-    Turned {
+    StepEnd {
         numbers,
-        out: Out::Given(y, unsettled == 0),
+        gave: Gave::Output(y, unsettled),
     }
 }
 
 // The interpolator's step of an accepted state whose arrays are lent. Above countdown 0, x isn't looked at.
-pub(crate) fn lift(integrators: &mut [i32; 8], combs: &mut [i32; 64], n: Numbers, x: i32) -> Lifted
+pub(crate) fn interpolate_step(
+    integrators: &mut [Word; 8],
+    combs: &mut [Word; 64],
+    n: Numbers,
+    x: Word,
+) -> RiseEnd
     requires { ⌜ Ready (apart n (now integrators) (now combs)) ⌝ }
-    ensures { λ r. ⌜ Rises (apart n (now (integrators .entry)) (now (combs .entry))) (dueSample i32Ops (n .countdown) (x ∷ [])) (apart (r .numbers) (now (integrators .exit)) (now (combs .exit))) (r .value) ⌝ }
+    ensures { λ r. ⌜ InterpolateStep wordOps (apart n (now (integrators .entry)) (now (combs .entry))) (dueSample wordOps (n .countdown) (x ∷ []))
+        (apart (r .numbers) (now (integrators .exit)) (now (combs .exit))) (r .value) ⌝ }
 {
     let mut next = n;
     if 0 < n.countdown {
         next.countdown = n.countdown - 1;
         let value = integrate(integrators, n.order, n.hold);
-        return Lifted {
+        return RiseEnd {
             numbers: next,
             value,
         };
@@ -124,7 +158,7 @@ pub(crate) fn lift(integrators: &mut [i32; 8], combs: &mut [i32; 64], n: Numbers
     next.countdown = n.rate;
     next.hold = hold;
     let value = integrate(integrators, n.order, hold);
-    Lifted {
+    RiseEnd {
         numbers: next,
         value,
     }
@@ -146,13 +180,13 @@ impl Cic {
     }
 
     // The interpolator's step of an accepted state.
-    fn lifted(self, x: i32) -> Risen
+    fn interpolate_accepted(self, x: Word) -> Risen
         requires { ⌜ refusal (stateOf self) ≡ 0 ⌝ }
-        ensures { λ r. ⌜ r ≡ liftedOf self (dueSample i32Ops (self .countdown) (x ∷ [])) ⌝ }
+        ensures { λ r. ⌜ r ≡ acceptedOf self (dueSample wordOps (self .countdown) (x ∷ [])) ⌝ }
     {
         let mut integrators = self.integrators;
         let mut combs = self.combs;
-        let t = lift(&mut integrators, &mut combs, self.numbers(), x);
+        let t = interpolate_step(&mut integrators, &mut combs, self.numbers(), x);
         let numbers = t.numbers;
         let state = joined(numbers, integrators, combs);
         Risen {
@@ -163,7 +197,7 @@ impl Cic {
 
     // One input in: every R-th step gives an output, held too, and lowers an unsettled count above 0 by 1.
     // A refused step changes nothing.
-    pub fn decimate(self, x: i32) -> Stepped
+    pub fn decimate(self, x: Word) -> Stepped
         ensures { λ r. ⌜ r ≡ steppedOf self x ⌝ }
     {
         let number = self.refusal();
@@ -175,10 +209,11 @@ impl Cic {
         }
         let mut integrators = self.integrators;
         let mut combs = self.combs;
-        let t = turn(&mut integrators, &mut combs, self.numbers(), x);
+        let t = decimate_step(&mut integrators, &mut combs, self.numbers(), x);
         let numbers = t.numbers;
         let state = joined(numbers, integrators, combs);
-        let out = t.out;
+        let gave = t.gave;
+        let out = marked(gave);
         Stepped { state, out }
     }
 
@@ -203,7 +238,7 @@ impl Cic {
                     out: Interpolated::Refused(22),
                 };
             }
-            return self.lifted(0);
+            return self.interpolate_accepted(0);
         };
         if 0 < countdown {
             return Risen {
@@ -211,6 +246,6 @@ impl Cic {
                 out: Interpolated::Refused(21),
             };
         }
-        self.lifted(x)
+        self.interpolate_accepted(x)
     }
 }

@@ -13,7 +13,7 @@ use Rattle.sums.specs.State.{State}
 use Rattle.sums.specs.Calls.{stepState, stepGiven}
 use Rattle.sums.specs.Runs.{join, outputs, after, blockNumber, blockState}
 use Rattle.sums.specs.Signed.{signedOps}
-use Rattle.sums.specs.Demands.{InWord, Call, step, block, along, ends, reads, leaves, gives, Decimates, Decimator}
+use Rattle.sums.specs.Demands.{InWord, Call, step, block, along, afterCalls, reads, leaves, gives, Decimates, Decimator}
 use Rattle.sums.proofs.Steps.{Fit, accepted, step-fit}
 
 join-append : {A : Type 0} (g : Option A) (l k : List A) → join g l ++ k ≡ join g (l ++ k)
@@ -53,23 +53,24 @@ module _ (o : Ops ℤ) where
   leaves-fit s f c = subst (λ q. Fit q) (sym (one s f c .left)) (after-fit o s f (reads s c))
 
   -- a run
-  ends-fit : (s : State ℤ) → Fit s → (calls : List Call) → Fit (ends (leaves o) s calls)
-  unfolding ends
-  ends-fit s f [] = f
-  ends-fit s f (c ∷ cs) = ends-fit (leaves o s c) (leaves-fit s f c) cs
+  calls-fit : (s : State ℤ) → Fit s → (calls : List Call) → Fit (afterCalls (leaves o) s calls)
+  unfolding afterCalls
+  calls-fit s f [] = f
+  calls-fit s f (c ∷ cs) = calls-fit (leaves o s c) (leaves-fit s f c) cs
 
   alone : (s : State ℤ) → Fit s → (calls : List Call) → along (leaves o) (gives o) s calls ≡ outputs o s (along (leaves o) reads s calls)
   unfolding along
   alone s f [] = unfold outputs in refl
   alone s f (c ∷ cs) =
       let t = one s f c in
-      ap₂ _++_ (t .gave) (alone (leaves o s c) (leaves-fit s f c) cs ∙ ap (λ q. outputs o q (along (leaves o) reads (leaves o s c) cs)) (t .left))
+      ap₂ _++_ (t .gave) (alone (leaves o s c) (leaves-fit s f c) cs
+      ∙ ap (λ q. outputs o q (along (leaves o) reads (leaves o s c) cs)) (t .left))
       ∙ sym (outputs-append o s (reads s c) (along (leaves o) reads (leaves o s c) cs))
 
 -- what holds of the steps in turn holds of every run
 pub decimator : (w : Width) (N M r c u : ℕ) (s : State ℤ) → Fit s
     → ((xs : List ℤ) → InWord w xs → Decimates w N M r c u xs (outputs (signedOps w) s xs)) → Decimator w N M r c u s
 decimator w N M r c u s f d calls = (
-  accepted (ends (leaves (signedOps w)) s calls) (ends-fit (signedOps w) s f calls),
+  accepted (afterCalls (leaves (signedOps w)) s calls) (calls-fit (signedOps w) s f calls),
   λ b. rw (alone (signedOps w) s f calls) (d (along (leaves (signedOps w)) reads s calls) b),
 )

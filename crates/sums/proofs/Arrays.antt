@@ -36,7 +36,8 @@ module _ {A : Type 0} where
   rows-put M (suc n) (l ∷ ls) c m e h b =
       let rest : List A = putRows M ls (drop 8 c) in
       ap₂ _∷_ (take-at l (drop M (take 8 c) ++ rest) M (h .0))
-      (ap (rows M n) (sym (ap (drop 8) (append-assoc l (drop M (take 8 c)) rest)) ∙ drop-at (l ++ drop M (take 8 c)) rest 8 (row-length M l c m (h .0) (omega arith)))
+      (ap (rows M n) (sym (ap (drop 8) (append-assoc l (drop M (take 8 c)) rest))
+      ∙ drop-at (l ++ drop M (take 8 c)) rest 8 (row-length M l c m (h .0) (omega arith)))
       ∙ rows-put M n ls (drop 8 c) m (omega (arith, e)) (h .1) (rw length-drop (omega arith)))
 
   pub rows-back : (M n : ℕ) (c : List A) → M ≤ 8 → n * 8 ≤ length c → putRows M (rows M n c) c ≡ c
@@ -81,10 +82,6 @@ module _ {A : Type 0} where
       delay = rows-lines (s .delay) (s .order) (s .combs) (r .short) (r .combs-in);
     }
 
-    pub put-view : put s (view s) ≡ s
-    unfolding view put
-    put-view = rw (take-append-drop (s .order) (s .integrators), rows-back (s .delay) (s .order) (s .combs) (r .short) (r .combs-in))
-
     module _ (m : Machine A) (h : Shaped (s .order) (s .delay) m) where
       pub view-put : view (put s m) ≡ m
       unfolding view put
@@ -100,15 +97,6 @@ module _ {A : Type 0} where
       pub put-combs : length (put s m .combs) ≡ length (s .combs)
       unfolding put
       put-combs = putRows-length (s .delay) (s .order) (m .lines) (s .combs) (r .short) (h .lines-order) (h .delay) (r .combs-in)
-
-      pub put-room : Room (put s m)
-      unfolding put
-      put-room = record {
-        some = r .some;
-        short = r .short;
-        integrators-in = omega (arith, put-integrators, r .integrators-in);
-        combs-in = omega (arith, put-combs, r .combs-in);
-      }
 
 -- a step either way, on the arrays: the shape that `put` asks for
 module _ {A : Type 0} (o : Ops A) (s : State A) (x : A) (r : Room s) where

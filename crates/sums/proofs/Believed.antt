@@ -20,7 +20,8 @@ use Rattle.sums.proofs.Counts.{outputs-mark}
 use Rattle.sums.proofs.Blocks.{values-length}
 
 -- a list whose first u are unsettled, and no others
-believed-is : (ys : List (Output ℤ)) (u : ℕ) → ((k : ℕ) (d : Output ℤ) → k < length ys → getD ys k d .settled ≡ leb u k) → drop u (values ys) ≡ believed ys
+believed-is : (ys : List (Output ℤ)) (u : ℕ) → ((k : ℕ) (d : Output ℤ) → k < length ys → getD ys k d .settled ≡ leb u k)
+    → drop u (values ys) ≡ believed ys
 believed-is [] zero h = refl
 believed-is [] (suc u) h = refl
 believed-is (y ∷ ys) zero h =

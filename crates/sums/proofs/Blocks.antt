@@ -48,7 +48,8 @@ module _ {A : Type 0} (o : Ops A) (xs out₀ : List A) (s₀ : State A) where
     fit = f;
   }
 
-  module _ (out : List A) (s t : State A) (k i j : ℕ) (g : Option (Output A)) (a : Held o xs out₀ out s₀ s k i) (jump : Jump o xs s i t g j) where
+  module _ (out : List A) (s t : State A) (k i j : ℕ) (g : Option (Output A)) (a : Held o xs out₀ out s₀ s k i)
+      (jump : Jump o xs s i t g j) where
     -- nothing came out
     pub held-none : g ≡ none → Held o xs out₀ out s₀ t k j
     held-none e =
@@ -83,7 +84,8 @@ module _ {A : Type 0} (o : Ops A) (xs out₀ : List A) (s₀ : State A) where
             room = rw length-set (omega arith);
             states = a .states ∙ jump .states;
             outs = a .outs ∙ ap (λ l. take k out ++ values l) left-one
-                ∙ rw (add-one k, take-suc-set out k v held-room, ev) (sym (append-snoc (take k out) (y .value) (values (outputs o t (drop j xs)))));
+                ∙ rw (add-one k, take-suc-set out k v held-room, ev)
+                (sym (append-snoc (take k out) (y .value) (values (outputs o t (drop j xs)))));
             kept = rw (add-one k, drop-set-lt (suc k) out k v (omega arith)) (sym (dropped out) ∙ ap (drop 1) (a .kept) ∙ dropped out₀);
             fit = jump .fit;
           }

@@ -101,7 +101,8 @@ module _ (w : Width) where
   output-wraps s x ei el h k =
       let v : ℕ → ℤ = λ i. intVal exactOps (s .integrators) x (s .countdown + i * suc (s .rate)) in
       let feed : intVal (signedOps w) (s .integrators) x ≡ (λ t. wrap w (intVal exactOps (s .integrators) x t)) =
-      ap₂ (λ l y. intVal (signedOps w) l y) (sym ei) (sym (seq-in x h)) ∙ intVal-to exactOps (signedOps w) (wrap w) wrap-hom (s .integrators) x in
+      ap₂ (λ l y. intVal (signedOps w) l y) (sym ei) (sym (seq-in x h))
+      ∙ intVal-to exactOps (signedOps w) (wrap w) wrap-hom (s .integrators) x in
       ap (λ (f : ℕ → ℤ). combVal (signedOps w) (s .lines) (λ i. f (s .countdown + i * suc (s .rate))) k) feed
       ∙ ap (λ ls. combVal (signedOps w) ls (λ i. wrap w (v i)) k) (sym el)
       ∙ ap (λ (f : ℕ → ℤ). f k) (combVal-to exactOps (signedOps w) (wrap w) wrap-hom (s .lines) v)

@@ -10,7 +10,8 @@ use Rattle.sums.specs.Ops.{Ops, Laws}
 use Rattle.sums.specs.Machine.{pushed, integrated, summed, less, combed, differed}
 use Rattle.sums.specs.Moving.{moving}
 use Rattle.sums.proofs.Shapes.{Lines}
-use Rattle.sums.proofs.Sequences.{iter, iter-out, iter-across, shift, down, pre, acc, diff, fwd, diff-shift, diff-down, moving-fwd, fwd-acc, diff-fwd}
+use Rattle.sums.proofs.Sequences.{iter, iter-out, iter-across, shift, down, pre, acc, diff, fwd, diff-shift, diff-down, moving-fwd}
+use Rattle.sums.proofs.Sequences.{fwd-acc, diff-fwd}
 
 -- a list, and then a sequence
 unfoldable pub prep : {A : Type 0} → List A → (ℕ → A) → ℕ → A

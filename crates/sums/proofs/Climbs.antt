@@ -14,13 +14,14 @@ use Rattle.sums.specs.Ops.{Ops}
 use Rattle.sums.specs.Machine.{Machine, integrated, summed, differed, interpolatedAt, interpolated, risenAt, risen}
 use Rattle.sums.specs.Moving.{held}
 use Rattle.sums.specs.State.{State, view}
-use Rattle.sums.specs.Calls.{riseNumber, riseState, risenOf, sample}
+use Rattle.sums.specs.Calls.{riseNumber, riseState, riseGiven, sample}
 use Rattle.sums.specs.Runs.{needed, dueSample, unread, risings}
 use Rattle.sums.proofs.Shapes.{Lines}
 use Rattle.sums.proofs.Arrays.{view-put, view-shaped, rose-shaped}
 use Rattle.sums.proofs.Steps.{Fit, accepted, room, rise-waits-fit, rise-takes-fit}
 use Rattle.sums.proofs.Counts.{needed-wait, needed-give}
-use Rattle.sums.proofs.Cascade.{seg, combVal, linesAt, lines-start, combed-next, differed-is, intVal, intsAt, ints-begin, integrated-next, summed-is}
+use Rattle.sums.proofs.Cascade.{seg, combVal, linesAt, lines-start, combed-next, differed-is, intVal, intsAt, ints-begin}
+use Rattle.sums.proofs.Cascade.{integrated-next, summed-is}
 
 module _ {A : Type 0} (o : Ops A) where
   -- the machine's outputs: the first sample is looked at where one is due
@@ -32,11 +33,11 @@ module _ {A : Type 0} (o : Ops A) where
   record Rose (s : State A) (x : Option A) (y : A) : Type 0 where
     pub number : riseNumber s x ≡ 0
     pub next : interpolated o (view s) (sample o x) ≡ interpolated o (view s) y
-    pub out : risenOf o s x ≡ risen o (view s) y
+    pub out : riseGiven o s x ≡ risen o (view s) y
     pub fit : Fit (riseState o s x)
 
   rose : (s : State A) → Fit s → (xs : List A) (c : ℕ) → s .countdown ≡ c → Rose s (dueSample o c xs) (getD xs 0 (o .nil))
-  unfolding riseNumber interpolated interpolatedAt risenOf risen risenAt view
+  unfolding riseNumber interpolated interpolatedAt riseGiven risen risenAt view
   rose s f xs zero e = record { number = rw (accepted s f, e); next = refl; out = refl; fit = rise-takes-fit o s f (getD xs 0 (o .nil)) e }
   rose s f xs (suc c) e = record {
     number = rw (accepted s f, e, eqb·suc-zero c);
@@ -137,7 +138,8 @@ module _ {A : Type 0} (o : Ops A) where
       gives-held = ap (summed o (intsAt o (s .integrators) feed t)) (sym e) ∙ summed-is o (s .integrators) feed t
 
     -- the outputs of k steps over samples l that stand in the sequence from number n on
-    climb-from : (k : ℕ) (l : List A) (t n d : ℕ) → ((i : ℕ) → i < length l → getD l i (o .nil) ≡ x (n + i)) → needed k d (s .rate) ≤ length l
+    climb-from : (k : ℕ) (l : List A) (t n d : ℕ) → ((i : ℕ) → i < length l → getD l i (o .nil) ≡ x (n + i))
+        → needed k d (s .rate) ≤ length l
         → t + d ≡ n * R → d ≤ s .rate → climb (stateAt t n d) k l ≡ seg (intVal o (s .integrators) feed) t k
     unfolding climb seg stateAt
     climb-from zero l t n d a q e b = refl
@@ -148,12 +150,14 @@ module _ {A : Type 0} (o : Ops A) where
         let r : length (drop 1 l) ≡ length l - 1 = length-drop 1 l in
         ap₂ _∷_ (ap (risen o (stateAt t n 0)) y-is ∙ gives-due t n e')
         (ap (λ m. climb m k (drop 1 l)) (ap (interpolated o (stateAt t n 0)) y-is ∙ takes t n e')
-        ∙ climb-from k (drop 1 l) (suc t) (suc n) (s .rate) (λ i h. getD-drop 1 l i (o .nil) ∙ a (1 + i) (omega arith) ∙ ap x (omega arith)) (omega arith) (omega arith) (omega arith))
+        ∙ climb-from k (drop 1 l) (suc t) (suc n) (s .rate)
+        (λ i h. getD-drop 1 l i (o .nil) ∙ a (1 + i) (omega arith) ∙ ap x (omega arith)) (omega arith) (omega arith) (omega arith))
     climb-from (suc k) l t zero (suc d) a q e b = absurd (omega arith)
     climb-from (suc k) l t (suc n) (suc d) a q e b =
         let f : feed t ≡ combVal o (s .lines) x n = feed-at t n (s .rate - d) (omega arith) (omega arith) in
         let one : suc d - 1 ≡ d = omega arith in
-        let q' : needed k d (s .rate) ≤ length l = subst (λ m. m ≤ length l) (needed-wait k (suc d) (s .rate) (omega arith) ∙ ap (λ m. needed k m (s .rate)) one) q in
+        let q' : needed k d (s .rate) ≤ length l = subst (λ m. m ≤ length l)
+        (needed-wait k (suc d) (s .rate) (omega arith) ∙ ap (λ m. needed k m (s .rate)) one) q in
         ap₂ _∷_ (gives-held t n d f (getD l 0 (o .nil)))
         (ap (λ m. climb m k l) (holds t n d f (getD l 0 (o .nil))) ∙ climb-from k l (suc t) (suc n) d a q' (omega arith) (omega arith))
 

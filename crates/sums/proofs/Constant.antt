@@ -1,4 +1,5 @@
--- settle_interpolate on x: with the first line all x a stream of x leaves every comb at nothing, so the integrators stand still and the last
+-- settle_interpolate on x: with the first line all x a stream of x leaves every comb at nothing, so the integrators stand still and the
+-- last
 -- one gives what it was set to, x times gain.
 use mathlib.Core.Path.{_≡_, refl, sym, ap, ap₂, subst, fun-ext, _∙_}
 use mathlib.Core.List.{List, [], _∷_, _++_}
@@ -15,7 +16,7 @@ use Rattle.sums.specs.Ops.{Ops, Laws, times}
 use Rattle.sums.specs.Signed.{signedOps, exactOps}
 use Rattle.sums.specs.Moving.{held}
 use Rattle.sums.specs.State.{State, rows, view}
-use Rattle.sums.specs.Calls.{gain, settledAt}
+use Rattle.sums.specs.Calls.{gain, gainOf, settledAt}
 use Rattle.sums.specs.Demands.{InWord, Contents, along, lifts, samples, Stream}
 use Rattle.sums.proofs.Refusals.{Sound}
 use Rattle.sums.proofs.Steps.{Fit}
@@ -57,7 +58,8 @@ module _ {A : Type 0} (o : Ops A) (g : Laws o) where
   ints-still (suc n) a = ap (intVal o (replicate n (o .nil) ++ (a ∷ []))) (fun-ext (λ t. pre-still (o .nil) (suc t))) ∙ ints-still n a
 
   -- the cascade that settle_interpolate sets
-  still : (R M n : ℕ) (x a : A) → intVal o (replicate n (o .nil) ++ (a ∷ [])) (held R (combVal o (replicate M x ∷ replicate n (replicate M (o .nil))) (λ i. x))) ≡ (λ i. a)
+  still : (R M n : ℕ) (x a : A) → intVal o (replicate n (o .nil) ++ (a ∷ []))
+      (held R (combVal o (replicate M x ∷ replicate n (replicate M (o .nil))) (λ i. x))) ≡ (λ i. a)
   unfolding held
   still R M n x a = ap (λ (f : ℕ → A). intVal o (replicate n (o .nil) ++ (a ∷ [])) (λ t. f (t / R))) (combs-const M n x) ∙ ints-still n a
 
@@ -69,7 +71,8 @@ times-is (suc n) x = ap (λ y. exactOps .add y x) (times-is n x) ∙ sym (sucℤ
 
 times-wraps : (w : Width) (n : ℕ) (x : ℤ) → SFits w x → times (signedOps w) n x ≡ wrap w (pos n *ℤ x)
 times-wraps w n x h =
-    ap (times (signedOps w) n) (sym (wrap-is w x h)) ∙ times-to exactOps (signedOps w) (wrap w) (wrap-hom w) n x ∙ ap (wrap w) (times-is n x)
+    ap (times (signedOps w) n) (sym (wrap-is w x h)) ∙ times-to exactOps (signedOps w) (wrap w) (wrap-hom w) n x
+    ∙ ap (wrap w) (times-is n x)
 
 take-front : {A : Type 0} (n : ℕ) (a b : A) (l : List A) → take (suc n) (replicate n b ++ (a ∷ l)) ≡ replicate n b ++ (a ∷ [])
 take-front zero a b l = refl
@@ -112,7 +115,8 @@ module _ (w : Width) (s : State ℤ) (x : ℤ) (hx : SFits w x) where
       long8 = simp (length-append, length-replicate) (omega (arith, q .few));
       long64 = simp (length-append, length-replicate) (omega (arith, q .short));
       integrators-in = append-in w (replicate n (pos 0)) (top ∷ replicate (7 - n) (pos 0)) (replicate-in w n (pos 0) (nil-in w)) tail-in;
-      combs-in = append-in w (replicate (s .delay) x) (replicate (64 - s .delay) (pos 0)) (replicate-in w (s .delay) x hx) (replicate-in w (64 - s .delay) (pos 0) (nil-in w));
+      combs-in = append-in w (replicate (s .delay) x) (replicate (64 - s .delay) (pos 0)) (replicate-in w (s .delay) x hx)
+          (replicate-in w (64 - s .delay) (pos 0) (nil-in w));
     }
       where
         tail-in : InWord w (top ∷ replicate (7 - n) (pos 0))
@@ -138,19 +142,21 @@ module _ (w : Width) (s : State ℤ) (x : ℤ) (hx : SFits w x) where
 -- every output of a run over a stream of x
 stream-still : (w : Width) (x v : ℤ) (s : State ℤ) → SFits w x → Still w x v s → Stream w s x (wrap w v)
 stream-still w x v s hx k calls n e t y q =
-    let stream : (i : ℕ) → i < length (along (lifts (signedOps w)) samples s calls) → getD (along (lifts (signedOps w)) samples s calls) i (pos 0) ≡ x =
+    let stream : (i : ℕ) → i < length (along (lifts (signedOps w)) samples s calls)
+    → getD (along (lifts (signedOps w)) samples s calls) i (pos 0) ≡ x =
     λ i l. ap (λ r. getD r i (pos 0)) e ∙ getD-replicate n i x (pos 0) (subst (λ m. i < m) (ap length e ∙ length-replicate n x) l) in
     given-is w s (k .fit) (k .due) (k .contents) calls (λ i. x) stream (λ i. hx) t y q ∙ ap (wrap w) (k .gives t)
 
 pub settled-stream : (w : Width) (s : State ℤ) (x : ℤ) → SFits w x → (N : ℕ) → s .order ≡ N → Sound N (s .delay) (s .rate) 0 0
     → Stream w (settledAt (signedOps w) s x N) x (wrap w (pos (gain s) *ℤ x))
-unfolding gain times
+unfolding gainOf times
 settled-stream w s x hx zero o q =
     let one : gain s ≡ 1 = ap (λ k. (suc (s .rate) * s .delay) ^ k) o ∙ pow-zero (suc (s .rate) * s .delay) in
     let same : x ≡ pos (gain s) *ℤ x = sym (ap (λ k. pos k *ℤ x) one ∙ sym (times-is 1 x) ∙ +ℤ-idl x) in
     subst (λ v. Stream w (settledAt (signedOps w) s x 0) x (wrap w v)) same
     (stream-still w x x (settledAt (signedOps w) s x 0) hx (still-zero w s x hx q))
 settled-stream w s x hx (suc n) o q =
-    let same : wrap w (times (signedOps w) (gain s) x) ≡ wrap w (pos (gain s) *ℤ x) = ap (wrap w) (times-wraps w (gain s) x hx) ∙ wrap-wrap w (pos (gain s) *ℤ x) in
+    let same : wrap w (times (signedOps w) (gain s) x) ≡ wrap w (pos (gain s) *ℤ x) = ap (wrap w) (times-wraps w (gain s) x hx)
+    ∙ wrap-wrap w (pos (gain s) *ℤ x) in
     subst (Stream w (settledAt (signedOps w) s x (suc n)) x) same
     (stream-still w x (times (signedOps w) (gain s) x) (settledAt (signedOps w) s x (suc n)) hx (still-suc w s x hx n q))

@@ -68,9 +68,11 @@ module _ {A : Type 0} (o : Ops A) where
       let on : length (outputs o t xs) ≡ needed (length xs) (t .countdown) (t .rate) = outputs-length t (step-fit o s f x) xs in
       ⊎-elim
       (λ e. rw (given-gives o s f x e)
-      (ap suc (on ∙ ap (λ q. needed (length xs) (q .countdown) (q .rate)) (step-gives o s f x e)) ∙ sym (needed-give (length xs) (s .countdown) (s .rate) e)))
+      (ap suc (on ∙ ap (λ q. needed (length xs) (q .countdown) (q .rate)) (step-gives o s f x e))
+      ∙ sym (needed-give (length xs) (s .countdown) (s .rate) e)))
       (λ h. rw (given-waits o s f x h)
-      (on ∙ ap (λ q. needed (length xs) (q .countdown) (q .rate)) (step-waits o s f x h) ∙ sym (needed-wait (length xs) (s .countdown) (s .rate) h)))
+      (on ∙ ap (λ q. needed (length xs) (q .countdown) (q .rate)) (step-waits o s f x h)
+      ∙ sym (needed-wait (length xs) (s .countdown) (s .rate) h)))
       (down (s .countdown))
 
   -- output i of a block is settled exactly where the unsettled count before the block was at most i

@@ -6,11 +6,13 @@ use lib.IntN.{ℤ}
 use mir.Syntax.{Width, w32}
 use Rattle.sums.specs.Signed.{signedOps}
 use Rattle.sums.specs.State.{State, refusalOf, zeroed}
-use Rattle.sums.specs.Calls.{newState, bitLength, gainLog2, fits}
-use Rattle.sums.specs.Demands.{Contents, Decimator, Interpolator, Demand2, Demand2Cleared, Demand3, Demand3Rate, Demand3Tight, Between, SettledPart, GainBound, FitSound, FitNotExact, Settled}
+use Rattle.sums.specs.Calls.{newState, bitLength, gainLog2, gainLog2Of, fits, fitsOf}
+use Rattle.sums.specs.Demands.{Contents, Decimator, Interpolator, Demand2, Demand2Cleared, Demand3, Demand3Rate, Demand3Tight}
+use Rattle.sums.specs.Demands.{Between, SettledPart, GainBound, FitSound, FitNotExact, Settled}
 use Rattle.sums.proofs.Refusals.{Sound, sound, Good, good}
 use Rattle.sums.proofs.Steps.{packed, Fit}
-use Rattle.sums.proofs.Makers.{new-is, clear-is, resume-is, rate-is, settle-is, resume-sound, rate-sound, zero-sound, zeroed-fit, decimates-zero}
+use Rattle.sums.proofs.Makers.{new-is, clear-is, resume-is, rate-is, settle-is, resume-sound, rate-sound, zero-sound, zeroed-fit}
+use Rattle.sums.proofs.Makers.{decimates-zero}
 use Rattle.sums.proofs.Settling.{decimates-settled}
 use Rattle.sums.proofs.Alone.{decimator}
 use Rattle.sums.proofs.Interpolating.{interpolates-zero}
@@ -23,8 +25,10 @@ use Rattle.sums.proofs.Sizes.{gain-bound, exact, fit-sound}
 -- from zero
 from-zero : (w : Width) (N M r : ℕ) → Sound N M r 0 0
     → Decimator w N M r 0 0 (zeroed (signedOps w) N M r) × Interpolator w N M r (zeroed (signedOps w) N M r)
-from-zero w N M r q =
-    (decimator w N M r 0 0 (zeroed (signedOps w) N M r) (zeroed-fit (signedOps w) N M r q) (decimates-zero w N M r q), interpolates-zero w N M r q)
+from-zero w N M r q = (
+  decimator w N M r 0 0 (zeroed (signedOps w) N M r) (zeroed-fit (signedOps w) N M r q) (decimates-zero w N M r q),
+  interpolates-zero w N M r q,
+)
 
 pub demand2 : Demand2
 demand2 w N M r e = rw (new-is (signedOps w) N M r e) (from-zero w N M r (sound N M r 0 0 e))
@@ -41,12 +45,14 @@ from-any w s g h l =
 
 pub demand3 : Demand3
 demand3 w N M r c is ks hold e h =
-    rw (resume-is (signedOps w) N M r c is ks hold e) (from-any w (packed N M r c (N * M) hold is ks) (resume-sound N M r c e) h (omega arith))
+    rw (resume-is (signedOps w) N M r c is ks hold e)
+    (from-any w (packed N M r c (N * M) hold is ks) (resume-sound N M r c e) h (omega arith))
 
 pub demand3-rate : Demand3Rate
 demand3-rate w s r e h =
     rw (rate-is (signedOps w) s r e)
-    (from-any w (packed (s .order) (s .delay) r (s .countdown) (s .order * s .delay) (s .hold) (s .integrators) (s .combs)) (rate-sound s r e) h (omega arith))
+    (from-any w (packed (s .order) (s .delay) r (s .countdown) (s .order * s .delay) (s .hold) (s .integrators) (s .combs))
+    (rate-sound s r e) h (omega arith))
 
 pub settled-parts : SettledPart
 settled-parts w s xs out h e =
@@ -68,7 +74,7 @@ pub fit-is-sound : FitSound
 fit-is-sound w s b e y x h t = fit-sound w s b e y x h t
 
 pub fit-is-not-exact : FitNotExact
-unfolding newState zeroed refusalOf fits gainLog2 bitLength
+unfolding newState zeroed refusalOf fitsOf gainLog2Of bitLength
 fit-is-not-exact = (refl, λ x h t. exact w32 3 3 (2 ^ 26) x (omega arith) h (omega arith) t)
 
 pub between : Between

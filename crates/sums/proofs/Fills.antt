@@ -11,7 +11,7 @@ use lib.ListN.{length, getD, take, drop, replicate, length-replicate, length-app
 use lib.Seq.{take-at, length-take-le, drop-length, drop-drop, getD-drop}
 use Rattle.sums.specs.Ops.{Ops}
 use Rattle.sums.specs.State.{State}
-use Rattle.sums.specs.Calls.{riseState, risenOf}
+use Rattle.sums.specs.Calls.{riseState, riseGiven}
 use Rattle.sums.specs.Runs.{needed, dueSample, unread, risings, risenAfter}
 use Rattle.sums.proofs.Steps.{Fit, packed, down, rise-waits, risen-waits, rise-waits-fit, rise-takes, risen-takes, rise-takes-fit}
 use Rattle.sums.proofs.Counts.{needed-none, needed-wait, needed-give}
@@ -21,7 +21,7 @@ use Rattle.sums.proofs.Stretches.{ran, tops, tops-length}
 module _ {A : Type 0} (o : Ops A) (s : State A) (n : ℕ) (xs : List A) where
   -- a turn of the interpolator's steps where a sample is due, and where none is
   pub risings-due : s .countdown ≡ 0 → (x : A) → x ≡ getD xs 0 (o .nil)
-      → (risings o s (suc n) xs ≡ risenOf o s (some x) ∷ risings o (riseState o s (some x)) n (drop 1 xs))
+      → (risings o s (suc n) xs ≡ riseGiven o s (some x) ∷ risings o (riseState o s (some x)) n (drop 1 xs))
       × (risenAfter o s (suc n) xs ≡ risenAfter o (riseState o s (some x)) n (drop 1 xs))
   unfolding risings risenAfter
   risings-due e x ex =
@@ -30,7 +30,7 @@ module _ {A : Type 0} (o : Ops A) (s : State A) (n : ℕ) (xs : List A) where
       (rw (d, u), rw (d, u))
 
   pub risings-wait : 0 < s .countdown
-      → (risings o s (suc n) xs ≡ risenOf o s none ∷ risings o (riseState o s none) n xs)
+      → (risings o s (suc n) xs ≡ riseGiven o s none ∷ risings o (riseState o s none) n xs)
       × (risenAfter o s (suc n) xs ≡ risenAfter o (riseState o s none) n xs)
   unfolding risings risenAfter
   risings-wait h =
@@ -51,7 +51,8 @@ module _ {A : Type 0} (o : Ops A) where
   -- the hold stands for m outputs
   abbrev pub climbed : State A → ℕ → State A
   climbed s m =
-      packed (s .order) (s .delay) (s .rate) (s .countdown - m) (s .unsettled) (s .hold) (ran o (s .order) (replicate m (s .hold)) (s .integrators)) (s .combs)
+      packed (s .order) (s .delay) (s .rate) (s .countdown - m) (s .unsettled) (s .hold)
+      (ran o (s .order) (replicate m (s .hold)) (s .integrators)) (s .combs)
 
   -- a step: t has a hold that stands for c outputs more
   abbrev up : State A → ℕ → State A
@@ -69,7 +70,8 @@ module _ {A : Type 0} (o : Ops A) where
   -- n steps: their outputs, and the state at the end
   pub risen : State A → ℕ → List A → List A
   risen s zero xs = []
-  risen s (suc n) xs = topAt s (getD xs 0 (o .nil)) (s .countdown) ∷ risen (upAt s (getD xs 0 (o .nil)) (s .countdown)) n (unread (s .countdown) xs)
+  risen s (suc n) xs =
+      topAt s (getD xs 0 (o .nil)) (s .countdown) ∷ risen (upAt s (getD xs 0 (o .nil)) (s .countdown)) n (unread (s .countdown) xs)
 
   pub atop : State A → ℕ → List A → State A
   atop s zero xs = s
@@ -120,7 +122,8 @@ module _ {A : Type 0} (o : Ops A) where
 
   -- outputs on one hold
   climbs : (m : ℕ) (s : State A) → m ≤ s .countdown → (k n : ℕ) → k ≡ m + n → (xs : List A)
-      → (risen s k xs ≡ tops o (s .order) (replicate m (s .hold)) (s .integrators) ++ risen (climbed s m) n xs) × (atop s k xs ≡ atop (climbed s m) n xs)
+      → (risen s k xs ≡ tops o (s .order) (replicate m (s .hold)) (s .integrators) ++ risen (climbed s m) n xs)
+      × (atop s k xs ≡ atop (climbed s m) n xs)
   unfolding risen atop upAt topAt tops ran
   climbs zero s h k n e xs = let z : s .countdown - 0 ≡ s .countdown = omega arith in let q : k ≡ n = omega arith in (rw (z, q), rw (z, q))
   climbs (suc m) s h zero n e xs = absurd (omega arith)
@@ -136,13 +139,15 @@ module _ {A : Type 0} (o : Ops A) where
 needed-waits : (m n c r : ℕ) → m ≤ c → needed (m + n) c r ≡ needed n (c - m) r
 needed-waits zero n c r h = ap₂ (λ l d. needed l d r) (zero-add n) (omega arith)
 needed-waits (suc m) n c r h =
-    ap (λ l. needed l c r) (suc-add m n) ∙ needed-wait (m + n) c r (omega arith) ∙ needed-waits m n (c - 1) r (omega arith) ∙ ap (λ d. needed n d r) (omega arith)
+    ap (λ l. needed l c r) (suc-add m n) ∙ needed-wait (m + n) c r (omega arith) ∙ needed-waits m n (c - 1) r (omega arith)
+    ∙ ap (λ d. needed n d r) (omega arith)
 
 needed-read : (n c r : ℕ) → c < n → needed n c r ≡ suc (needed (n - c) (suc r) r)
 needed-read n c r h =
     let e : n ≡ c + (n - c) = omega arith in let s : n - c ≡ suc (n - c - 1) = omega arith in
     ap (λ l. needed l c r) e ∙ needed-waits c (n - c) c r (omega arith) ∙ ap₂ (λ l d. needed l d r) s (omega arith)
-    ∙ needed-give (n - c - 1) 0 r refl ∙ ap (λ d. suc (needed (n - c - 1) d r)) (omega arith) ∙ ap suc (sym (ap (λ l. needed l (suc r) r) s ∙ needed-wait (n - c - 1) (suc r) r (omega arith)))
+    ∙ needed-give (n - c - 1) 0 r refl ∙ ap (λ d. suc (needed (n - c - 1) d r)) (omega arith)
+    ∙ ap suc (sym (ap (λ l. needed l (suc r) r) s ∙ needed-wait (n - c - 1) (suc r) r (omega arith)))
 
 -- the loop: s₀ and out₀ as the block began; s, out, the count k of samples read and the output i as they are
 pub record Filling {A : Type 0} (o : Ops A) (xs out₀ out : List A) (s₀ s : State A) (k i : ℕ) : Type 0 where
@@ -196,7 +201,8 @@ module _ {A : Type 0} (o : Ops A) (xs out₀ : List A) (s₀ : State A) where
       filling-read = omega (arith, a .enough, a .counts, more)
 
       module _ (x : A) (ex : x ≡ getD xs k (o .nil)) (t : State A) (et : fed o (climbed o s c) x ≡ t) where
-        cl : (risen o s (length out₀ - i) (drop k xs) ≡ tops o (s .order) (replicate c (s .hold)) (s .integrators) ++ risen o (climbed o s c) rest (drop k xs))
+        cl : (risen o s (length out₀ - i) (drop k xs)
+            ≡ tops o (s .order) (replicate c (s .hold)) (s .integrators) ++ risen o (climbed o s c) rest (drop k xs))
             × (atop o s (length out₀ - i) (drop k xs) ≡ atop o (climbed o s c) rest (drop k xs))
         cl = climbs o c s (omega arith) (length out₀ - i) rest (omega arith) (drop k xs)
 
@@ -228,7 +234,8 @@ module _ {A : Type 0} (o : Ops A) (xs out₀ : List A) (s₀ : State A) where
           let z : i + c - i ≡ c = omega arith in
           let high : i + c ≤ length out = omega (arith, a .same) in
           let to : fed o (climbed o s c) x ≡ t =
-          sym (et ∙ ap (λ l. fed o (packed (s .order) (s .delay) (s .rate) c (s .unsettled) (s .hold) l (s .combs)) x) (ei ∙ ap (λ m. ran o (s .order) (replicate m (s .hold)) (s .integrators)) z)) in
+          sym (et ∙ ap (λ l. fed o (packed (s .order) (s .delay) (s .rate) c (s .unsettled) (s .hold) l (s .combs)) x)
+          (ei ∙ ap (λ m. ran o (s .order) (replicate m (s .hold)) (s .integrators)) z)) in
           let same : length left ≡ length out₀ = filling-same (i + c) (omega arith) high left el in
           record {
             within = omega (arith, a .same);
@@ -237,30 +244,37 @@ module _ {A : Type 0} (o : Ops A) (xs out₀ : List A) (s₀ : State A) where
             counts = counts-on x ex t to;
             states = a .states ∙ cl x ex t to .1 ∙ atop-on x ex t to;
             outs = a .outs
-                ∙ ap (λ l. take i out ++ l) (cl x ex t to .0 ∙ ap₂ (λ m l. tops o (s .order) (replicate m (s .hold)) (s .integrators) ++ l) (sym z) (risen-on x ex t to))
+                ∙ ap (λ l. take i out ++ l) (cl x ex t to .0
+                ∙ ap₂ (λ m l. tops o (s .order) (replicate m (s .hold)) (s .integrators) ++ l) (sym z) (risen-on x ex t to))
                 ∙ sym (append-assoc (take i out) (new (i + c) (omega arith) high left el) (risen o t rest (drop (k + 1) xs)))
                 ∙ ap (λ l. l ++ risen o t rest (drop (k + 1) xs)) (sym (front (i + c) (omega arith) high left el));
           }
 
     -- the end: the hold's outputs fill the slice
     module _ (h : length out₀ - i ≤ s .countdown) (left : List A)
-        (el : left ≡ take i out ++ (tops o (s .order) (replicate (length out - i) (s .hold)) (s .integrators) ++ drop (length out) out)) where
-      all : (risen o s (length out₀ - i) (drop k xs) ≡ tops o (s .order) (replicate (length out₀ - i) (s .hold)) (s .integrators) ++ risen o (climbed o s (length out₀ - i)) 0 (drop k xs))
-          × (atop o s (length out₀ - i) (drop k xs) ≡ atop o (climbed o s (length out₀ - i)) 0 (drop k xs))
-      all = climbs o (length out₀ - i) s h (length out₀ - i) 0 (omega arith) (drop k xs)
+        (el : left ≡ take i out ++ (tops o (s .order) (replicate (length out - i) (s .hold)) (s .integrators) ++ drop (length out) out))
+      where
+        all : (risen o s (length out₀ - i) (drop k xs)
+            ≡ tops o (s .order) (replicate (length out₀ - i) (s .hold)) (s .integrators) ++ risen o (climbed o s (length out₀ - i)) 0
+            (drop k xs))
+            × (atop o s (length out₀ - i) (drop k xs) ≡ atop o (climbed o s (length out₀ - i)) 0 (drop k xs))
+        all = climbs o (length out₀ - i) s h (length out₀ - i) 0 (omega arith) (drop k xs)
 
-      pub filled-state : (t : State A) → t ≡ climbed o s (length out - i) → t ≡ risenAfter o s₀ (length out₀) xs
-      unfolding atop
-      filled-state t et = et ∙ ap (λ n. climbed o s (n - i)) (a .same) ∙ sym (a .states ∙ all .1)
+        pub filled-state : (t : State A) → t ≡ climbed o s (length out - i) → t ≡ risenAfter o s₀ (length out₀) xs
+        unfolding atop
+        filled-state t et = et ∙ ap (λ n. climbed o s (n - i)) (a .same) ∙ sym (a .states ∙ all .1)
 
-      pub filled-out : left ≡ risings o s₀ (length out₀) xs
-      unfolding risen
-      filled-out =
-          el ∙ ap (λ n. take i out ++ (tops o (s .order) (replicate (n - i) (s .hold)) (s .integrators) ++ drop (length out) out)) (a .same)
-          ∙ ap (λ l. take i out ++ (tops o (s .order) (replicate (length out₀ - i) (s .hold)) (s .integrators) ++ l)) (drop-length out)
-          ∙ sym (a .outs ∙ ap (λ l. take i out ++ l) (all .0))
+        pub filled-out : left ≡ risings o s₀ (length out₀) xs
+        unfolding risen
+        filled-out =
+            el ∙ ap (λ n. take i out ++ (tops o (s .order) (replicate (n - i) (s .hold)) (s .integrators) ++ drop (length out) out))
+            (a .same)
+            ∙ ap (λ l. take i out ++ (tops o (s .order) (replicate (length out₀ - i) (s .hold)) (s .integrators) ++ l)) (drop-length out)
+            ∙ sym (a .outs ∙ ap (λ l. take i out ++ l) (all .0))
 
-      pub filled-count : k ≡ needed (length out₀) (s₀ .countdown) (s₀ .rate)
-      filled-count =
-          let e : length out₀ - i ≡ length out₀ - i + 0 = omega arith in
-          sym (a .counts ∙ ap (λ n. k + n) (ap (λ n. needed n (s .countdown) (s .rate)) e ∙ needed-waits (length out₀ - i) 0 (s .countdown) (s .rate) h ∙ needed-none (s .countdown - (length out₀ - i)) (s .rate)) ∙ add-zero k)
+        pub filled-count : k ≡ needed (length out₀) (s₀ .countdown) (s₀ .rate)
+        filled-count =
+            let e : length out₀ - i ≡ length out₀ - i + 0 = omega arith in
+            sym (a .counts ∙ ap (λ n. k + n) (ap (λ n. needed n (s .countdown) (s .rate)) e
+            ∙ needed-waits (length out₀ - i) 0 (s .countdown) (s .rate) h ∙ needed-none (s .countdown - (length out₀ - i)) (s .rate))
+            ∙ add-zero k)

@@ -15,7 +15,7 @@ use Rattle.sums.specs.Signed.{signedOps, exactOps}
 use Rattle.sums.specs.Moving.{held}
 use Rattle.sums.specs.State.{State, view, refusal, zeroed}
 use Rattle.sums.specs.Runs.{needed}
-use Rattle.sums.specs.Demands.{input, Contents, along, ends, Raise, samples, lifts, yields, Interpolator}
+use Rattle.sums.specs.Demands.{input, Contents, along, afterCalls, Raise, samples, lifts, yields, Interpolator}
 use Rattle.sums.proofs.Refusals.{Sound}
 use Rattle.sums.proofs.Steps.{Fit, accepted}
 use Rattle.sums.proofs.Cascade.{combVal, intVal}
@@ -26,37 +26,40 @@ use Rattle.sums.proofs.Climbs.{risings-are}
 use Rattle.sums.proofs.Rising.{risings-length, climbed, climbed-fit}
 use Rattle.sums.proofs.Makers.{zeroed-fit, zeroed-integrators, zeroed-lines, zero-contents}
 
-module _ (w : Width) (s : State ℤ) (f : Fit s) (e : s .countdown ≡ 0) (h : Contents w (s .integrators) (s .combs)) (calls : List Raise) where
-  abbrev pub read : List ℤ
-  read = along (lifts (signedOps w)) samples s calls
+module _ (w : Width) (s : State ℤ) (f : Fit s) (e : s .countdown ≡ 0) (h : Contents w (s .integrators) (s .combs)) (calls : List Raise)
+  where
+    abbrev pub read : List ℤ
+    read = along (lifts (signedOps w)) samples s calls
 
-  abbrev pub given : List ℤ
-  given = along (lifts (signedOps w)) (yields (signedOps w)) s calls
+    abbrev pub given : List ℤ
+    given = along (lifts (signedOps w)) (yields (signedOps w)) s calls
 
-  pub read-count : length read ≡ needed (length given) 0 (s .rate)
-  read-count =
-      let c = climbed (signedOps w) s f calls in
-      c .counts ∙ ap₂ (λ n d. needed n d (s .rate)) (sym (ap length (c .gave) ∙ risings-length (signedOps w) s (c .steps) read)) e
+    pub read-count : length read ≡ needed (length given) 0 (s .rate)
+    read-count =
+        let c = climbed (signedOps w) s f calls in
+        c .counts ∙ ap₂ (λ n d. needed n d (s .rate)) (sym (ap length (c .gave) ∙ risings-length (signedOps w) s (c .steps) read)) e
 
-  -- output t of a run; x is any sequence in which the samples that it reads stand
-  pub given-is : (x : ℕ → ℤ) → ((i : ℕ) → i < length read → input read i ≡ x i) → ((t : ℕ) → SFits w (x t))
-      → (t : ℕ) (y : ℤ) → getElem? given t ≡ some y
-      → y ≡ wrap w (intVal exactOps (view s .integrators) (held (suc (s .rate)) (combVal exactOps (view s .lines) x)) t)
-  unfolding view
-  given-is x a b t y q =
-      let c = climbed (signedOps w) s f calls in
-      let F : ℕ → ℤ = intVal (signedOps w) (view s .integrators) (held (suc (s .rate)) (combVal (signedOps w) (view s .lines) x)) in
-      let enough : needed (c .steps) 0 (s .rate) ≤ length read = subst (λ d. needed (c .steps) d (s .rate) ≤ length read) e (omega (arith, c .counts)) in
-      elem-seg F 0 (c .steps) t y (ap (λ l. getElem? l t) (sym (c .gave ∙ risings-are (signedOps w) s f e (c .steps) read enough x a)) ∙ q)
-      ∙ ap F (zero-add t)
-      ∙ rise-wraps w (suc (s .rate)) (view s .integrators) (view s .lines) x
-      (list-in w (take (s .order) (s .integrators)) (take-in w (s .order) (s .integrators) (h .integrators-in)))
-      (rows-in w (s .delay) (s .order) (s .combs) (h .combs-in)) b t
+    -- output t of a run; x is any sequence in which the samples that it reads stand
+    pub given-is : (x : ℕ → ℤ) → ((i : ℕ) → i < length read → input read i ≡ x i) → ((t : ℕ) → SFits w (x t))
+        → (t : ℕ) (y : ℤ) → getElem? given t ≡ some y
+        → y ≡ wrap w (intVal exactOps (view s .integrators) (held (suc (s .rate)) (combVal exactOps (view s .lines) x)) t)
+    unfolding view
+    given-is x a b t y q =
+        let c = climbed (signedOps w) s f calls in
+        let F : ℕ → ℤ = intVal (signedOps w) (view s .integrators) (held (suc (s .rate)) (combVal (signedOps w) (view s .lines) x)) in
+        let enough : needed (c .steps) 0 (s .rate) ≤ length read = subst (λ d. needed (c .steps) d (s .rate) ≤ length read) e
+        (omega (arith, c .counts)) in
+        elem-seg F 0 (c .steps) t y (ap (λ l. getElem? l t) (sym (c .gave ∙ risings-are (signedOps w) s f e (c .steps) read enough x a))
+        ∙ q)
+        ∙ ap F (zero-add t)
+        ∙ rise-wraps w (suc (s .rate)) (view s .integrators) (view s .lines) x
+        (list-in w (take (s .order) (s .integrators)) (take-in w (s .order) (s .integrators) (h .integrators-in)))
+        (rows-in w (s .delay) (s .order) (s .combs) (h .combs-in)) b t
 
-  pub raised-sound : refusal (ends (lifts (signedOps w)) s calls) ≡ 0
-  raised-sound =
-      let t : State ℤ = ends (lifts (signedOps w)) s calls in
-      accepted t (climbed-fit (signedOps w) s t f read given (climbed (signedOps w) s f calls))
+    pub raised-sound : refusal (afterCalls (lifts (signedOps w)) s calls) ≡ 0
+    raised-sound =
+        let t : State ℤ = afterCalls (lifts (signedOps w)) s calls in
+        accepted t (climbed-fit (signedOps w) s t f read given (climbed (signedOps w) s f calls))
 
 -- from zero
 pub interpolates-zero : (w : Width) (N M r : ℕ) → Sound N M r 0 0 → Interpolator w N M r (zeroed (signedOps w) N M r)
@@ -70,7 +73,8 @@ interpolates-zero w N M r q calls =
         counts = read-count w s f refl (zero-contents w) calls;
         sums = λ t y e. given-is w s f refl (zero-contents w) calls x (λ i l. refl) b t y e
             ∙ ap (λ (F : ℕ → ℤ). wrap w (F t))
-            (ap₂ (λ is ls. intVal exactOps is (held (suc r) (combVal exactOps ls x))) (zeroed-integrators (signedOps w) N M r q) (zeroed-lines (signedOps w) N M r q)
+            (ap₂ (λ is ls. intVal exactOps is (held (suc r) (combVal exactOps ls x))) (zeroed-integrators (signedOps w) N M r q)
+            (zeroed-lines (signedOps w) N M r q)
             ∙ rises-from-zero exactOps exactLaws N M r x);
       },
     )

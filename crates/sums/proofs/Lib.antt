@@ -18,6 +18,13 @@ pub mod Carried
 pub mod Settling
 pub mod Makers
 pub mod Alone
+pub mod Lent
+pub mod LentSteps
+pub mod LentStretches
+pub mod LentRuns
+pub mod Levels
+pub mod Lines
+pub mod Numbers
 pub mod Rising
 pub mod Interpolating
 pub mod Constant

@@ -8,7 +8,8 @@ use native.Mathlib.Omega.{arith}
 use native.Mathlib.Nat.{add-zero, zero-add, add-suc}
 use native.Mathlib.Numerals.{add-one}
 use lib.ListN.{length, getD, take, drop, set, length-take, length-drop, length-append, take-append-drop}
-use lib.Seq.{take-suc, drop-cons, set-at, getD-at, length-take-le, take-append-add, drop-append-add, append-snoc, getD-append-add, getD-drop, getD-take}
+use lib.Seq.{take-suc, drop-cons, set-at, getD-at, length-take-le, take-append-add, drop-append-add, append-snoc, getD-append-add}
+use lib.Seq.{getD-drop, getD-take}
 use Rattle.sums.specs.Ops.{Ops}
 use Rattle.sums.specs.Machine.{pushed, integrated, summed, less, combed, differed}
 use Rattle.sums.specs.State.{rows, putRows}
@@ -184,7 +185,8 @@ module _ {A : Type 0} (o : Ops A) (M : ℕ) where
     part-suc : (j : ℕ) (c : List A) (v : A) → partCells o M (suc j) c v ≡ first c v ++ partCells o M j (drop 8 c) (less o (take M c) v)
     unfolding rows putRows combed first
     part-suc j c v =
-        sym (append-assoc (pushed (take M c) v) (drop M (take 8 c)) (putRows M (combed o (rows M j (drop 8 c)) (less o (take M c) v)) (drop 8 c)))
+        sym (append-assoc (pushed (take M c) v) (drop M (take 8 c))
+        (putRows M (combed o (rows M j (drop 8 c)) (less o (take M c) v)) (drop 8 c)))
 
     pub cells-length : (j : ℕ) (c : List A) (v : A) → j * 8 ≤ length c → length (partCells o M j c v) ≡ length c
     unfolding rows putRows combed
@@ -192,7 +194,12 @@ module _ {A : Type 0} (o : Ops A) (M : ℕ) where
     cells-length (suc j) c v h =
         ap length (part-suc j c v)
         ∙ length-append (first c v) (partCells o M j (drop 8 c) (less o (take M c) v))
-        ∙ omega (arith, first-length c v (omega arith), length-drop 8 c, cells-length j (drop 8 c) (less o (take M c) v) (rw length-drop (omega arith)))
+        ∙ omega (
+          arith,
+          first-length c v (omega arith),
+          length-drop 8 c,
+          cells-length j (drop 8 c) (less o (take M c) v) (rw length-drop (omega arith)),
+        )
 
     take-past : (q r : List A) (n : ℕ) → length q ≡ 8 → take (8 + n) (q ++ r) ≡ q ++ take n r
     take-past q r n e = subst (λ k. take (k + n) (q ++ r) ≡ q ++ take n r) e (take-append-add q r n)

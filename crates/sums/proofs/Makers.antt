@@ -14,7 +14,8 @@ use Rattle.sums.specs.Signed.{signedOps, exactOps}
 use Rattle.sums.specs.Machine.{Machine}
 use Rattle.sums.specs.Moving.{moving}
 use Rattle.sums.specs.State.{State, rows, view, refusal, zeroed}
-use Rattle.sums.specs.Calls.{newNumber, resumeNumber, rateNumber, newState, resumeState, rateState, clearState, settledAt, settleState}
+use Rattle.sums.specs.Calls.{newNumber, resumeNumber, rateNumber, newState, resumeState, rateState, clearState, settledAt}
+use Rattle.sums.specs.Calls.{settleState}
 use Rattle.sums.specs.Runs.{outputs}
 use Rattle.sums.specs.Demands.{input, InWord, Contents, Decimates}
 use Rattle.sums.proofs.Refusals.{Sound, sound}
@@ -65,7 +66,8 @@ module _ {A : Type 0} (o : Ops A) where
   unfolding clearState
   clear-is s e = rw e
 
-  pub resume-is : (N M r c : ℕ) (is ks : List A) (h : A) → resumeNumber N M r c ≡ 0 → resumeState o N M r is ks h c ≡ packed N M r c (N * M) h is ks
+  pub resume-is : (N M r c : ℕ) (is ks : List A) (h : A) → resumeNumber N M r c ≡ 0 → resumeState o N M r is ks h c
+      ≡ packed N M r c (N * M) h is ks
   unfolding resumeState
   resume-is N M r c is ks h e = rw e
 
@@ -88,7 +90,8 @@ resume-sound N M r c e =
     let q = sound N M r c 0 e in
     record { few = q .few; some = q .some; short = q .short; slow = q .slow; near = q .near; owed = omega arith }
 
-pub rate-sound : {A : Type 0} (s : State A) (r : ℕ) → rateNumber s r ≡ 0 → Sound (s .order) (s .delay) r (s .countdown) (s .order * s .delay)
+pub rate-sound : {A : Type 0} (s : State A) (r : ℕ) → rateNumber s r ≡ 0
+    → Sound (s .order) (s .delay) r (s .countdown) (s .order * s .delay)
 rate-sound s r e =
     let q = sound (s .order) (s .delay) (max (s .rate) r) (s .countdown) (s .unsettled) e in
     record { few = q .few; some = q .some; short = q .short; slow = omega (arith, q .slow); near = q .near; owed = omega arith }
@@ -125,14 +128,17 @@ zero-contents w = record {
 }
 
 -- from zero every output is the moving sum
-zero-output : (N M : ℕ) (s : Machine ℤ) → s .countdown ≡ 0 → s .integrators ≡ replicate N (pos 0) → s .lines ≡ replicate N (replicate M (pos 0))
+zero-output : (N M : ℕ) (s : Machine ℤ) → s .countdown ≡ 0 → s .integrators ≡ replicate N (pos 0) → s .lines
+    ≡ replicate N (replicate M (pos 0))
     → (x : ℕ → ℤ) (k : ℕ) → output exactOps s x k ≡ moving exactOps (suc (s .rate) * M) N x (0 + k * suc (s .rate))
 unfolding output slow
-zero-output N M s ec ei el x k = rw (ec, ei, el) (falls-from-zero exactOps exactLaws N M (s .rate) x k ∙ ap (moving exactOps (suc (s .rate) * M) N x) (sym (zero-add (k * suc (s .rate)))))
+zero-output N M s ec ei el x k = rw (ec, ei, el) (falls-from-zero exactOps exactLaws N M (s .rate) x k
+    ∙ ap (moving exactOps (suc (s .rate) * M) N x) (sym (zero-add (k * suc (s .rate)))))
 
 pub decimates-zero : (w : Width) (N M r : ℕ) → Sound N M r 0 0 → (xs : List ℤ) → InWord w xs
     → Decimates w N M r 0 0 xs (outputs (signedOps w) (zeroed (signedOps w) N M r) xs)
 unfolding zeroed view
 decimates-zero w N M r q xs b =
     decimates w (zeroed (signedOps w) N M r) (zeroed-fit (signedOps w) N M r q) (zero-contents w) xs b
-    (λ k l. zero-output N M (view (zeroed (signedOps w) N M r)) refl (zeroed-integrators (signedOps w) N M r q) (zeroed-lines (signedOps w) N M r q) (input xs) k)
+    (λ k l. zero-output N M (view (zeroed (signedOps w) N M r)) refl (zeroed-integrators (signedOps w) N M r q)
+    (zeroed-lines (signedOps w) N M r q) (input xs) k)

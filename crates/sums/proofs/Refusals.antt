@@ -6,7 +6,7 @@ use native.Mathlib.Omega.{arith}
 use lib.Dec.{ltb, eqb, eqb·suc-zero}
 use borrow.Author.Tests.{ltb-false, eqb-false, le-ltb, ne-eqb}
 use Rattle.sums.specs.State.{State, refusalOf, refusal}
-use Rattle.sums.specs.Calls.{unless}
+use Rattle.blocks.specs.Blocks.{unless}
 
 pub record Sound (order delay rate countdown unsettled : ℕ) : Type 0 where
   pub few : order ≤ 8
@@ -59,7 +59,14 @@ pub accepts : (o d r c u : ℕ) → Sound o d r c u → refusalOf o d r c u ≡ 
 unfolding refusalOf
 accepts o d r c u h =
     let nz : d ≡ 0 → ⊥ = λ e. omega (arith, h .some) in
-    simp (le-ltb 8 o (h .few), ne-eqb d 0 nz, le-ltb 8 d (h .short), le-ltb 65535 r (h .slow), le-ltb 65535 c (h .near), le-ltb (o * d) u (h .owed))
+    simp (
+      le-ltb 8 o (h .few),
+      ne-eqb d 0 nz,
+      le-ltb 8 d (h .short),
+      le-ltb 65535 r (h .slow),
+      le-ltb 65535 c (h .near),
+      le-ltb (o * d) u (h .owed),
+    )
 
 module _ {A : Type 0} (s : State A) where
   pub good : refusal s ≡ 0 → Good s

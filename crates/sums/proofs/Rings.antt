@@ -7,8 +7,10 @@ use Prim.Native.Nat.{ℕ, zero, suc, _+_, _-_, _*_, _<_, _≤_}
 use native.Mathlib.Nat.{add-zero}
 use native.Mathlib.Numerals.{add-one}
 use native.Mathlib.Omega.{arith}
-use lib.ListN.{length, getD, take, drop, set, length-set, length-take, length-drop, length-append, take-append-drop, List·getD-append, drop-of-length-le}
-use lib.Seq.{length-take-le, take-all, take-set-le, take-set-lt, drop-set-lt, drop-set-add, take-suc-set, set-getD, drop-drop, take-take, take-at, drop-at, drop-append-le, getD-drop, getD-take}
+use lib.ListN.{length, getD, take, drop, set, length-set, length-take, length-drop, length-append, take-append-drop, List·getD-append}
+use lib.ListN.{drop-of-length-le}
+use lib.Seq.{length-take-le, take-all, take-set-le, take-set-lt, drop-set-lt, drop-set-add, take-suc-set, set-getD, drop-drop, take-take}
+use lib.Seq.{take-at, drop-at, drop-append-le, getD-drop, getD-take}
 use Rattle.sums.specs.Ops.{Ops}
 use Rattle.sums.specs.Machine.{pushed, less, combed, differed}
 use Rattle.sums.specs.State.{rows, putRows}
@@ -37,7 +39,8 @@ module _ {A B : Type 0} (f : B → List A → List A) (g : B → List A → B) w
     seam = length-append (take (j * 8) l) row ∙ omega (arith, length-take-le (j * 8) l (omega arith), keeps)
 
     parts : k ≡ (take (j * 8) l ++ row) ++ drop 8 (drop (j * 8) l)
-    parts = e ∙ ap (λ q. take (j * 8) l ++ (row ++ q)) (sym (drop-drop 8 (j * 8) l)) ∙ sym (append-assoc (take (j * 8) l) row (drop 8 (drop (j * 8) l)))
+    parts = e ∙ ap (λ q. take (j * 8) l ++ (row ++ q)) (sym (drop-drop 8 (j * 8) l))
+        ∙ sym (append-assoc (take (j * 8) l) row (drop 8 (drop (j * 8) l)))
 
     done : take ((j + 1) * 8) k ≡ take (j * 8) l ++ row
     done = ap (take ((j + 1) * 8)) parts ∙ take-at (take (j * 8) l ++ row) (drop 8 (drop (j * 8) l)) ((j + 1) * 8) seam
@@ -45,9 +48,11 @@ module _ {A B : Type 0} (f : B → List A → List A) (g : B → List A → B) w
     rest : drop ((j + 1) * 8) k ≡ drop 8 (drop (j * 8) l)
     rest = ap (drop ((j + 1) * 8)) parts ∙ drop-at (take (j * 8) l ++ row) (drop 8 (drop (j * 8) l)) ((j + 1) * 8) seam
 
-    pub sweep-turn : take (j * 8) l ++ swept f g (n - j) x (drop (j * 8) l) ≡ take ((j + 1) * 8) k ++ swept f g (n - (j + 1)) y (drop ((j + 1) * 8) k)
+    pub sweep-turn : take (j * 8) l ++ swept f g (n - j) x (drop (j * 8) l)
+        ≡ take ((j + 1) * 8) k ++ swept f g (n - (j + 1)) y (drop ((j + 1) * 8) k)
     unfolding swept
-    sweep-turn = rw (left, done, rest, h) (sym (append-assoc (take (j * 8) l) row (swept f g (n - (j + 1)) (g x (take 8 (drop (j * 8) l))) (drop 8 (drop (j * 8) l)))))
+    sweep-turn = rw (left, done, rest, h) (sym (append-assoc (take (j * 8) l) row
+        (swept f g (n - (j + 1)) (g x (take 8 (drop (j * 8) l))) (drop 8 (drop (j * 8) l)))))
 
     pub hand-turn : handed g (n - j) x (drop (j * 8) l) ≡ handed g (n - (j + 1)) y (drop ((j + 1) * 8) k)
     unfolding handed
@@ -99,7 +104,8 @@ module _ {A : Type 0} where
 
   pub rotated-length : (k : ℕ) (l : List A) → length (rotated k l) ≡ length l
   unfolding rotated
-  rotated-length k l = length-append (drop k l) (take k l) ∙ omega (arith, ap length (take-append-drop k l), length-append (take k l) (drop k l))
+  rotated-length k l =
+      length-append (drop k l) (take k l) ∙ omega (arith, ap length (take-append-drop k l), length-append (take k l) (drop k l))
 
   module _ (k : ℕ) (l : List A) (h : k < length l) where
     pub rotated-oldest : (d : A) → getD (rotated k l) 0 d ≡ getD l k d
@@ -111,7 +117,13 @@ module _ {A : Type 0} where
     push-store : (x : A) → pushed (rotated k l) x ≡ rotated (suc k) (set l k x)
     unfolding rotated pushed
     push-store x =
-        rw (drop-append-le 1 (drop k l) (take k l) (omega (arith, length-drop k l)), drop-drop 1 k l, add-one k, drop-set-lt (suc k) l k x (omega arith), take-suc-set l k x h)
+        rw (
+          drop-append-le 1 (drop k l) (take k l) (omega (arith, length-drop k l)),
+          drop-drop 1 k l,
+          add-one k,
+          drop-set-lt (suc k) l k x (omega arith),
+          take-suc-set l k x h,
+        )
         (append-assoc (drop (suc k) l) (take k l) (x ∷ []))
 
     -- a push of its own oldest cell turns it by one
@@ -155,7 +167,8 @@ module _ {A : Type 0} (b M : ℕ) (c : List A) (fits : b + M ≤ length c) where
     pub roll-turn : k < M → (d x : A) → x ≡ getD a b d → pushedAt b M a x ≡ rolledAt b M (k + 1) c
     roll-turn h d x ex =
         let oldest : x ≡ getD (rotated k (take M (drop b c))) 0 d =
-        ex ∙ ap (λ n. getD a n d) (sym (add-zero b)) ∙ sym (getD-drop b a 0 d) ∙ sym (getD-take M (drop b a) 0 d (omega arith)) ∙ ap (λ l. getD l 0 d) here in
+        ex ∙ ap (λ n. getD a n d) (sym (add-zero b)) ∙ sym (getD-drop b a 0 d) ∙ sym (getD-take M (drop b a) 0 d (omega arith))
+        ∙ ap (λ l. getD l 0 d) here in
         rw (before, here, beyond, oldest, push-oldest k (take M (drop b c)) (omega (arith, line)) d, add-one k)
 
 -- a line turned back is its row turned back
@@ -174,8 +187,10 @@ module _ {A : Type 0} (M k n j : ℕ) (c : List A) (m : M ≤ 8) (below : j < n)
   rolled-row =
       let d : List A = drop (j * 8) c in
       let e : drop (j * 8 + M) c ≡ drop M lane ++ drop (j * 8 + 8) c =
-      sym (drop-drop M (j * 8) c) ∙ ap (drop M) (sym (take-append-drop 8 d)) ∙ drop-append-le M lane (drop 8 d) (omega (arith, whole)) ∙ ap (λ q. drop M lane ++ q) (drop-drop 8 (j * 8) c) in
-      rw (e, take-take M 8 d m) (ap (λ q. take (j * 8) c ++ q) (sym (append-assoc (rotated k (take M d)) (drop M lane) (drop (j * 8 + 8) c))))
+      sym (drop-drop M (j * 8) c) ∙ ap (drop M) (sym (take-append-drop 8 d)) ∙ drop-append-le M lane (drop 8 d) (omega (arith, whole))
+      ∙ ap (λ q. drop M lane ++ q) (drop-drop 8 (j * 8) c) in
+      rw (e, take-take M 8 d m) (ap (λ q. take (j * 8) c ++ q)
+      (sym (append-assoc (rotated k (take M d)) (drop M lane) (drop (j * 8 + 8) c))))
 
   -- a cell of a row
   pub stored-row : (x : A) → k < 8 → set c (j * 8 + k) x ≡ take (j * 8) c ++ (stored k x lane ++ drop (j * 8 + 8) c)
@@ -214,19 +229,18 @@ module _ {A : Type 0} (M : ℕ) (m : M ≤ 8) where
       (λ w. ap (λ i. turned M i n l) (w .0) ∙ turned-none n l ∙ sym (turned-round n l) ∙ ap (λ i. turned M i n l) (sym (w .1)))
       h
 
-  pub turned-length : (k n : ℕ) (l : List A) → n * 8 ≤ length l → length (turned M k n l) ≡ length l
-  unfolding swept
-  turned-length k zero l f = refl
-  turned-length k (suc n) l f =
-      length-append (rolled M k (take 8 l)) (turned M k n (drop 8 l))
-      ∙ omega (arith, rolled-length M k (suc n) 0 l m (omega arith) f, turned-length k n (drop 8 l) (rw length-drop (omega arith)), length-drop 8 l)
-
-  pub stores-length : (o : Ops A) (k n : ℕ) (x : A) (l : List A) → n * 8 ≤ length l → length (swept (stored k) (lessAt o k) n x l) ≡ length l
+  pub stores-length : (o : Ops A) (k n : ℕ) (x : A) (l : List A) → n * 8 ≤ length l → length (swept (stored k) (lessAt o k) n x l)
+      ≡ length l
   unfolding swept
   stores-length o k zero x l f = refl
   stores-length o k (suc n) x l f =
       length-append (stored k x (take 8 l)) (swept (stored k) (lessAt o k) n (lessAt o k x (take 8 l)) (drop 8 l))
-      ∙ omega (arith, stored-length M k (suc n) 0 l m (omega arith) f x, stores-length o k n (lessAt o k x (take 8 l)) (drop 8 l) (rw length-drop (omega arith)), length-drop 8 l)
+      ∙ omega (
+        arith,
+        stored-length M k (suc n) 0 l m (omega arith) f x,
+        stores-length o k n (lessAt o k x (take 8 l)) (drop 8 l) (rw length-drop (omega arith)),
+        length-drop 8 l,
+      )
 
   -- the combs on the lines are the stores in their rings
   module _ (o : Ops A) (k : ℕ) (inside : k < M) where
@@ -247,7 +261,8 @@ module _ {A : Type 0} (M : ℕ) (m : M ≤ 8) where
       lined = rotated-length k (take M r) ∙ cells
 
       t-line : take M t ≡ rotated k (take M r)
-      t-line = ap (take M) (append-assoc (rotated k (take M r)) (drop M r) (turned M k n (drop 8 l))) ∙ take-at (rotated k (take M r)) (drop M r ++ turned M k n (drop 8 l)) M lined
+      t-line = ap (take M) (append-assoc (rotated k (take M r)) (drop M r) (turned M k n (drop 8 l)))
+          ∙ take-at (rotated k (take M r)) (drop M r ++ turned M k n (drop 8 l)) M lined
 
       rolls : length (rolled M k r) ≡ 8
       rolls = rolled-length M k (suc n) 0 l m (omega arith) f
@@ -275,7 +290,8 @@ module _ {A : Type 0} (M : ℕ) (m : M ≤ 8) where
     pub ring-last : (n : ℕ) (x : A) (l : List A) → n * 8 ≤ length l → partComb o M n (turned M k n l) x ≡ handed (lessAt o k) n x l
     unfolding swept handed rows differed
     ring-last zero x l f = refl
-    ring-last (suc n) x l f = rw (t-line n l f, t-rest n l f, t-less n l f x) (ring-last n (lessAt o k x (take 8 l)) (drop 8 l) (rw length-drop (omega arith)))
+    ring-last (suc n) x l f =
+        rw (t-line n l f, t-rest n l f, t-less n l f x) (ring-last n (lessAt o k x (take 8 l)) (drop 8 l) (rw length-drop (omega arith)))
 
     pub ring-cells : (n : ℕ) (x : A) (l : List A) → n * 8 ≤ length l
         → partCells o M n (turned M k n l) x ≡ turned M (k + 1) n (swept (stored k) (lessAt o k) n x l)
@@ -284,5 +300,14 @@ module _ {A : Type 0} (M : ℕ) (m : M ≤ 8) where
     ring-cells (suc n) x l f =
         let y : A = lessAt o k x (take 8 l) in
         let q : List A = swept (stored k) (lessAt o k) n y (drop 8 l) in
-        rw (t-line n l f, t-others n l f, t-rest n l f, t-less n l f x, ring-cells n y (drop 8 l) (rw length-drop (omega arith)), s-row n l f x q, s-rest n l f x q, ← t-pushed n l f x)
+        rw (
+          t-line n l f,
+          t-others n l f,
+          t-rest n l f,
+          t-less n l f x,
+          ring-cells n y (drop 8 l) (rw length-drop (omega arith)),
+          s-row n l f x q,
+          s-rest n l f x q,
+          ← t-pushed n l f x,
+        )
         (sym (append-assoc (pushed (rotated k (take M (take 8 l))) x) (drop M (take 8 l)) (turned M (k + 1) n q)))

@@ -15,9 +15,9 @@ use lib.Seq.{length-take-le}
 use borrow.Author.Tests.{ltb-false, eq-eqb, ne-eqb}
 use Rattle.sums.specs.Ops.{Ops}
 use Rattle.sums.specs.State.{State, refusal}
-use Rattle.sums.specs.Calls.{riseNumber, riseState, risenOf}
+use Rattle.sums.specs.Calls.{riseNumber, riseState, riseGiven}
 use Rattle.sums.specs.Runs.{needed, dueSample, unread, fillNumber, fillState, risings, risenAfter}
-use Rattle.sums.specs.Demands.{along, ends, Raise, rise, fill, samples, lifts, yields}
+use Rattle.sums.specs.Demands.{along, afterCalls, Raise, rise, fill, samples, lifts, yields}
 use Rattle.sums.proofs.Steps.{Fit, accepted, down, rise-waits, rise-takes, rise-waits-fit, rise-takes-fit}
 use Rattle.sums.proofs.Counts.{needed-none, needed-wait, needed-give}
 use Rattle.sums.proofs.Fills.{risings-due, risings-wait}
@@ -59,17 +59,20 @@ module _ {A : Type 0} (o : Ops A) where
   }
 
   -- a sample is due
-  onward-due : (s : State A) → Fit s → s .countdown ≡ 0 → (k : ℕ) (x : A) (xs : List A) → Onward s (riseState o s (some x)) k (x ∷ xs) xs (risenOf o s (some x))
+  onward-due : (s : State A) → Fit s → s .countdown ≡ 0 → (k : ℕ) (x : A) (xs : List A)
+      → Onward s (riseState o s (some x)) k (x ∷ xs) xs (riseGiven o s (some x))
   onward-due s f z k x xs =
       let d = risings-due o s k (x ∷ xs) z x refl in
       record {
         outs = d .0;
         state = d .1;
-        counts = omega (arith, needed-give k (s .countdown) (s .rate) z, ap (λ q. needed k (q .countdown) (q .rate)) (rise-takes o s f x z));
+        counts =
+            omega (arith, needed-give k (s .countdown) (s .rate) z, ap (λ q. needed k (q .countdown) (q .rate)) (rise-takes o s f x z));
       }
 
   -- none is due
-  onward-wait : (s : State A) → Fit s → 0 < s .countdown → (k : ℕ) (xs : List A) → Onward s (riseState o s none) k xs xs (risenOf o s none)
+  onward-wait : (s : State A) → Fit s → 0 < s .countdown → (k : ℕ) (xs : List A)
+      → Onward s (riseState o s none) k xs xs (riseGiven o s none)
   onward-wait s f h k xs =
       let d = risings-wait o s k xs h in
       record {
@@ -79,21 +82,22 @@ module _ {A : Type 0} (o : Ops A) where
       }
 
   parts : (n : ℕ) (s : State A) → Fit s → (m : ℕ) (xs rest : List A) → length xs ≡ needed n (s .countdown) (s .rate) → Parts s n m xs rest
-  parts zero s f m xs rest e = subst (λ l. Parts s 0 m l rest) (sym (nothing xs (e ∙ needed-none (s .countdown) (s .rate)))) (parts-none s f m rest)
+  parts zero s f m xs rest e =
+      subst (λ l. Parts s 0 m l rest) (sym (nothing xs (e ∙ needed-none (s .countdown) (s .rate)))) (parts-none s f m rest)
   parts (suc n) s f m [] rest e =
       ⊎-elim
       (λ z. absurd (omega (arith, needed-give n (s .countdown) (s .rate) z)))
       (λ h. let w = onward-wait s f h in
-      parts-more s (riseState o s none) n m [] [] rest (risenOf o s none) (w n []) (w (n + m) rest)
+      parts-more s (riseState o s none) n m [] [] rest (riseGiven o s none) (w n []) (w (n + m) rest)
       (parts n (riseState o s none) (rise-waits-fit o s f h) m [] rest (omega (arith, w n [] .counts))))
       (down (s .countdown))
   parts (suc n) s f m (x ∷ xs) rest e =
       ⊎-elim
       (λ z. let d = onward-due s f z in
-      parts-more s (riseState o s (some x)) n m (x ∷ xs) xs rest (risenOf o s (some x)) (d n x xs) (d (n + m) x (xs ++ rest))
+      parts-more s (riseState o s (some x)) n m (x ∷ xs) xs rest (riseGiven o s (some x)) (d n x xs) (d (n + m) x (xs ++ rest))
       (parts n (riseState o s (some x)) (rise-takes-fit o s f x z) m xs rest (omega (arith, d n x xs .counts))))
       (λ h. let w = onward-wait s f h in
-      parts-more s (riseState o s none) n m (x ∷ xs) (x ∷ xs) rest (risenOf o s none) (w n (x ∷ xs)) (w (n + m) (x ∷ (xs ++ rest)))
+      parts-more s (riseState o s none) n m (x ∷ xs) (x ∷ xs) rest (riseGiven o s none) (w n (x ∷ xs)) (w (n + m) (x ∷ (xs ++ rest)))
       (parts n (riseState o s none) (rise-waits-fit o s f h) m (x ∷ xs) rest (omega (arith, w n (x ∷ xs) .counts))))
       (down (s .countdown))
 
@@ -127,12 +131,14 @@ module _ (o : Ops ℤ) where
   unfolding risings risenAfter
   none-climbed s = record { steps = 0; counts = sym (needed-none (s .countdown) (s .rate)); gave = refl; left = refl }
 
-  climbed-on : (s t u : State ℤ) → Fit s → (xs ys xs' ys' : List ℤ) → Climbed o s xs ys t → Climbed o t xs' ys' u → Climbed o s (xs ++ xs') (ys ++ ys') u
+  climbed-on : (s t u : State ℤ) → Fit s → (xs ys xs' ys' : List ℤ) → Climbed o s xs ys t → Climbed o t xs' ys' u
+      → Climbed o s (xs ++ xs') (ys ++ ys') u
   climbed-on s t u f xs ys xs' ys' a b =
       let p = parts o (a .steps) s f (b .steps) xs xs' (a .counts) in
       record {
         steps = a .steps + b .steps;
-        counts = length-append xs xs' ∙ ap (λ k. length xs + k) (b .counts) ∙ sym (p .counts ∙ ap (λ q. length xs + needed (b .steps) (q .countdown) (q .rate)) (sym (a .left)));
+        counts = length-append xs xs' ∙ ap (λ k. length xs + k) (b .counts)
+            ∙ sym (p .counts ∙ ap (λ q. length xs + needed (b .steps) (q .countdown) (q .rate)) (sym (a .left)));
         gave = ap₂ _++_ (a .gave) (b .gave ∙ ap (λ q. risings o q (b .steps) xs') (a .left)) ∙ sym (p .outs);
         left = b .left ∙ ap (λ q. risenAfter o q (b .steps) xs') (a .left) ∙ sym (p .state);
       }
@@ -178,8 +184,10 @@ module _ (o : Ops ℤ) where
         gave = sym (d .outs);
         left = sym (d .state);
       })
-  rise-climbed s f (some x) (inr h) = rw (early-number s (accepted s f) x h, stays s (some x) 20 (early-number s (accepted s f) x h)) (none-climbed s)
-  rise-climbed s f none (inl z) = rw (missing-number s (accepted s f) z, stays s none 21 (missing-number s (accepted s f) z)) (none-climbed s)
+  rise-climbed s f (some x) (inr h) =
+      rw (early-number s (accepted s f) x h, stays s (some x) 20 (early-number s (accepted s f) x h)) (none-climbed s)
+  rise-climbed s f none (inl z) =
+      rw (missing-number s (accepted s f) z, stays s none 21 (missing-number s (accepted s f) z)) (none-climbed s)
   rise-climbed s f none (inr h) =
       let d = onward-wait o s f h 0 [] in
       rw (held-number s (accepted s f) h)
@@ -195,11 +203,12 @@ module _ (o : Ops ℤ) where
   one s f (fill xs out) = fill-climbed s f xs out (ltb (length xs) (needed (length out) (s .countdown) (s .rate))) refl
 
   pub climbed : (s : State ℤ) → Fit s → (calls : List Raise)
-      → Climbed o s (along (lifts o) samples s calls) (along (lifts o) (yields o) s calls) (ends (lifts o) s calls)
-  unfolding along ends
+      → Climbed o s (along (lifts o) samples s calls) (along (lifts o) (yields o) s calls) (afterCalls (lifts o) s calls)
+  unfolding along afterCalls
   climbed s f [] = none-climbed s
   climbed s f (c ∷ cs) =
       let a = one s f c in
       let t : State ℤ = lifts o s c in
-      climbed-on s t (ends (lifts o) t cs) f (samples s c) (yields o s c) (along (lifts o) samples t cs) (along (lifts o) (yields o) t cs) a
+      climbed-on s t (afterCalls (lifts o) t cs) f (samples s c) (yields o s c) (along (lifts o) samples t cs)
+      (along (lifts o) (yields o) t cs) a
       (climbed t (climbed-fit s t f (samples s c) (yields o s c) a) cs)

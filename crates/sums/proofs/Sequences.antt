@@ -19,7 +19,8 @@ iter-out F zero f = refl
 iter-out F (suc n) f = iter-out F n (F f)
 
 -- what goes from F to K goes from F applied n times to K applied n times
-pub iter-across : {X Y : Type 0} (F : X → X) (K : Y → Y) (H : X → Y) → ((f : X) → H (F f) ≡ K (H f)) → (n : ℕ) (f : X) → H (iter F n f) ≡ iter K n (H f)
+pub iter-across : {X Y : Type 0} (F : X → X) (K : Y → Y) (H : X → Y) → ((f : X) → H (F f) ≡ K (H f)) → (n : ℕ) (f : X) → H (iter F n f)
+    ≡ iter K n (H f)
 unfolding iter
 iter-across F K H e zero f = refl
 iter-across F K H e (suc n) f = iter-across F K H e n (F f) ∙ ap (iter K n) (e f)

@@ -58,7 +58,8 @@ elem-seg f n (suc m) (suc k) y e = elem-seg f (suc n) m k y e ∙ ap f (omega ar
 
 module _ (w : Width) (s : State ℤ) (f : Fit s) (h : Contents w (s .integrators) (s .combs)) (xs : List ℤ) (b : InWord w xs) where
   -- output k over words is the wrapped output k over the whole numbers
-  pub value-is : (k : ℕ) (y : Output ℤ) → getElem? (outputs (signedOps w) s xs) k ≡ some y → y .value ≡ wrap w (output exactOps (view s) (input xs) k)
+  pub value-is : (k : ℕ) (y : Output ℤ) → getElem? (outputs (signedOps w) s xs) k ≡ some y → y .value
+      ≡ wrap w (output exactOps (view s) (input xs) k)
   unfolding outcome view
   value-is k y e =
       let is : y ≡ outcome (signedOps w) (view s) (input xs) (0 + k) =
@@ -72,7 +73,8 @@ module _ (w : Width) (s : State ℤ) (f : Fit s) (h : Contents w (s .integrators
 
   -- what is left to show is that settled outputs over the whole numbers are the moving sum
   pub decimates : ((k : ℕ) → s .unsettled ≤ k
-      → output exactOps (view s) (input xs) k ≡ moving exactOps (suc (s .rate) * s .delay) (s .order) (input xs) (s .countdown + k * suc (s .rate)))
+      → output exactOps (view s) (input xs) k ≡ moving exactOps (suc (s .rate) * s .delay) (s .order) (input xs)
+      (s .countdown + k * suc (s .rate)))
       → Decimates w (s .order) (s .delay) (s .rate) (s .countdown) (s .unsettled) xs (outputs (signedOps w) s xs)
   decimates settled =
       let marks : (k : ℕ) (y : Output ℤ) → getElem? (outputs (signedOps w) s xs) k ≡ some y → y .settled ≡ leb (s .unsettled) k =
@@ -89,4 +91,5 @@ module _ (w : Width) (s : State ℤ) (f : Fit s) (h : Contents w (s .integrators
       → Decimates w (s .order) (s .delay) (s .rate) (s .countdown) (s .unsettled) xs (outputs (signedOps w) s xs)
   unfolding view
   decimates-settled enough =
-      decimates (λ k l. output-settled exactOps exactLaws (s .order) (s .delay) (view s) (view-shaped s (room s f)) (input xs) k (omega arith))
+      decimates (λ k l. output-settled exactOps exactLaws (s .order) (s .delay) (view s) (view-shaped s (room s f)) (input xs) k
+      (omega arith))

@@ -5,7 +5,8 @@ use Prim.Native.Nat.{ℕ, zero, suc, _<_}
 use native.Mathlib.Omega.{arith}
 use lib.ListN.{length, length-append}
 use Rattle.sums.specs.Ops.{Ops}
-use Rattle.sums.specs.Machine.{Machine, pushed, integrated, summed, less, combed, differed, decimatedAt, decimated, interpolatedAt, interpolated}
+use Rattle.sums.specs.Machine.{Machine, pushed, integrated, summed, less, combed, differed, decimatedAt, decimated, interpolatedAt}
+use Rattle.sums.specs.Machine.{interpolated}
 
 -- each line has M cells
 abbrev pub Lines : {A : Type 0} → ℕ → List (List A) → Type 0
@@ -46,7 +47,8 @@ module _ {A : Type 0} (o : Ops A) where
       lines-order = combed-length (s .lines) (summed o (s .integrators) x) ∙ h .lines-order;
       delay = combed-lines M (s .lines) (summed o (s .integrators) x) c (h .delay);
     }
-    decimatedAt-shaped (suc n) = record { order = integrated-length (s .integrators) x ∙ h .order; lines-order = h .lines-order; delay = h .delay }
+    decimatedAt-shaped (suc n) =
+        record { order = integrated-length (s .integrators) x ∙ h .order; lines-order = h .lines-order; delay = h .delay }
 
     pub decimated-shaped : Shaped N M (decimated o s x)
     unfolding decimated
@@ -59,7 +61,8 @@ module _ {A : Type 0} (o : Ops A) where
       lines-order = combed-length (s .lines) x ∙ h .lines-order;
       delay = combed-lines M (s .lines) x c (h .delay);
     }
-    interpolatedAt-shaped (suc n) = record { order = integrated-length (s .integrators) (s .hold) ∙ h .order; lines-order = h .lines-order; delay = h .delay }
+    interpolatedAt-shaped (suc n) =
+        record { order = integrated-length (s .integrators) (s .hold) ∙ h .order; lines-order = h .lines-order; delay = h .delay }
 
     pub interpolated-shaped : Shaped N M (interpolated o s x)
     unfolding interpolated

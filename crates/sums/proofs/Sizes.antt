@@ -17,7 +17,7 @@ use Rattle.words.proofs.Reading.{wrap-is}
 use Rattle.sums.specs.Signed.{exactOps}
 use Rattle.sums.specs.Moving.{last, moving}
 use Rattle.sums.specs.State.{State, refusal}
-use Rattle.sums.specs.Calls.{gain, bitLength, gainLog2, fitNumber, fits}
+use Rattle.sums.specs.Calls.{gain, gainOf, bitLength, gainLog2, gainLog2Of, fitNumber, fitNumberOf, fits, fitsOf}
 use Rattle.sums.proofs.Refusals.{Good, good, passed, first, both-zero}
 
 -- mag z < B says that z lies in - B .. B - 1
@@ -85,7 +85,7 @@ module _ {A : Type 0} (s : State A) (q : Good s) where
       omega (arith, length-pos)
 
   pub gain-bound : gain s ≤ 2 ^ gainLog2 s
-  unfolding gain gainLog2
+  unfolding gainOf gainLog2Of
   gain-bound =
       subst (λ n. L ^ s .order ≤ n) (pow-pow (bitLength 64 (L - 1)) (s .order)) (pow-le-pow-left length-bound (s .order))
 
@@ -98,7 +98,7 @@ half-bits w128 = refl
 
 -- what an accepted question of fit is about
 fit-asked : {A : Type 0} (s : State A) (width b : ℕ) → fitNumber s width b ≡ 0 → (refusal s ≡ 0) × (1 ≤ b)
-unfolding fitNumber
+unfolding fitNumberOf
 fit-asked s width b e =
     let z = both-zero (refusal s) (cond (eqb b 0 || ltb width b) 17 0) e in
     let nz : b ≡ 0 → ⊥ = eqb-false b 0 (first (eqb b 0) (ltb width b) (passed (eqb b 0 || ltb width b) 16 0 (z .1))) in
@@ -107,11 +107,12 @@ fit-asked s width b e =
 pub fit-sound : {A : Type 0} (w : Width) (s : State A) (b : ℕ) → fitNumber s (bits w) b ≡ 0 → fits s (bits w) b ≡ true
     → (x : ℕ → ℤ) → ((t : ℕ) → mag (x t) < 2 ^ (b - 1)) → (t : ℕ)
     → wrap w (moving exactOps (suc (s .rate) * s .delay) (s .order) x t) ≡ moving exactOps (suc (s .rate) * s .delay) (s .order) x t
-unfolding fits gain
+unfolding fitsOf gainOf
 fit-sound w s b e y x h t =
     let a = fit-asked s (bits w) b e in
     let q = good s (a .0) in
     let room : gainLog2 s + (b - 1) ≤ hbits w = omega (arith, leb-true (b + gainLog2 s) (bits w) y, half-bits w, a .1) in
     let product : gain s * 2 ^ (b - 1) ≤ 2 ^ gainLog2 s * 2 ^ (b - 1) = mul-le-mul-right (2 ^ (b - 1)) (gain-bound s q) in
-    let total : 2 ^ gainLog2 s * 2 ^ (b - 1) ≤ 2 ^ hbits w = subst (λ n. n ≤ 2 ^ hbits w) (pow-add 2 (gainLog2 s) (b - 1)) (pow-mono room) in
+    let total : 2 ^ gainLog2 s * 2 ^ (b - 1) ≤ 2 ^ hbits w = subst (λ n. n ≤ 2 ^ hbits w) (pow-add 2 (gainLog2 s) (b - 1))
+    (pow-mono room) in
     exact w (suc (s .rate) * s .delay) (s .order) (2 ^ (b - 1)) x (length-pos s q) h (omega (arith, product, total)) t

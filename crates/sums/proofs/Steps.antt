@@ -10,7 +10,7 @@ use lib.ListN.{length}
 use Rattle.sums.specs.Ops.{Ops}
 use Rattle.sums.specs.Machine.{Output, decimated, decimatedAt, given, givenAt, interpolated, interpolatedAt, risen, risenAt}
 use Rattle.sums.specs.State.{State, view, put, refusal}
-use Rattle.sums.specs.Calls.{riseNumber, stepState, stepGiven, riseState, risenOf}
+use Rattle.sums.specs.Calls.{riseNumber, stepState, stepGiven, riseState, riseGiven}
 use Rattle.sums.proofs.Refusals.{Good, good, good-accepts}
 use Rattle.sums.proofs.Arrays.{Room, rows-back}
 use Rattle.sums.proofs.Loops.{partInts, partSum, partCells, partComb, ints-length, cells-length}
@@ -52,14 +52,16 @@ module _ {A : Type 0} (o : Ops A) (s : State A) (f : Fit s) (x : A) where
   summit = partSum o (s .order) (s .integrators) x
 
   waitsAt : (n : ℕ) → s .countdown ≡ suc n
-      → stepState o s x ≡ packed (s .order) (s .delay) (s .rate) n (s .unsettled) (s .hold) (partInts o (s .order) (s .integrators) x) (s .combs)
+      → stepState o s x ≡ packed (s .order) (s .delay) (s .rate) n (s .unsettled) (s .hold) (partInts o (s .order) (s .integrators) x)
+      (s .combs)
   unfolding stepState decimated decimatedAt view put
   waitsAt n e = rw (accepted s f, e, rows-back (s .delay) (s .order) (s .combs) (f .good .short) (combs-room s f))
 
   -- above countdown 0
   pub step-waits : 0 < s .countdown
       → stepState o s x
-      ≡ packed (s .order) (s .delay) (s .rate) (s .countdown - 1) (s .unsettled) (s .hold) (partInts o (s .order) (s .integrators) x) (s .combs)
+      ≡ packed (s .order) (s .delay) (s .rate) (s .countdown - 1) (s .unsettled) (s .hold) (partInts o (s .order) (s .integrators) x)
+      (s .combs)
   step-waits h = waitsAt (s .countdown - 1) (omega arith)
 
   pub given-waits : 0 < s .countdown → stepGiven o s x ≡ none
@@ -80,7 +82,8 @@ module _ {A : Type 0} (o : Ops A) (s : State A) (f : Fit s) (x : A) where
   given-gives e = rw (accepted s f, e)
 
   fit-waits : 0 < s .countdown
-      → Fit (packed (s .order) (s .delay) (s .rate) (s .countdown - 1) (s .unsettled) (s .hold) (partInts o (s .order) (s .integrators) x) (s .combs))
+      → Fit (packed (s .order) (s .delay) (s .rate) (s .countdown - 1) (s .unsettled) (s .hold)
+      (partInts o (s .order) (s .integrators) x) (s .combs))
   fit-waits h =
       let g = f .good in record {
         good = record { few = g .few; some = g .some; short = g .short; slow = g .slow; near = omega (arith, g .near); owed = g .owed };
@@ -122,7 +125,8 @@ module _ {A : Type 0} (o : Ops A) (s : State A) (f : Fit s) (x : A) (is : List A
 
   pub turn-gives : s .countdown ≡ 0 → (v y : A) (u : ℕ) (ks : List A) → v ≡ partSum o (s .order) (s .integrators) x
       → y ≡ partComb o (s .delay) (s .order) (s .combs) v → ks ≡ partCells o (s .delay) (s .order) (s .combs) v → u ≡ s .unsettled - 1
-      → Turn o s x (packed (s .order) (s .delay) (s .rate) (s .rate) u y is ks) (some (record { value = y; settled = eqb (s .unsettled) 0 }))
+      → Turn o s x (packed (s .order) (s .delay) (s .rate) (s .rate) u y is ks)
+      (some (record { value = y; settled = eqb (s .unsettled) 0 }))
   turn-gives c v y u ks ev ey ek eu =
       let e : packed (s .order) (s .delay) (s .rate) (s .rate) u y is ks ≡ stepState o s x =
       rw (ei, ey, ek, eu, ev) (sym (step-gives o s f x c)) in
@@ -131,18 +135,20 @@ module _ {A : Type 0} (o : Ops A) (s : State A) (f : Fit s) (x : A) (is : List A
 -- the interpolator's steps
 module _ {A : Type 0} (o : Ops A) (s : State A) (f : Fit s) where
   riseAt : (n : ℕ) → s .countdown ≡ suc n
-      → riseState o s none ≡ packed (s .order) (s .delay) (s .rate) n (s .unsettled) (s .hold) (partInts o (s .order) (s .integrators) (s .hold)) (s .combs)
+      → riseState o s none ≡ packed (s .order) (s .delay) (s .rate) n (s .unsettled) (s .hold)
+      (partInts o (s .order) (s .integrators) (s .hold)) (s .combs)
   unfolding riseState riseNumber interpolated interpolatedAt view put
   riseAt n e = rw (accepted s f, e, eqb·suc-zero n, rows-back (s .delay) (s .order) (s .combs) (f .good .short) (combs-room s f))
 
   -- above countdown 0, with no sample
   pub rise-waits : 0 < s .countdown
       → riseState o s none
-      ≡ packed (s .order) (s .delay) (s .rate) (s .countdown - 1) (s .unsettled) (s .hold) (partInts o (s .order) (s .integrators) (s .hold)) (s .combs)
+      ≡ packed (s .order) (s .delay) (s .rate) (s .countdown - 1) (s .unsettled) (s .hold)
+      (partInts o (s .order) (s .integrators) (s .hold)) (s .combs)
   rise-waits h = riseAt (s .countdown - 1) (omega arith)
 
-  pub risen-waits : 0 < s .countdown → risenOf o s none ≡ partSum o (s .order) (s .integrators) (s .hold)
-  unfolding risenOf risen risenAt view
+  pub risen-waits : 0 < s .countdown → riseGiven o s none ≡ partSum o (s .order) (s .integrators) (s .hold)
+  unfolding riseGiven risen risenAt view
   risen-waits h = let e : s .countdown ≡ suc (s .countdown - 1) = omega arith in rw e
 
   module _ (x : A) where
@@ -153,12 +159,13 @@ module _ {A : Type 0} (o : Ops A) (s : State A) (f : Fit s) where
     -- at countdown 0, with the sample x
     pub rise-takes : s .countdown ≡ 0
         → riseState o s (some x)
-        ≡ packed (s .order) (s .delay) (s .rate) (s .rate) (s .unsettled) lowest (partInts o (s .order) (s .integrators) lowest) (partCells o (s .delay) (s .order) (s .combs) x)
+        ≡ packed (s .order) (s .delay) (s .rate) (s .rate) (s .unsettled) lowest (partInts o (s .order) (s .integrators) lowest)
+        (partCells o (s .delay) (s .order) (s .combs) x)
     unfolding riseState riseNumber interpolated interpolatedAt view put
     rise-takes e = rw (accepted s f, e)
 
-    pub risen-takes : s .countdown ≡ 0 → risenOf o s (some x) ≡ partSum o (s .order) (s .integrators) lowest
-    unfolding risenOf risen risenAt view
+    pub risen-takes : s .countdown ≡ 0 → riseGiven o s (some x) ≡ partSum o (s .order) (s .integrators) lowest
+    unfolding riseGiven risen risenAt view
     risen-takes e = rw e
 
   -- a step ends in an accepted state
@@ -181,7 +188,7 @@ module _ {A : Type 0} (o : Ops A) (s : State A) (f : Fit s) where
 -- t and y are what an interpolator's step of s on a sample or none leaves and gives, and t is accepted again
 pub record Rise {A : Type 0} (o : Ops A) (s : State A) (x : Option A) (t : State A) (y : A) : Type 0 where
   pub state : t ≡ riseState o s x
-  pub out : y ≡ risenOf o s x
+  pub out : y ≡ riseGiven o s x
   pub fit : Fit t
 
 module _ {A : Type 0} (o : Ops A) (s : State A) (f : Fit s) where

@@ -8,7 +8,8 @@ use native.Mathlib.Numerals.{add-one}
 use native.Mathlib.Omega.{arith}
 use lib.Dec.{eqb}
 use lib.ListN.{length, getD, take, drop, set, replicate, take-append-drop}
-use lib.Seq.{slice, slice-cons, slice-empty, length-slice, length-take-le, drop-append-le, drop-cons, take-suc, take-suc-set, drop-set-lt, append-snoc}
+use lib.Seq.{slice, slice-cons, slice-empty, length-slice, length-take-le, drop-append-le, drop-cons, take-suc, take-suc-set, drop-set-lt}
+use lib.Seq.{append-snoc}
 use Rattle.sums.specs.Ops.{Ops}
 use Rattle.sums.specs.Machine.{integrated, summed}
 use Rattle.sums.specs.State.{State}
@@ -66,7 +67,8 @@ module _ {A : Type 0} (o : Ops A) (n : ℕ) where
 
     pub climb-wrote : to ≤ length out
         → take i out ++ (tops o n (replicate (to - i) x) l ++ drop to out)
-        ≡ take (i + 1) (set out i (partSum o n l x)) ++ (tops o n (replicate (to - (i + 1)) x) (partInts o n l x) ++ drop to (set out i (partSum o n l x)))
+        ≡ take (i + 1) (set out i (partSum o n l x))
+        ++ (tops o n (replicate (to - (i + 1)) x) (partInts o n l x) ++ drop to (set out i (partSum o n l x)))
     unfolding tops
     climb-wrote b =
         rw (more, add-one i, take-suc-set out i (partSum o n l x) (omega arith), drop-set-lt to out i (partSum o n l x) h)
@@ -99,7 +101,8 @@ module _ {A : Type 0} (o : Ops A) (n : ℕ) where
       → ran o n (slice i (j + 1) xs) l ≡ partInts o n (ran o n (slice i j xs) l) (getD xs j (o .nil))
   ran-more i j xs l h k = ap (λ q. ran o n q l) (slice-snoc i j xs h k) ∙ ran-snoc (getD xs j (o .nil)) (slice i j xs) l
 
-last-of : {A : Type 0} (o : Ops A) (n : ℕ) (x : A) (l k : List A) → n ≤ length l → lastOf o n x (integrated o (take n l) x ++ k) ≡ summed o (take n l) x
+last-of : {A : Type 0} (o : Ops A) (n : ℕ) (x : A) (l k : List A) → n ≤ length l → lastOf o n x (integrated o (take n l) x ++ k)
+    ≡ summed o (take n l) x
 unfolding lastOf integrated summed
 last-of o zero x l k h = refl
 last-of o (suc n) x [] k h = absurd (omega arith)
@@ -124,7 +127,8 @@ parted i j xs h k =
 module _ {A : Type 0} (o : Ops A) where
   -- the state after inputs that give nothing
   abbrev waited : State A → List A → State A
-  waited s ys = packed (s .order) (s .delay) (s .rate) (s .countdown - length ys) (s .unsettled) (s .hold) (ran o (s .order) ys (s .integrators)) (s .combs)
+  waited s ys = packed (s .order) (s .delay) (s .rate) (s .countdown - length ys) (s .unsettled) (s .hold)
+      (ran o (s .order) ys (s .integrators)) (s .combs)
 
   record Quiet (s t : State A) (ys zs : List A) : Type 0 where
     pub states : after o s (ys ++ zs) ≡ after o t zs
@@ -136,7 +140,8 @@ module _ {A : Type 0} (o : Ops A) where
   waits s [] zs f h =
       let e : s .countdown - 0 ≡ s .countdown = omega arith in record { states = rw e; outs = rw e; fit = rw e f }
   waits s (y ∷ ys) zs f h =
-      let w : State A = packed (s .order) (s .delay) (s .rate) (s .countdown - 1) (s .unsettled) (s .hold) (partInts o (s .order) (s .integrators) y) (s .combs) in
+      let w : State A = packed (s .order) (s .delay) (s .rate) (s .countdown - 1) (s .unsettled) (s .hold)
+      (partInts o (s .order) (s .integrators) y) (s .combs) in
       let st : stepState o s y ≡ w = step-waits o s f y (omega arith) in
       let q : Quiet w (waited w ys) ys zs = waits w ys zs (subst (λ t. Fit t) st (step-fit o s f y)) (omega arith) in
       let e : s .countdown - suc (length ys) ≡ s .countdown - 1 - length ys = omega arith in
@@ -188,12 +193,14 @@ module _ {A : Type 0} (o : Ops A) (xs : List A) (i : ℕ) (s : State A) (f : Fit
     pub jump-gives : (is : List A) → is ≡ ran o (s .order) (slice i (e + 1) xs) (s .integrators)
         → (v y : A) (u : ℕ) (ks : List A) → v ≡ lastOf o (s .order) x is
         → y ≡ partComb o (s .delay) (s .order) (s .combs) v → ks ≡ partCells o (s .delay) (s .order) (s .combs) v → u ≡ s .unsettled - 1
-        → Jump o xs s i (packed (s .order) (s .delay) (s .rate) (s .rate) u y is ks) (some (record { value = y; settled = eqb (s .unsettled) 0 })) (e + 1)
+        → Jump o xs s i (packed (s .order) (s .delay) (s .rate) (s .rate) u y is ks)
+        (some (record { value = y; settled = eqb (s .unsettled) 0 })) (e + 1)
     unfolding after outputs
     jump-gives is ei v y u ks ev ey ek eu =
         let h = waits o s ys (x ∷ drop (e + 1) xs) f (omega (arith, spent)) in
         let ri : is ≡ partInts o (s .order) (w .integrators) x = ei ∙ ran-more o (s .order) i e xs (s .integrators) (omega arith) q in
-        let rv : v ≡ partSum o (s .order) (w .integrators) x = ev ∙ ap (lastOf o (s .order) x) ri ∙ last-is o (s .order) x (w .integrators) (ints-room w (h .fit)) in
+        let rv : v ≡ partSum o (s .order) (w .integrators) x = ev ∙ ap (lastOf o (s .order) x) ri
+        ∙ last-is o (s .order) x (w .integrators) (ints-room w (h .fit)) in
         let z : w .countdown ≡ 0 = omega (arith, spent) in
         let tr = turn-gives o w (h .fit) x is ri z v y u ks rv ey ek eu in
         record {

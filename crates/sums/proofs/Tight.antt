@@ -67,7 +67,8 @@ unfolding iter
 lones M zero j f m p l = rw (zero-add j) l
 lones M (suc n) j f m p l =
     let e : n + suc j ≡ suc n + j = omega arith in
-    subst (λ k. Lone M k (iter (lagz exactOps M) n (lagz exactOps M f))) e (lones M n (suc j) (lagz exactOps M f) m (omega arith) (lone-on M j f m p l))
+    subst (λ k. Lone M k (iter (lagz exactOps M) n (lagz exactOps M f))) e
+    (lones M n (suc j) (lagz exactOps M f) m (omega arith) (lone-on M j f m p l))
 
 -- the first line: zeros, then 1
 abbrev line : ℕ → List ℤ
@@ -169,9 +170,11 @@ module _ (w : Width) (n m r c : ℕ) (e : resumeNumber (suc n) (suc m) r c ≡ 0
   holds : Contents w (replicate 8 (pos 0)) cells
   holds = record {
     long8 = refl;
-    long64 = length-append (line m) (replicate (64 - suc m) (pos 0)) ∙ ap₂ _+_ (line-length m) (length-replicate (64 - suc m) (pos 0)) ∙ omega (arith, q .short);
+    long64 = length-append (line m) (replicate (64 - suc m) (pos 0)) ∙ ap₂ _+_ (line-length m) (length-replicate (64 - suc m) (pos 0))
+        ∙ omega (arith, q .short);
     integrators-in = replicate-in w 8 (pos 0) (nil-in w);
-    combs-in = append-in w (line m) (replicate (64 - suc m) (pos 0)) (append-in w (replicate m (pos 0)) (pos 1 ∷ []) (replicate-in w m (pos 0) (nil-in w)) one-only)
+    combs-in = append-in w (line m) (replicate (64 - suc m) (pos 0))
+        (append-in w (replicate m (pos 0)) (pos 1 ∷ []) (replicate-in w m (pos 0) (nil-in w)) one-only)
         (replicate-in w (64 - suc m) (pos 0) (nil-in w));
   }
     where
@@ -188,13 +191,15 @@ module _ (w : Width) (n m r c : ℕ) (e : resumeNumber (suc n) (suc m) r c ≡ 0
   out-is : output exactOps (view s) (input xs) k ≡ combVal exactOps (line m ∷ replicate n (replicate (suc m) (pos 0))) (λ i. pos 0) k
   unfolding output slow view down
   out-is =
-      ap (λ x. combVal exactOps (rows (suc m) (suc n) cells) (λ i. intVal exactOps (take (suc n) (replicate 8 (pos 0))) x (c + i * suc r)) k) quiet
+      ap (λ x. combVal exactOps (rows (suc m) (suc n) cells)
+      (λ i. intVal exactOps (take (suc n) (replicate 8 (pos 0))) x (c + i * suc r)) k) quiet
       ∙ ap₂ (λ ls (f : ℕ → ℤ). combVal exactOps ls (λ i. f (c + i * suc r)) k)
       (rows-first (suc m) n (line m) (pos 0) (line-length m) (q .short) (omega (arith, q .few)))
       (ap (λ is. intVal exactOps is (λ i. pos 0)) (take-replicate (suc n) 8 (pos 0) (q .few)) ∙ ints-none (suc n))
 
   there : k < needed (length xs) c r
-  there = ltb-true k (needed (length xs) c r) (needed-falls (length xs) c r k ∙ lt-ltb (c + k * suc r) (length xs) (rw length-replicate (omega arith)))
+  there = ltb-true k (needed (length xs) c r) (needed-falls (length xs) c r k
+      ∙ lt-ltb (c + k * suc r) (length xs) (rw length-replicate (omega arith)))
 
   pub misleads : Misleads w (suc n) (suc m) r c
   misleads = record {
@@ -207,14 +212,18 @@ module _ (w : Width) (n m r c : ℕ) (e : resumeNumber (suc n) (suc m) r c ≡ 0
     is-given = is;
     differs = λ d. one-differs w (output exactOps (view s) (input xs) k) (subst One (sym out-is) (comes-out n m))
         (sym (value-is w s fit holds xs (replicate-in w (suc (c + k * suc r)) (pos 0) (nil-in w)) k y was) ∙ d
-        ∙ ap (wrap w) (ap (λ x. moving exactOps (suc r * suc m) (suc n) x (c + k * suc r)) quiet ∙ ap (λ (f : ℕ → ℤ). f (c + k * suc r)) (moving-none (suc r * suc m) (suc n))));
+        ∙ ap (wrap w) (ap (λ x. moving exactOps (suc r * suc m) (suc n) x (c + k * suc r)) quiet
+        ∙ ap (λ (f : ℕ → ℤ). f (c + k * suc r)) (moving-none (suc r * suc m) (suc n))));
   }
     where
       y : Output ℤ
       y = outcome (signedOps w) (view s) (input xs) (0 + k)
 
       was : getElem? (outputs (signedOps w) s xs) k ≡ some y
-      was = ap (λ l. getElem? l k) (outputs-are (signedOps w) s fit xs) ∙ elem-of (outcome (signedOps w) (view s) (input xs)) 0 (needed (length xs) c r) k there
+      was = ap (λ l. getElem? l k) (outputs-are (signedOps w) s fit xs)
+          ∙ elem-of (outcome (signedOps w) (view s) (input xs)) 0 (needed (length xs) c r) k there
 
-      is : getElem? (outputs (signedOps w) (resumeState (signedOps w) (suc n) (suc m) r (replicate 8 (pos 0)) cells (pos 0) c) xs) k ≡ some y
-      is = ap (λ q. getElem? (outputs (signedOps w) q xs) k) (resume-is (signedOps w) (suc n) (suc m) r c (replicate 8 (pos 0)) cells (pos 0) e) ∙ was
+      is : getElem? (outputs (signedOps w) (resumeState (signedOps w) (suc n) (suc m) r (replicate 8 (pos 0)) cells (pos 0) c) xs) k
+          ≡ some y
+      is = ap (λ q. getElem? (outputs (signedOps w) q xs) k)
+          (resume-is (signedOps w) (suc n) (suc m) r c (replicate 8 (pos 0)) cells (pos 0) e) ∙ was

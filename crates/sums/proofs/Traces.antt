@@ -19,7 +19,8 @@ use Rattle.sums.proofs.Arrays.{view-put, view-shaped, stepped-shaped}
 use Rattle.sums.proofs.Steps.{Fit, accepted, room, step-fit}
 use Rattle.sums.proofs.Counts.{needed-none, needed-wait, needed-give}
 use Rattle.sums.proofs.Sequences.{down}
-use Rattle.sums.proofs.Cascade.{seg, combVal, linesAt, lines-start, combed-next, differed-is, intVal, intsAt, ints-begin, integrated-next, summed-is, cascade}
+use Rattle.sums.proofs.Cascade.{seg, combVal, linesAt, lines-start, combed-next, differed-is, intVal, intsAt, ints-begin}
+use Rattle.sums.proofs.Cascade.{integrated-next, summed-is, cascade}
 
 module _ {A : Type 0} (o : Ops A) where
   -- the machine's outputs
@@ -119,7 +120,8 @@ module _ {A : Type 0} (o : Ops A) where
       speaks = rw out-of-combs
 
     -- the outputs over inputs l that stand in the sequence from number t on
-    trace-from : (l : List A) (t n d : ℕ) → ((i : ℕ) → i < length l → getD l i (o .nil) ≡ x (t + i)) → t + d ≡ s .countdown + n * suc (s .rate)
+    trace-from : (l : List A) (t n d : ℕ) → ((i : ℕ) → i < length l → getD l i (o .nil) ≡ x (t + i)) → t + d
+        ≡ s .countdown + n * suc (s .rate)
         → trace (stateAt s x t n d) l ≡ seg (outcome s x) n (needed (length l) d (s .rate))
     unfolding trace seg
     trace-from [] t n d a e = rw needed-none
@@ -141,7 +143,8 @@ module _ {A : Type 0} (o : Ops A) where
   nth xs t = getD xs t (o .nil)
 
   -- the outputs of an accepted state over a list of inputs, each by its number
-  pub outputs-are : (s : State A) → Fit s → (xs : List A) → outputs o s xs ≡ seg (outcome (view s) (nth xs)) 0 (needed (length xs) (s .countdown) (s .rate))
+  pub outputs-are : (s : State A) → Fit s → (xs : List A) → outputs o s xs
+      ≡ seg (outcome (view s) (nth xs)) 0 (needed (length xs) (s .countdown) (s .rate))
   unfolding view
   outputs-are s f xs =
       let m : Machine A = view s in

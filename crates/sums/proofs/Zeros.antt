@@ -76,7 +76,8 @@ module _ {A : Type 0} (o : Ops A) where
   -- every R-th value
   late-down : (r M : ℕ) (f : ℕ → A) (k : ℕ) → late (M * suc r) f (k * suc r) ≡ late M (λ i. f (i * suc r)) k
   late-down r zero f k = ap (λ p. late p f (k * suc r)) (omega arith) ∙ late-none f (k * suc r) ∙ sym (late-none (λ i. f (i * suc r)) k)
-  late-down r (suc M) f zero = ap₂ (λ p q. late p f q) (omega arith) (omega arith) ∙ late-zero (r + M * suc r) f ∙ sym (late-zero M (λ i. f (i * suc r)))
+  late-down r (suc M) f zero =
+      ap₂ (λ p q. late p f q) (omega arith) (omega arith) ∙ late-zero (r + M * suc r) f ∙ sym (late-zero M (λ i. f (i * suc r)))
   late-down r (suc M) f (suc k) =
       ap₂ (λ p q. late p f q) (omega arith) (omega arith)
       ∙ late-add (suc r) (M * suc r) f (k * suc r)
@@ -88,7 +89,8 @@ module _ {A : Type 0} (o : Ops A) where
   lagz-down r M f =
       fun-ext
       (λ k. ap (o .sub (f (0 + k * suc r)))
-      (ap (late (M * suc r) f) (zero-add (k * suc r)) ∙ late-down r M f k ∙ ap (λ h. late M h k) (fun-ext (λ i. ap f (sym (zero-add (i * suc r)))))))
+      (ap (late (M * suc r) f) (zero-add (k * suc r)) ∙ late-down r M f k
+      ∙ ap (λ h. late M h k) (fun-ext (λ i. ap f (sym (zero-add (i * suc r)))))))
 
   -- each value R times
   rows-of : (r M : ℕ) → suc M * suc r ≡ suc r + M * suc r
@@ -154,7 +156,8 @@ module _ {A : Type 0} (o : Ops A) where
 
     last-late : (L K : ℕ) (f : ℕ → A) → last o L (late K f) ≡ late K (last o L f)
     last-late L K f =
-        ap (last o L) (late-iter K f) ∙ iter-across behind behind (last o L) (λ h. fun-ext (last-behind L h)) K f ∙ sym (late-iter K (last o L f))
+        ap (last o L) (late-iter K f) ∙ iter-across behind behind (last o L) (λ h. fun-ext (last-behind L h)) K f
+        ∙ sym (late-iter K (last o L f))
 
     last-lagz : (L K : ℕ) (f : ℕ → A) → last o L (lagz K f) ≡ lagz K (last o L f)
     unfolding lagz
@@ -174,7 +177,8 @@ module _ {A : Type 0} (o : Ops A) where
 
     -- the decimator's cascade from zero
     pub falls-from-zero : (N M r : ℕ) (x : ℕ → A) (k : ℕ)
-        → combVal o (replicate N (replicate M (o .nil))) (down (suc r) 0 (intVal o (replicate N (o .nil)) x)) k ≡ moving o (suc r * M) N x (k * suc r)
+        → combVal o (replicate N (replicate M (o .nil))) (down (suc r) 0 (intVal o (replicate N (o .nil)) x)) k
+        ≡ moving o (suc r * M) N x (k * suc r)
     unfolding down
     falls-from-zero N M r x k =
         ap (λ (h : ℕ → A). h k)
@@ -214,7 +218,8 @@ module _ {A : Type 0} (o : Ops A) where
 
     -- the interpolator's cascade from zero
     pub rises-from-zero : (N M r : ℕ) (x : ℕ → A)
-        → intVal o (replicate N (o .nil)) (held (suc r) (combVal o (replicate N (replicate M (o .nil))) x)) ≡ moving o (suc r * M) N (held (suc r) x)
+        → intVal o (replicate N (o .nil)) (held (suc r) (combVal o (replicate N (replicate M (o .nil))) x))
+        ≡ moving o (suc r * M) N (held (suc r) x)
     rises-from-zero N M r x =
         ints-iter N (held (suc r) (combVal o (replicate N (replicate M (o .nil))) x))
         ∙ ap (λ f. iter (acc o (o .nil)) N (held (suc r) f)) (combs-iter M N x)

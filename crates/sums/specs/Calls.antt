@@ -6,13 +6,10 @@ use mathlib.Core.Option.{Option, none, some}
 use Prim.Native.Nat.{ℕ, zero, suc, _+_, _-_, _*_, _/_, _^_, max}
 use lib.Dec.{ltb, leb, eqb}
 use lib.ListN.{getD, take, drop, replicate}
+use Rattle.blocks.specs.Blocks.{unless}
 use Rattle.sums.specs.Ops.{Ops, times}
 use Rattle.sums.specs.Machine.{Machine, Output, decimated, given, interpolated, risen}
 use Rattle.sums.specs.State.{State, view, put, refusalOf, refusal, zeroed, blank}
-
--- what comes of a call with this number: `done` where it is 0
-abbrev pub unless : {A : Type 0} → ℕ → A → A → A
-unless number refused done = cond (eqb number 0) done refused
 
 -- new and resume take no unsettled count, and new no countdown.
 abbrev pub newNumber : ℕ → ℕ → ℕ → ℕ
@@ -26,46 +23,44 @@ abbrev pub rateNumber : {A : Type 0} → State A → ℕ → ℕ
 rateNumber s rate = refusalOf (s .order) (s .delay) (max (s .rate) rate) (s .countdown) (s .unsettled)
 
 -- Gain is exactly (R · M) ^ N.
-unfoldable pub gain : {A : Type 0} → State A → ℕ
-gain s = (suc (s .rate) * s .delay) ^ s .order
+unfoldable pub gainOf : ℕ → ℕ → ℕ → ℕ
+gainOf order delay rate = (suc rate * delay) ^ order
+
+abbrev pub gain : {A : Type 0} → State A → ℕ
+gain s = gainOf (s .order) (s .delay) (s .rate)
 
 -- 21: the interpolator given a sample when none is due; 22: given none when one is due. A sample is due exactly at countdown 0.
 unfoldable pub riseNumber : {A : Type 0} → State A → Option A → ℕ
 riseNumber s (some x) = unless (refusal s) (refusal s) (cond (eqb (s .countdown) 0) 0 21)
 riseNumber s none = unless (refusal s) (refusal s) (cond (eqb (s .countdown) 0) 22 0)
 
+-- A state as resume makes it: order, delay, rate, all cells, hold and countdown as given; the unsettled count becomes N · M.
+abbrev pub resumed : {A : Type 0} → ℕ → ℕ → ℕ → List A → List A → A → ℕ → State A
+resumed order delay rate integrators combs hold countdown = record {
+  order = order;
+  delay = delay;
+  rate = rate;
+  countdown = countdown;
+  unsettled = order * delay;
+  hold = hold;
+  integrators = integrators;
+  combs = combs;
+}
+
 module _ {A : Type 0} (o : Ops A) where
   -- new: a new state has countdown 0 and unsettled count 0.
   unfoldable pub newState : ℕ → ℕ → ℕ → State A
   newState order delay rate = unless (newNumber order delay rate) (blank o) (zeroed o order delay rate)
 
-  -- resume: order, delay, rate, all cells, hold and countdown as given; the unsettled count becomes N · M.
+  -- resume.
   unfoldable pub resumeState : ℕ → ℕ → ℕ → List A → List A → A → ℕ → State A
   resumeState order delay rate integrators combs hold countdown =
-      unless (resumeNumber order delay rate countdown) (blank o) (record {
-        order = order;
-        delay = delay;
-        rate = rate;
-        countdown = countdown;
-        unsettled = order * delay;
-        hold = hold;
-        integrators = integrators;
-        combs = combs;
-      })
+      unless (resumeNumber order delay rate countdown) (blank o) (resumed order delay rate integrators combs hold countdown)
 
   -- set_rate keeps the old countdown; the unsettled count becomes N · M, also at the same rate.
   unfoldable pub rateState : State A → ℕ → State A
   rateState s rate =
-      unless (rateNumber s rate) s (record {
-        order = s .order;
-        delay = s .delay;
-        rate = rate;
-        countdown = s .countdown;
-        unsettled = s .order * s .delay;
-        hold = s .hold;
-        integrators = s .integrators;
-        combs = s .combs;
-      })
+      unless (rateNumber s rate) s (resumed (s .order) (s .delay) rate (s .integrators) (s .combs) (s .hold) (s .countdown))
 
   -- clear: keeps order, delay and rate and zeroes the rest, cells beyond N and M included.
   unfoldable pub clearState : State A → State A
@@ -113,8 +108,8 @@ module _ {A : Type 0} (o : Ops A) where
   riseState s x = unless (riseNumber s x) s (put s (interpolated o (view s) (sample x)))
 
   -- the output of an accepted step
-  unfoldable pub risenOf : State A → Option A → A
-  risenOf s x = risen o (view s) (sample x)
+  unfoldable pub riseGiven : State A → Option A → A
+  riseGiven s x = risen o (view s) (sample x)
 
   -- The current interpolator output is the last integrator (N = 0: the hold).
   unfoldable pub currentAt : State A → ℕ → A
@@ -127,26 +122,41 @@ bitLength zero n = zero
 bitLength (suc fuel) zero = zero
 bitLength (suc fuel) (suc n) = suc (bitLength fuel (suc n / 2))
 
+-- 14: gain above 2 ^ 63 - 1, when the gain is asked. The tests run in ascending number, so it comes before 15.
+unfoldable pub gainNumberOf : ℕ → ℕ → ℕ → ℕ → ℕ → ℕ
+gainNumberOf order delay rate countdown unsettled =
+    unless (refusalOf order delay rate countdown 0) (refusalOf order delay rate countdown 0)
+    (cond (ltb (2 ^ 63 - 1) (gainOf order delay rate)) 14 (refusalOf order delay rate countdown unsettled))
+
+-- gain_log2 is N times the bit length of R · M - 1.
+unfoldable pub gainLog2Of : ℕ → ℕ → ℕ → ℕ
+gainLog2Of order delay rate = order * bitLength 64 (suc rate * delay - 1)
+
+-- response_length is N · (R · M - 1).
+unfoldable pub responseLengthOf : ℕ → ℕ → ℕ → ℕ
+responseLengthOf order delay rate = order * (suc rate * delay - 1)
+
+-- 17: fit asked for b outside 1 .. width, of a state whose own number is k.
+unfoldable pub fitNumberOf : ℕ → ℕ → ℕ → ℕ
+fitNumberOf k width b = unless k k (cond (eqb b 0 || ltb width b) 17 0)
+
+-- Yes exactly when b + gain_log2 is at most the width.
+unfoldable pub fitsOf : ℕ → ℕ → ℕ → Bool
+fitsOf log width b = leb (b + log) width
+
+-- The same, asked of a state.
 module _ {A : Type 0} where
-  -- 14: gain above 2 ^ 63 - 1, when the gain is asked. The tests run in ascending number, so it comes before 15.
-  unfoldable pub gainNumber : State A → ℕ
-  gainNumber s =
-      unless (refusalOf (s .order) (s .delay) (s .rate) (s .countdown) 0)
-      (refusalOf (s .order) (s .delay) (s .rate) (s .countdown) 0)
-      (cond (ltb (2 ^ 63 - 1) (gain s)) 14 (refusal s))
+  abbrev pub gainNumber : State A → ℕ
+  gainNumber s = gainNumberOf (s .order) (s .delay) (s .rate) (s .countdown) (s .unsettled)
 
-  -- gain_log2 is N times the bit length of R · M - 1.
-  unfoldable pub gainLog2 : State A → ℕ
-  gainLog2 s = s .order * bitLength 64 (suc (s .rate) * s .delay - 1)
+  abbrev pub gainLog2 : State A → ℕ
+  gainLog2 s = gainLog2Of (s .order) (s .delay) (s .rate)
 
-  -- response_length is N · (R · M - 1).
-  unfoldable pub responseLength : State A → ℕ
-  responseLength s = s .order * (suc (s .rate) * s .delay - 1)
+  abbrev pub responseLength : State A → ℕ
+  responseLength s = responseLengthOf (s .order) (s .delay) (s .rate)
 
-  -- 17: fit asked for b outside 1 .. width.
-  unfoldable pub fitNumber : State A → ℕ → ℕ → ℕ
-  fitNumber s width b = unless (refusal s) (refusal s) (cond (eqb b 0 || ltb width b) 17 0)
+  abbrev pub fitNumber : State A → ℕ → ℕ → ℕ
+  fitNumber s width b = fitNumberOf (refusal s) width b
 
-  -- Yes exactly when b + gain_log2 is at most the width.
-  unfoldable pub fits : State A → ℕ → ℕ → Bool
-  fits s width b = leb (b + gainLog2 s) width
+  abbrev pub fits : State A → ℕ → ℕ → Bool
+  fits s width b = fitsOf (gainLog2 s) width b

@@ -17,7 +17,9 @@ use Rattle.sums.specs.Signed.{signedOps, exactOps}
 use Rattle.sums.specs.Machine.{Output}
 use Rattle.sums.specs.Moving.{moving, held}
 use Rattle.sums.specs.State.{State, refusal}
-use Rattle.sums.specs.Calls.{unless, newNumber, resumeNumber, rateNumber, riseNumber, newState, resumeState, rateState, clearState, settleState, stepState, stepGiven, riseState, risenOf, gain, gainLog2, fitNumber, fits}
+use Rattle.blocks.specs.Blocks.{unless}
+use Rattle.sums.specs.Calls.{newNumber, resumeNumber, rateNumber, riseNumber, newState, resumeState, rateState, clearState}
+use Rattle.sums.specs.Calls.{settleState, stepState, stepGiven, riseState, riseGiven, gain, gainLog2, fitNumber, fits}
 use Rattle.sums.specs.Runs.{needed, join, blockNumber, fillNumber, outputs, blockState, blockOut, risings, fillState, settledPart}
 
 -- A list as a sequence, number 0 first and zeros behind it; and whole numbers that all fit the word.
@@ -32,9 +34,9 @@ unfoldable pub along : {S C X : Type 0} → (S → C → S) → (S → C → Lis
 along next f s [] = []
 along next f s (c ∷ cs) = f s c ++ along next f (next s c) cs
 
-unfoldable pub ends : {S C : Type 0} → (S → C → S) → S → List C → S
-ends next s [] = s
-ends next s (c ∷ cs) = ends next (next s c) cs
+unfoldable pub afterCalls : {S C : Type 0} → (S → C → S) → S → List C → S
+afterCalls next s [] = s
+afterCalls next s (c ∷ cs) = afterCalls next (next s c) cs
 
 -- A decimator's call: a step on one input, or a block of inputs with the slice that is lent for its outputs.
 pub data Call : Type 0 where
@@ -70,7 +72,7 @@ module _ (o : Ops ℤ) where
   lifts s (fill xs out) = fillState o s xs out
 
   unfoldable pub yields : State ℤ → Raise → List ℤ
-  yields s (rise x) = unless (riseNumber s x) [] (risenOf o s x ∷ [])
+  yields s (rise x) = unless (riseNumber s x) [] (riseGiven o s x ∷ [])
   yields s (fill xs out) = unless (fillNumber s xs out) [] (risings o s (length out) xs)
 
 -- What the outputs ys are to the inputs xs, where the first output is due after c inputs and the first u aren't to be believed.
@@ -88,7 +90,7 @@ pub record Decimates (w : Width) (N M rate c u : ℕ) (xs : List ℤ) (ys : List
 abbrev pub Decimator : (w : Width) (N M rate c u : ℕ) → State ℤ → Type 0
 Decimator w N M rate c u s =
     (calls : List Call)
-    → (refusal (ends (leaves (signedOps w)) s calls) ≡ 0)
+    → (refusal (afterCalls (leaves (signedOps w)) s calls) ≡ 0)
     × (InWord w (along (leaves (signedOps w)) reads s calls)
     → Decimates w N M rate c u (along (leaves (signedOps w)) reads s calls) (along (leaves (signedOps w)) (gives (signedOps w)) s calls))
 
@@ -101,7 +103,7 @@ pub record Interpolates (w : Width) (N M rate : ℕ) (xs ys : List ℤ) : Type 0
 abbrev pub Interpolator : (w : Width) (N M rate : ℕ) → State ℤ → Type 0
 Interpolator w N M rate s =
     (calls : List Raise)
-    → (refusal (ends (lifts (signedOps w)) s calls) ≡ 0)
+    → (refusal (afterCalls (lifts (signedOps w)) s calls) ≡ 0)
     × (InWord w (along (lifts (signedOps w)) samples s calls)
     → Interpolates w N M rate (along (lifts (signedOps w)) samples s calls) (along (lifts (signedOps w)) (yields (signedOps w)) s calls))
 
@@ -122,7 +124,8 @@ Demand2 =
 abbrev pub Demand2Cleared : Type 0
 Demand2Cleared =
     (w : Width) (s : State ℤ) → refusal s ≡ 0
-    → Decimator w (s .order) (s .delay) (s .rate) 0 0 (clearState (signedOps w) s) × Interpolator w (s .order) (s .delay) (s .rate) (clearState (signedOps w) s)
+    → Decimator w (s .order) (s .delay) (s .rate) 0 0 (clearState (signedOps w) s)
+    × Interpolator w (s .order) (s .delay) (s .rate) (clearState (signedOps w) s)
 
 -- Demand 3, settling. After a resume from any contents the first output falls on input countdown + 1, the first N · M outputs are
 -- marked unsettled, and every later one is settled and the moving sum of the inputs since the resume alone.
@@ -146,7 +149,8 @@ believed (y ∷ ys) = cond (y .settled) (y .value ∷ believed ys) (believed ys)
 abbrev pub SettledPart : Type 0
 SettledPart =
     (w : Width) (s : State ℤ) (xs out : List ℤ) → Contents w (s .integrators) (s .combs) → blockNumber s xs out ≡ 0
-    → settledPart (blockOut (signedOps w) s xs out) (length (outputs (signedOps w) s xs)) (s .unsettled) ≡ believed (outputs (signedOps w) s xs)
+    → settledPart (blockOut (signedOps w) s xs out) (length (outputs (signedOps w) s xs)) (s .unsettled)
+    ≡ believed (outputs (signedOps w) s xs)
 
 -- N · M can't be lowered: for every order above 0 there are contents and inputs for which output number N · M, counted from 1, is not the
 -- moving sum.
@@ -157,7 +161,8 @@ pub record Misleads (w : Width) (N M rate countdown : ℕ) : Type 0 where
   pub inputs : List ℤ
   pub inputs-in : InWord w inputs
   pub given : Output ℤ
-  pub is-given : getElem? (outputs (signedOps w) (resumeState (signedOps w) N M rate integrators combs (pos 0) countdown) inputs) (N * M - 1) ≡ some given
+  pub is-given : getElem? (outputs (signedOps w) (resumeState (signedOps w) N M rate integrators combs (pos 0) countdown) inputs)
+      (N * M - 1) ≡ some given
   pub differs : given .value ≡ wrap w (moving exactOps (suc rate * M) N (input inputs) (countdown + (N * M - 1) * suc rate)) → ⊥
 
 abbrev pub Demand3Tight : Type 0
@@ -165,14 +170,16 @@ Demand3Tight = (w : Width) (N M rate countdown : ℕ) → resumeNumber N M rate 
 
 -- The demands are of decimator calls alone: an interpolator's step leaves the unsettled count, and a decimator's output after it can be
 -- marked settled without being the moving sum. From new, N 1, M 2, rate 0: an interpolator's step on 1 and a decimator's step on 0 give 1,
--- where the moving sum is 0; and so after decimator's steps on 1 and 0, an interpolator's step on 0 and a decimator's step on 0 there comes -1.
+-- where the moving sum is 0; and so after decimator's steps on 1 and 0, an interpolator's step on 0 and a decimator's step on 0 there
+-- comes -1.
 abbrev pub Between : Type 0
 Between =
     let o : Ops ℤ = signedOps w32 in
     let new : State ℤ = newState o 1 2 0 in
     (stepGiven o (riseState o new (some (pos 1))) (pos 0) ≡ some (record { value = pos 1; settled = true }))
     × (moving exactOps 2 1 (input (pos 0 ∷ [])) 0 ≡ pos 0)
-    × (stepGiven o (riseState o (stepState o (stepState o new (pos 1)) (pos 0)) (some (pos 0))) (pos 0) ≡ some (record { value = negsuc 0; settled = true }))
+    × (stepGiven o (riseState o (stepState o (stepState o new (pos 1)) (pos 0)) (some (pos 0))) (pos 0)
+    ≡ some (record { value = negsuc 0; settled = true }))
     × (moving exactOps 2 1 (input (pos 1 ∷ pos 0 ∷ pos 0 ∷ [])) 2 ≡ pos 0)
     × (moving exactOps 2 1 (input (pos 1 ∷ pos 0 ∷ pos 0 ∷ pos 0 ∷ [])) 3 ≡ pos 0)
 
@@ -186,7 +193,8 @@ abbrev pub FitSound : Type 0
 FitSound =
     (w : Width) (s : State ℤ) (b : ℕ) → fitNumber s (bits w) b ≡ 0 → fits s (bits w) b ≡ true
     → (x : ℕ → ℤ) → ((t : ℕ) → mag (x t) < 2 ^ (b - 1))
-    → (t : ℕ) → wrap w (moving exactOps (suc (s .rate) * s .delay) (s .order) x t) ≡ moving exactOps (suc (s .rate) * s .delay) (s .order) x t
+    → (t : ℕ) → wrap w (moving exactOps (suc (s .rate) * s .delay) (s .order) x t)
+    ≡ moving exactOps (suc (s .rate) * s .delay) (s .order) x t
 
 -- The answer no doesn't say that some input wraps: N 3, M 1, rate 2, so R · M = 3, and b = 27.
 abbrev pub FitNotExact : Type 0
@@ -201,4 +209,5 @@ Stream w s x v =
     → (t : ℕ) (y : ℤ) → getElem? (along (lifts (signedOps w)) (yields (signedOps w)) s calls) t ≡ some y → y ≡ v
 
 abbrev pub Settled : Type 0
-Settled = (w : Width) (s : State ℤ) (x : ℤ) → refusal s ≡ 0 → SFits w x → Stream w (settleState (signedOps w) s x) x (wrap w (pos (gain s) *ℤ x))
+Settled =
+    (w : Width) (s : State ℤ) (x : ℤ) → refusal s ≡ 0 → SFits w x → Stream w (settleState (signedOps w) s x) x (wrap w (pos (gain s) *ℤ x))

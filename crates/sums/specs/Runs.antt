@@ -8,7 +8,8 @@ use lib.ListN.{length, getD, take, drop}
 use Rattle.sums.specs.Ops.{Ops}
 use Rattle.sums.specs.Machine.{Output}
 use Rattle.sums.specs.State.{State, refusal}
-use Rattle.sums.specs.Calls.{unless, stepState, stepGiven, riseState, risenOf}
+use Rattle.blocks.specs.Blocks.{unless}
+use Rattle.sums.specs.Calls.{stepState, stepGiven, riseState, riseGiven}
 
 -- Decimating a block of L inputs from countdown c needs 0 outputs if L is at most c, else 1 + floor((L - 1 - c) / R).
 unfoldable pub needed : ℕ → ℕ → ℕ → ℕ
@@ -67,7 +68,7 @@ module _ {A : Type 0} (o : Ops A) where
   unfoldable pub risings : State A → ℕ → List A → List A
   risings s zero xs = []
   risings s (suc n) xs =
-      risenOf o s (dueSample o (s .countdown) xs) ∷ risings (riseState o s (dueSample o (s .countdown) xs)) n (unread (s .countdown) xs)
+      riseGiven o s (dueSample o (s .countdown) xs) ∷ risings (riseState o s (dueSample o (s .countdown) xs)) n (unread (s .countdown) xs)
 
   unfoldable pub risenAfter : State A → ℕ → List A → State A
   risenAfter s zero xs = s

@@ -1,4 +1,5 @@
--- 01, 'What must change shape': order and delay are numbers in the state over fixed arrays, 8 integrators and one flat array of 64 comb cells.
+-- 01, 'What must change shape': order and delay are numbers in the state over fixed arrays, 8 integrators and one flat array of 64 comb
+-- cells.
 use mathlib.Core.Bool.{Bool, true, false, cond, _||_}
 use mathlib.Core.List.{List, [], _∷_, _++_}
 use Prim.Native.Nat.{ℕ, zero, suc, _*_}

@@ -5,3 +5,5 @@ pub mod casts;
 pub mod shifts;
 pub mod signed;
 pub mod unsigned;
+pub mod word32;
+pub mod word64;

@@ -1,3 +1,4 @@
+-- The definition's one test.
 use borrow.Author.Tests.{lt-ltb, le-ltb}
 use Rattle.sums.specs.Runs.{settledNumber}
 use Rattle.cic.proofs.runs.settled_number.Statement.{statement}

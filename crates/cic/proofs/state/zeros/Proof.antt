@@ -1,3 +1,4 @@
+-- The definition itself.
 use mathlib.Core.Path.{refl}
 use Rattle.sums.specs.State.{zeroed}
 use Rattle.cic.proofs.state.zeros.Statement.{statement}

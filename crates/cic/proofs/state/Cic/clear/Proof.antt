@@ -1,3 +1,4 @@
+-- Refused by its number, or zeros.
 use borrow.Author.Needs.{needs}
 use mathlib.Core.Path.{_∙_}
 use Rattle.sums.specs.State.{refusal}
@@ -7,20 +8,11 @@ use Rattle.cic.proofs.Ways.{refuses, takes}
 use Rattle.cic.proofs.state.Cic.clear.Statement.{statement}
 use Rattle.cic.proofs.state.Cic.clear.Tie as tie
 
-refusal-requires : tie.Need-refusal-requires
-refusal-requires c κs = search needs
-
-kept-requires : tie.Need-kept-requires
-kept-requires c κs = search needs
-
 returns : tie.Need-returns
 unfolding clearState
 returns c =
     let a = c .before .before .before .args .self in let f = c .before .before .refusal in
     c .kept .ensures ∙ refuses (f .result) (refusal (stateOf a)) (f .ensures) (stateOf a) _ (c .before .if1 .taken)
-
-zeros-requires : tie.Need-zeros-requires
-zeros-requires c κs = search needs
 
 returns-2 : tie.Need-returns-2
 unfolding clearState
@@ -29,4 +21,5 @@ returns-2 c =
     takes (f .result) (refusal (stateOf a)) (f .ensures) (stateOf a) _ (c .before .if1 .left) (c .zeros .result) (c .zeros .ensures)
 
 pub clear-spec : {M : Type 1} → statement M
-clear-spec = tie.close (tie.spec refusal-requires kept-requires returns zeros-requires returns-2)
+clear-spec =
+    tie.close (tie.spec (λ c κs. search needs) (λ c κs. search needs) returns (λ c κs. search needs) returns-2)

@@ -1,27 +1,22 @@
+-- Refused by its number or taken as given; N·M is small where the state is sound.
 use borrow.Author.Needs.{needs}
 use mathlib.Core.Path.{sym, _∙_}
-use mir.Syntax.{w32}
 use mir.ValLaws.{toZ-ofZ}
 use Rattle.sums.specs.State.{blank}
 use Rattle.sums.specs.Calls.{resumeNumber, resumeState}
 use Rattle.sums.proofs.Refusals.{sound}
-use Rattle.cic.specs.Reading.{i32Ops}
-use Rattle.cic.proofs.Numbers.{small}
+use Rattle.sums.proofs.Numbers.{small}
+use Rattle.cic.specs.Word.{width, wordOps}
 use Rattle.cic.proofs.Ways.{refuses, takes}
 use Rattle.cic.proofs.state.Cic.resume.Statement.{statement}
 use Rattle.cic.proofs.state.Cic.resume.Tie as tie
-
-refusal-of-requires : tie.Need-refusal-of-requires
-refusal-of-requires c κs = search needs
-
-unmade-requires : tie.Need-unmade-requires
-unmade-requires c κs = search needs
 
 returns : tie.Need-returns
 unfolding resumeState
 returns c =
     let a = c .before .before .before .args in let f = c .before .before .refusal-of in
-    c .unmade .ensures ∙ refuses (f .result) (resumeNumber (a .order) (a .delay) (a .rate) (a .countdown)) (f .ensures) (blank i32Ops) _ (c .before .if1 .taken)
+    c .unmade .ensures ∙ refuses (f .result) (resumeNumber (a .order) (a .delay) (a .rate) (a .countdown)) (f .ensures) (blank wordOps) _
+    (c .before .if1 .taken)
 
 mul-unsettled : tie.Need-mul-unsettled
 mul-unsettled c =
@@ -33,8 +28,9 @@ returns-2 : tie.Need-returns-2
 unfolding resumeState
 returns-2 c =
     let p = c .before .before in let a = p .args in let f = c .before .refusal-of in
-    takes (f .result) (resumeNumber (a .order) (a .delay) (a .rate) (a .countdown)) (f .ensures) (blank i32Ops) _ (c .if1 .left) _ (rw (toZ-ofZ w32 (a .hold) (p .fits .hold)))
+    takes (f .result) (resumeNumber (a .order) (a .delay) (a .rate) (a .countdown)) (f .ensures) (blank wordOps) _ (c .if1 .left) _
+    (rw (toZ-ofZ width (a .hold) (p .fits .hold)))
 
 pub resume-spec : {M : Type 1} → statement M
 resume-spec =
-    tie.close (tie.spec refusal-of-requires unmade-requires returns mul-unsettled returns-2)
+    tie.close (tie.spec (λ c κs. search needs) (λ c κs. search needs) returns mul-unsettled returns-2)

@@ -1,18 +1,19 @@
+-- Zeros with one line and one integrator set; the gain is multiplied up modulo 2 ^ bits.
 use borrow.Author.Needs.{needs}
 use mathlib.Core.Path.{_≡_, sym, ap, _∙_}
 use native.Mathlib.Numerals.{add-one}
 use native.Mathlib.Omega.{arith}
-use mir.Syntax.{w32}
 use mir.Val.{toZ, ofZ}
 use mir.ValLaws.{toZ-ofZ}
 use Rattle.words.proofs.Reading.{read}
 use Rattle.sums.specs.Ops.{times}
 use Rattle.sums.specs.State.{refusal, zeroed}
-use Rattle.sums.specs.Calls.{gain, settleState}
+use Rattle.sums.specs.Calls.{gain, gainOf, settleState}
 use Rattle.sums.proofs.Refusals.{Good, good}
-use Rattle.cic.specs.Reading.{i32Ops, stateOf, cicOf}
-use Rattle.cic.proofs.Numbers.{span-fits}
-use Rattle.cic.proofs.Levels.{settle-none, settle-some}
+use Rattle.cic.specs.Word.{width, wordOps}
+use Rattle.cic.specs.Reading.{stateOf, cicOf}
+use Rattle.sums.proofs.Numbers.{span-fits}
+use Rattle.sums.proofs.Levels.{settle-none, settle-some}
 use Rattle.cic.proofs.Ways.{refuses, takes}
 use Rattle.cic.proofs.state.Cic.settle_interpolate.Statement.{statement}
 use Rattle.cic.proofs.state.Cic.settle_interpolate.Tie as tie
@@ -20,17 +21,16 @@ use Rattle.cic.proofs.state.Cic.settle_interpolate.Tie as tie
 fine : (c : tie.Else1) → Good (stateOf (c .before .before .args .self))
 fine c = good (stateOf (c .before .before .args .self)) (sym (c .before .refusal .ensures) ∙ c .if1 .left)
 
-gained : (c : tie.After-scaled) → let p = c .before .before .before .before .before .before in c .scaled .result ≡ times i32Ops (gain (stateOf (p .args .self))) (p .args .x)
-unfolding gain
+-- where the state is accepted
+abbrev at : tie.After-scaled → tie.Else1
+at c = let k = c .before .before in k .before .before
+
+gained : (c : tie.After-scaled) → let p = at c .before .before in
+    c .scaled .result ≡ times wordOps (gain (stateOf (p .args .self))) (p .args .x)
+unfolding gainOf
 gained c =
-    let p = c .before .before .before .before .before .before in
-    rw (c .before .span .ensures, toZ-ofZ w32 (p .args .x) (p .fits .x)) at (c .scaled .ensures)
-
-refusal-requires : tie.Need-refusal-requires
-refusal-requires c κs = search needs
-
-kept-requires : tie.Need-kept-requires
-kept-requires c κs = search needs
+    let p = at c .before .before in
+    rw (c .before .span .ensures, toZ-ofZ width (p .args .x) (p .fits .x)) at (c .scaled .ensures)
 
 returns : tie.Need-returns
 unfolding settleState
@@ -38,59 +38,45 @@ returns c =
     let a = c .before .before .before .args .self in let f = c .before .before .refusal in
     c .kept .ensures ∙ refuses (f .result) (refusal (stateOf a)) (f .ensures) (stateOf a) _ (c .before .if1 .taken)
 
-zeros-requires : tie.Need-zeros-requires
-zeros-requires c κs = search needs
-
 returns-2 : tie.Need-returns-2
 unfolding settleState zeroed
 returns-2 c =
     let k = c .before .before in let p = k .before .before in let a = p .args in let f = k .before .refusal in let s = stateOf (a .self) in
-    takes (f .result) (refusal s) (f .ensures) s _ (k .if1 .left) _
-    (rw (c .before .zeros .ensures, toZ-ofZ w32 (a .x) (p .fits .x)) (ap cicOf (settle-none s (a .x) (c .if2 .taken))))
+    takes (f .result) (refusal s) (f .ensures) (stateOf (a .self)) _ (k .if1 .left) _
+    (rw (c .before .zeros .ensures, toZ-ofZ width (a .x) (p .fits .x)) (ap cicOf (settle-none width s (a .x) (c .if2 .taken))))
 
-sub-last : tie.Need-sub-last
-sub-last c = search needs
-
-span-requires : tie.Need-span-requires
-span-requires c κs = let ok = fine (c .before .before) in (ok .slow, ok .short)
+cast-span : tie.Need-cast-span
+cast-span c = record { fits = omega (arith, fine (c .before .before) .short) }
 
 scaled-requires : tie.Need-scaled-requires
 scaled-requires c κs =
-    let s = c .before .before .before .before .before .args .self in let ok = fine (c .before .before .before) in
+    let e = c .before .before .before in let s = e .before .before .args .self in let ok = fine e in
     rw (c .span .ensures) (omega (arith, span-fits (s .rate) (s .delay) (ok .slow) (ok .short), add-one (s .rate)))
 
 mul-integrators : tie.Need-mul-integrators
-mul-integrators c = omega (arith, fine (c .before .before .before .before) .few)
+mul-integrators c = omega (arith, fine (at c) .few)
 
 array-set-from-integrators : tie.Need-array-set-from-integrators
-array-set-from-integrators c = omega (arith, fine (c .before .before .before .before) .few)
+array-set-from-integrators c = omega (arith, fine (at c) .few)
 
 level-requires : tie.Need-level-requires
-level-requires c κs = omega (arith, fine (c .before .before .before .before) .short)
+level-requires c κs = omega (arith, fine (at c) .short)
 
 returns-3 : tie.Need-returns-3
 unfolding settleState zeroed
 returns-3 c =
-    let k = c .before .before .before .before .before in let p = k .before .before in let a = p .args in let f = k .before .refusal in let s = stateOf (a .self) in let ok = fine k in
-    let bx = toZ-ofZ w32 (a .x) (p .fits .x) in let v = c .before .scaled in
-    let gains : toZ w32 (ofZ w32 (v .result)) ≡ times i32Ops (gain s) (a .x) = read w32 (v .result) (v .ok) ∙ gained (c .before) in
-    takes (f .result) (refusal s) (f .ensures) s _ (k .if1 .left) _
-    (rw (c .before .before .before .before .zeros .ensures)
-    (ap cicOf (settle-some s (a .x) (omega (arith, c .before .before .before .if2 .left)) (ok .few) _ (c .level .result) gains (rw bx at (c .level .ensures)))))
+    let z = c .before .before .before in let k = z .before .before in let p = k .before .before in let a = p .args in
+    let f = k .before .refusal in
+    let s = stateOf (a .self) in let ok = fine k in
+    let bx = toZ-ofZ width (a .x) (p .fits .x) in let v = c .before .scaled in
+    let gains : toZ width (ofZ width (v .result)) ≡ times wordOps (gain s) (a .x) = read width (v .result) (v .ok) ∙ gained (c .before) in
+    takes (f .result) (refusal s) (f .ensures) (stateOf (a .self)) _ (k .if1 .left) _
+    (rw (z .before .zeros .ensures)
+    (ap cicOf (settle-some width s (a .x) (omega (arith, z .if2 .left)) (ok .few) _ (c .level .result) gains
+    (rw bx at (c .level .ensures)))))
 
 pub settle-interpolate-spec : {M : Type 1} → statement M
 settle-interpolate-spec =
-    tie.close
-    (tie.spec
-    refusal-requires
-    kept-requires
-    returns
-    zeros-requires
-    returns-2
-    sub-last
-    span-requires
-    scaled-requires
-    mul-integrators
-    array-set-from-integrators
-    level-requires
+    tie.close (tie.spec (λ c κs. search needs) (λ c κs. search needs) returns (λ c κs. search needs) returns-2
+    (λ c. search needs) cast-span (λ c κs. search needs) scaled-requires mul-integrators array-set-from-integrators level-requires
     returns-3)

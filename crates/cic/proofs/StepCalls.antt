@@ -1,0 +1,57 @@
+-- The ways in which a step's call ends: k is the number that the code found.
+use mathlib.Core.Path.{_≡_, refl, ap, _∙_}
+use mathlib.Core.Option.{Option}
+use Prim.Native.Nat.{ℕ, zero, suc}
+use lib.IntN.{ℤ}
+use borrow.Author.Tests.{ne-eqb}
+use Rattle.sums.specs.State.{State, refusal}
+use Rattle.sums.specs.Calls.{stepState, stepGiven, riseNumber, riseState}
+use Rattle.sums.proofs.Lent.{DecimateStep, InterpolateStep}
+use Rattle.cic.specs.Word.{wordOps}
+use Rattle.cic.specs.declared.steps.Gave.{Gave}
+use Rattle.cic.specs.declared.steps.Gave.the-variants.{Output, Nothing}
+use Rattle.cic.specs.declared.steps.Out.the-variants.{Refused}
+use Rattle.cic.specs.declared.steps.Stepped.{Stepped}
+use Rattle.cic.specs.declared.steps.Risen.{Risen}
+use Rattle.cic.specs.declared.steps.Sample.{Sample}
+use Rattle.cic.specs.declared.state.Cic.{Cic}
+use Rattle.cic.specs.declared.questions.Interpolated.the-variants as Interpolated
+use Rattle.cic.specs.Reading.{stateOf, cicOf}
+use Rattle.cic.specs.Answers.{outOf, steppedOf, interpolatedOf, sampleOf, risenOf}
+use Rattle.cic.specs.Inner.Apart.{givenOf, markedOf, acceptedOf}
+
+-- an output with its mark is the rule's
+marked-is : (g : Gave) → markedOf g ≡ outOf 0 (givenOf g)
+unfolding outOf
+marked-is (Output y u) = refl
+marked-is Nothing = refl
+
+-- the decimator's call: k is the number that the code found
+module _ (s : Cic) (x : ℤ) where
+  pub step-refuses : (k : ℕ) → k ≡ refusal (stateOf s) → (k ≡ 0 → ⊥)
+      → _≡_ {A = Stepped} (record { state = s; out = Refused k }) (steppedOf s x)
+  unfolding stepState outOf
+  step-refuses zero e h = absurd (h refl)
+  step-refuses (suc k) e h = rw (← e, ne-eqb (suc k) 0 h)
+
+  pub step-takes : refusal (stateOf s) ≡ 0 → (t : State ℤ) (g : Gave) → DecimateStep wordOps (stateOf s) x t (givenOf g)
+      → _≡_ {A = Stepped} (record { state = cicOf t; out = markedOf g }) (steppedOf s x)
+  step-takes z t g r =
+      let out : markedOf g ≡ outOf 0 (stepGiven wordOps (stateOf s) x) = marked-is g ∙ ap (outOf 0) (r .gives) in rw (r .state, z, out)
+
+-- the interpolator's call
+pub accepted-takes : (s : Cic) (x : Option ℤ) (t : State ℤ) (y : ℤ) → InterpolateStep wordOps (stateOf s) x t y
+    → _≡_ {A = Risen} (record { state = cicOf t; out = Interpolated.Value y }) (acceptedOf s x)
+accepted-takes s x t y r = rw (r .state, r .gives)
+
+module _ (s : Cic) (x : Sample) where
+  pub rise-refuses : (k : ℕ) → k ≡ riseNumber (stateOf s) (sampleOf x) → (k ≡ 0 → ⊥)
+      → _≡_ {A = Risen} (record { state = s; out = Interpolated.Refused k }) (risenOf s x)
+  unfolding riseState interpolatedOf
+  rise-refuses zero e h = absurd (h refl)
+  rise-refuses (suc k) e h = rw (← e, ne-eqb (suc k) 0 h)
+
+  pub rise-takes : (r : Risen) (z : Option ℤ) → r ≡ acceptedOf s z → z ≡ sampleOf x → riseNumber (stateOf s) (sampleOf x) ≡ 0 → r
+      ≡ risenOf s x
+  unfolding interpolatedOf
+  rise-takes r z er ez e = er ∙ rw (ez, e)

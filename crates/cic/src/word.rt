@@ -1,0 +1,6 @@
+// The word of this crate, i32. No other file of src/ names it.
+pub use words::word32::BITS;
+pub use words::word32::Word;
+pub(crate) use words::word32::add;
+pub(crate) use words::word32::mul;
+pub(crate) use words::word32::sub;

@@ -1,0 +1,98 @@
+// Questions about a state's numbers, whatever its words. Each tests them first; a refused one gives its number alone.
+use crate::numbers::refusal_of;
+use crate::numbers::span;
+use crate::powers::power;
+use crate::powers::shift;
+ghost use mathlib.Core.Path.{_≡_};
+ghost use Rattle.sums.specs.State.{refusalOf};
+ghost use Rattle.sums.specs.Calls.{gainNumberOf, gainOf, gainLog2Of, responseLengthOf, fitNumberOf, fitsOf};
+ghost use Rattle.shape.specs.Answers.{toldOf, fittingOf};
+
+// A whole number, or the number of a refusal.
+pub enum Told {
+    Number(u64),
+    Refused(u32),
+}
+
+// Whether inputs fit, or the number of a refusal.
+pub enum Fitting {
+    Fits(bool),
+    Refused(u32),
+}
+
+// The gain (R·M)^N, exactly. Refused with 14 above 2^63 - 1.
+pub fn gain(order: usize, delay: usize, rate: u32, countdown: u32, unsettled: usize) -> Told
+    ensures { λ r. ⌜ r ≡ toldOf (gainNumberOf order delay rate countdown unsettled) (gainOf order delay rate) ⌝ }
+{
+    let first = refusal_of(order, delay, rate, countdown, 0);
+    if first != 0 {
+        return Told::Refused(first);
+    }
+    let gain = power(span(rate, delay as u32), order);
+    if 9223372036854775807 < gain {
+        return Told::Refused(14);
+    }
+    let number = refusal_of(order, delay, rate, countdown, unsettled);
+    if number != 0 {
+        return Told::Refused(number);
+    }
+    Told::Number(gain)
+}
+
+// The right shift that undoes the gain: N times the bit length of R·M - 1.
+pub fn gain_log2(order: usize, delay: usize, rate: u32, countdown: u32, unsettled: usize) -> Told
+    ensures { λ r. ⌜ r ≡ toldOf (refusalOf order delay rate countdown unsettled) (gainLog2Of order delay rate) ⌝ }
+{
+    let number = refusal_of(order, delay, rate, countdown, unsettled);
+    if number != 0 {
+        return Told::Refused(number);
+    }
+    Told::Number(shift(order, delay, rate))
+}
+
+// The steps at the high rate until an input's answer is over: N·(R·M - 1).
+pub fn response_length(
+    order: usize,
+    delay: usize,
+    rate: u32,
+    countdown: u32,
+    unsettled: usize,
+) -> Told
+    ensures { λ r. ⌜ r ≡ toldOf (refusalOf order delay rate countdown unsettled) (responseLengthOf order delay rate) ⌝ }
+{
+    let number = refusal_of(order, delay, rate, countdown, unsettled);
+    if number != 0 {
+        return Told::Refused(number);
+    }
+    let r = span(rate, delay as u32);
+    let steps = order as u64 * (r - 1);
+    Told::Number(steps)
+}
+
+// Whether b + gain_log2 is at most the word's width: then inputs of b signed bits make no output wrap. Refused
+// with 17 for b outside 1..width.
+pub fn fit(
+    order: usize,
+    delay: usize,
+    rate: u32,
+    countdown: u32,
+    unsettled: usize,
+    width: u32,
+    b: u32,
+) -> Fitting
+    ensures { λ r. ⌜ r ≡ fittingOf (fitNumberOf (refusalOf order delay rate countdown unsettled) width b)
+        (fitsOf (gainLog2Of order delay rate) width b) ⌝ }
+{
+    let number = refusal_of(order, delay, rate, countdown, unsettled);
+    if number != 0 {
+        return Fitting::Refused(number);
+    }
+    if b == 0 {
+        return Fitting::Refused(17);
+    }
+    if width < b {
+        return Fitting::Refused(17);
+    }
+    let bits = b as u64 + shift(order, delay, rate);
+    Fitting::Fits(bits <= width as u64)
+}
