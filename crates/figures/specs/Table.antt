@@ -12,6 +12,7 @@ use Rattle.sums.specs.Machine.{Output}
 use Rattle.sums.specs.State.{State}
 use Rattle.sums.specs.Calls.{newState, resumeState}
 use Rattle.sums.specs.Runs.{outputs, risings}
+use Rattle.text.specs.Letters.{bytes}
 use Rattle.playback.specs.Replays.{replay}
 use Rattle.dsm.specs.Totals as Modulator
 use Rattle.unwrap.specs.declared.unwrapper.Unwrapper.{Unwrapper}
@@ -36,9 +37,9 @@ pub data Figure : Type 0 where
   unwrapper : List ℤ → ℤ → ℤ → Figure
 
 -- an unwrapper after its inputs
-unfoldable pub after : Unwrapper → List ℤ → Unwrapper
-after u [] = u
-after u (x ∷ xs) = after (grown u x) xs
+unfoldable pub unwrapperAfter : Unwrapper → List ℤ → Unwrapper
+unwrapperAfter u [] = u
+unwrapperAfter u (x ∷ xs) = unwrapperAfter (grown u x) xs
 
 -- The case with what the rules give.
 unfoldable pub computed : Figure → Figure
@@ -47,30 +48,32 @@ computed (program input output) = program input (replay input)
 computed (interpolator s xs ys) = interpolator s xs (risings i32 s (length ys) xs)
 computed (modulator K xs ys) = modulator K xs (Modulator.modulated K xs)
 computed (difference y x delta sign) = difference y x (differenceOf y x .delta) (signOf (differenceOf y x .wrap))
-computed (unwrapper xs y count) = unwrapper xs (after (record { y = pos 0 }) xs .y) (turnsOf (after (record { y = pos 0 }) xs .y))
+computed (unwrapper xs y count) = unwrapper xs (unwrapperAfter (record { y = pos 0 }) xs .y)
+    (turnsOf (unwrapperAfter (record { y = pos 0 }) xs .y))
 
-abbrev pub settled : ℤ → Output ℤ
-settled v = record { value = v; settled = true }
+abbrev pub settledOutput : ℤ → Output ℤ
+settledOutput v = record { value = v; settled = true }
 
-abbrev pub unsettled : ℤ → Output ℤ
-unsettled v = record { value = v; settled = false }
+abbrev pub unsettledOutput : ℤ → Output ℤ
+unsettledOutput v = record { value = v; settled = false }
 
 unfoldable pub table : List Figure
 table =
     -- T1 N 0, rate 0: input 7 gives 7.
-    decimator (newState i32 0 1 0) (pos 7 ∷ []) (settled (pos 7) ∷ [])
+    decimator (newState i32 0 1 0) (pos 7 ∷ []) (settledOutput (pos 7) ∷ [])
     -- T2 the whole case: `cic 1 1 1`, `x 3`, `x 5`, `x -2` gives `y 3 1`, `y 3 1`, `end 2`; the filter's part, then the bytes.
-    ∷ decimator (newState i32 1 1 1) (pos 3 ∷ pos 5 ∷ negsuc 1 ∷ []) (settled (pos 3) ∷ settled (pos 3) ∷ [])
+    ∷ decimator (newState i32 1 1 1) (pos 3 ∷ pos 5 ∷ negsuc 1 ∷ []) (settledOutput (pos 3) ∷ settledOutput (pos 3) ∷ [])
     ∷ program
-    (99 ∷ 105 ∷ 99 ∷ 9 ∷ 49 ∷ 9 ∷ 49 ∷ 9 ∷ 49 ∷ 10 ∷ 120 ∷ 9 ∷ 51 ∷ 10 ∷ 120 ∷ 9 ∷ 53 ∷ 10 ∷ 120 ∷ 9 ∷ 45 ∷ 50 ∷ 10 ∷ [])
-    (121 ∷ 9 ∷ 51 ∷ 9 ∷ 49 ∷ 10 ∷ 121 ∷ 9 ∷ 51 ∷ 9 ∷ 49 ∷ 10 ∷ 101 ∷ 110 ∷ 100 ∷ 9 ∷ 50 ∷ 10 ∷ [])
+    (bytes "cic\t1\t1\t1\nx\t3\nx\t5\nx\t-2\n")
+    (bytes "y\t3\t1\ny\t3\t1\nend\t2\n")
     -- T3 N 2, M 1, rate 1, inputs 1,0,0,0,0: outputs 1, 1, 0.
-    ∷ decimator (newState i32 2 1 1) (pos 1 ∷ pos 0 ∷ pos 0 ∷ pos 0 ∷ pos 0 ∷ []) (settled (pos 1) ∷ settled (pos 1) ∷ settled (pos 0) ∷ [])
+    ∷ decimator (newState i32 2 1 1) (pos 1 ∷ pos 0 ∷ pos 0 ∷ pos 0 ∷ pos 0 ∷ [])
+    (settledOutput (pos 1) ∷ settledOutput (pos 1) ∷ settledOutput (pos 0) ∷ [])
     -- T4 N 1, rate 1, three inputs 2147483647: outputs 2147483647, -2.
-    ∷ decimator (newState i32 1 1 1) (replicate 3 (pos 2147483647)) (settled (pos 2147483647) ∷ settled (negsuc 1) ∷ [])
+    ∷ decimator (newState i32 1 1 1) (replicate 3 (pos 2147483647)) (settledOutput (pos 2147483647) ∷ settledOutput (negsuc 1) ∷ [])
     -- T5 resume N 1, M 1, rate 1, countdown 0, integrator 100, cell 40; inputs 3, 5, -2: 63 unsettled, 3 settled.
     ∷ decimator (resumeState i32 1 1 1 (pos 100 ∷ replicate 7 (pos 0)) (pos 40 ∷ replicate 63 (pos 0)) (pos 0) 0)
-    (pos 3 ∷ pos 5 ∷ negsuc 1 ∷ []) (unsettled (pos 63) ∷ settled (pos 3) ∷ [])
+    (pos 3 ∷ pos 5 ∷ negsuc 1 ∷ []) (unsettledOutput (pos 63) ∷ settledOutput (pos 3) ∷ [])
     -- T6 interpolator N 1, rate 1, samples 4 and 6: 4, 8, 10, 12.
     ∷ interpolator (newState i32 1 1 1) (pos 4 ∷ pos 6 ∷ []) (pos 4 ∷ pos 8 ∷ pos 10 ∷ pos 12 ∷ [])
     -- T7 K 1, x 2^31: 0, 1, 0, 1. T8 K 2, same x: 0, 1, 1, 0.

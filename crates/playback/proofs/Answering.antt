@@ -9,13 +9,14 @@ use lib.ListN.{length, drop, length-append}
 use mir.Syntax.{w32}
 use mir.Val.{SFits}
 use borrow.Author.Tests.{lt-ltb, le-ltb}
+use Rattle.text.specs.Letters.{bytes, tab, newline}
 use Rattle.text.specs.Numbers.{decimalOf, signedOf}
-use Rattle.text.specs.Writing.{put, Wrote, Puts}
-use Rattle.text.proofs.Putting.{written, then-puts, same}
+use Rattle.text.specs.Writing.{overlaid, Wrote, Puts}
+use Rattle.text.proofs.Putting.{written, then-puts, wrote-same}
 use Rattle.text.proofs.Spelling.{spelt-short, decimal-most, signed-most}
 use Rattle.playback.specs.Replays.{outputLine, endLine, badLine}
 use Rattle.playback.specs.Places as Places
-use Rattle.playback.specs.Places.{over, answerNumber}
+use Rattle.playback.specs.Places.{frontWritten, answerNumber}
 use Rattle.playback.specs.declared.answers.Written.{Written}
 use Rattle.blocks.specs.Verdicts.{verdictOf}
 use Rattle.blocks.specs.declared.Verdict.the-variants.{Done, Refused}
@@ -25,58 +26,63 @@ short n = spelt-short 20 n
 
 module _ (o : List ℕ) (at : ℕ) where
   pub output-wrote : (v : ℤ) (settled : Bool) (m a b r : ℕ) (o₁ o₂ o₃ : List ℕ) → SFits w32 v → at + 16 ≤ length o → m ≡ cond settled 49 48
-      → Puts o at (121 ∷ 9 ∷ []) a o₁ → Puts o₁ a (signedOf v) b o₂ → Puts o₂ b (9 ∷ m ∷ 10 ∷ []) r o₃ → Wrote o at (outputLine v settled) r o₃ × (r ≤ at + 16)
+      → Puts o at (bytes "y\t") a o₁ → Puts o₁ a (signedOf v) b o₂ → Puts o₂ b (tab ∷ m ∷ newline ∷ []) r o₃
+      → Wrote o at (outputLine v settled) r o₃ × (r ≤ at + 16)
   unfolding outputLine
   output-wrote v settled m a b r o₁ o₂ o₃ f h e x y z =
       let n = signed-most v f in
-      let w₁ : Wrote o at (121 ∷ 9 ∷ []) a o₁ = written o at (121 ∷ 9 ∷ []) a o₁ (omega arith) x in
-      let w₂ : Wrote o at (121 ∷ 9 ∷ signedOf v) b o₂ = then-puts (omega arith) w₁ y in
-      let w₃ : Wrote o at (121 ∷ 9 ∷ (signedOf v ++ (9 ∷ m ∷ 10 ∷ []))) r o₃ = then-puts (omega arith) w₂ z in
-      (rw (sym e) w₃, omega (arith, w₃ .next, length-append (signedOf v) (9 ∷ m ∷ 10 ∷ [])))
+      let w₁ : Wrote o at (bytes "y\t") a o₁ = written o at (bytes "y\t") a o₁ (omega arith) x in
+      let w₂ : Wrote o at (bytes "y\t" ++ signedOf v) b o₂ = then-puts (omega arith) w₁ y in
+      let w₃ : Wrote o at (bytes "y\t" ++ (signedOf v ++ (tab ∷ m ∷ newline ∷ []))) r o₃ = then-puts (omega arith) w₂ z in
+      (rw (sym e) w₃, omega (arith, w₃ .next, length-append (signedOf v) (tab ∷ m ∷ newline ∷ [])))
 
   pub end-wrote : (n a b r : ℕ) (o₁ o₂ o₃ : List ℕ) → at + 36 ≤ length o
-      → Puts o at (101 ∷ 110 ∷ 100 ∷ 9 ∷ []) a o₁ → Puts o₁ a (decimalOf n) b o₂ → Puts o₂ b (10 ∷ []) r o₃ → Wrote o at (endLine n) r o₃ × (r ≤ at + 36)
+      → Puts o at (bytes "end\t") a o₁ → Puts o₁ a (decimalOf n) b o₂ → Puts o₂ b (newline ∷ []) r o₃ → Wrote o at (endLine n) r o₃
+      × (r ≤ at + 36)
   unfolding endLine
   end-wrote n a b r o₁ o₂ o₃ h x y z =
       let k = short n in
-      let w₁ : Wrote o at (101 ∷ 110 ∷ 100 ∷ 9 ∷ []) a o₁ = written o at (101 ∷ 110 ∷ 100 ∷ 9 ∷ []) a o₁ (omega arith) x in
-      let w₂ : Wrote o at (101 ∷ 110 ∷ 100 ∷ 9 ∷ decimalOf n) b o₂ = then-puts (omega arith) w₁ y in
-      let w₃ : Wrote o at (101 ∷ 110 ∷ 100 ∷ 9 ∷ (decimalOf n ++ (10 ∷ []))) r o₃ = then-puts (omega arith) w₂ z in
-      (w₃, omega (arith, w₃ .next, length-append (decimalOf n) (10 ∷ [])))
+      let w₁ : Wrote o at (bytes "end\t") a o₁ = written o at (bytes "end\t") a o₁ (omega arith) x in
+      let w₂ : Wrote o at (bytes "end\t" ++ decimalOf n) b o₂ = then-puts (omega arith) w₁ y in
+      let w₃ : Wrote o at (bytes "end\t" ++ (decimalOf n ++ (newline ∷ []))) r o₃ = then-puts (omega arith) w₂ z in
+      (w₃, omega (arith, w₃ .next, length-append (decimalOf n) (newline ∷ [])))
 
   pub bad-wrote : (line number a b c d r : ℕ) (o₁ o₂ o₃ o₄ o₅ : List ℕ) → number < 2 ^ 32 → at + 36 ≤ length o
-      → Puts o at (98 ∷ 97 ∷ 100 ∷ 9 ∷ []) a o₁ → Puts o₁ a (decimalOf line) b o₂ → Puts o₂ b (9 ∷ []) c o₃ → Puts o₃ c (decimalOf number) d o₄ → Puts o₄ d (10 ∷ []) r o₅
+      → Puts o at (bytes "bad\t") a o₁ → Puts o₁ a (decimalOf line) b o₂ → Puts o₂ b (tab ∷ []) c o₃
+      → Puts o₃ c (decimalOf number) d o₄ → Puts o₄ d (newline ∷ []) r o₅
       → Wrote o at (badLine line number) r o₅ × (r ≤ at + 36)
   unfolding badLine
   bad-wrote line number a b c d r o₁ o₂ o₃ o₄ o₅ f h x y z u v =
       let k = short line in
       let l = decimal-most number f in
-      let p₂ : List ℕ = 98 ∷ 97 ∷ 100 ∷ 9 ∷ decimalOf line in
-      let p₃ : List ℕ = p₂ ++ (9 ∷ []) in
-      let n₃ : length p₃ ≡ length p₂ + 1 = length-append p₂ (9 ∷ []) in
+      let p₂ : List ℕ = bytes "bad\t" ++ decimalOf line in
+      let p₃ : List ℕ = p₂ ++ (tab ∷ []) in
+      let n₃ : length p₃ ≡ length p₂ + 1 = length-append p₂ (tab ∷ []) in
       let p₄ : List ℕ = p₃ ++ decimalOf number in
       let n₄ : length p₄ ≡ length p₃ + length (decimalOf number) = length-append p₃ (decimalOf number) in
-      let w₁ : Wrote o at (98 ∷ 97 ∷ 100 ∷ 9 ∷ []) a o₁ = written o at (98 ∷ 97 ∷ 100 ∷ 9 ∷ []) a o₁ (omega arith) x in
+      let w₁ : Wrote o at (bytes "bad\t") a o₁ = written o at (bytes "bad\t") a o₁ (omega arith) x in
       let w₂ : Wrote o at p₂ b o₂ = then-puts (omega arith) w₁ y in
       let w₃ : Wrote o at p₃ c o₃ = then-puts (omega arith) w₂ z in
       let w₄ : Wrote o at p₄ d o₄ = then-puts (omega arith) w₃ u in
-      let w₅ : Wrote o at (p₄ ++ (10 ∷ [])) r o₅ = then-puts (omega arith) w₄ v in
-      (same (simp append-assoc) w₅, omega (arith, w₅ .next, length-append p₄ (10 ∷ [])))
+      let w₅ : Wrote o at (p₄ ++ (newline ∷ [])) r o₅ = then-puts (omega arith) w₄ v in
+      (wrote-same (simp append-assoc) w₅, omega (arith, w₅ .next, length-append p₄ (newline ∷ [])))
 
 -- at the front of a slice
 pub front : (o bs o' : List ℕ) (r : ℕ) → Wrote o 0 bs r o' → (r ≡ length bs) × (o' ≡ bs ++ drop (length bs) o)
-unfolding put
+unfolding overlaid
 front o bs o' r w = (w .next ∙ omega arith, w .text ∙ rw (zero-add (length bs)))
   where
     zero-add : (n : ℕ) → 0 + n ≡ n
     zero-add n = omega arith
 
 module _ (number : ℕ) (bs o : List ℕ) where
-  pub refused-20 : number ≡ 20 → (_≡_ {A = Written} (record { count = 0; verdict = Refused 20 }) (Places.written number bs)) × (o ≡ over number bs o)
+  pub refused-20 : number ≡ 20 → (_≡_ {A = Written} (record { count = 0; verdict = Refused 20 }) (Places.written number bs))
+      × (o ≡ frontWritten number bs o)
   unfolding verdictOf
   refused-20 e = (sym (rw e), sym (rw e))
 
-  pub done : (o' : List ℕ) (r : ℕ) → number ≡ 0 → Wrote o 0 bs r o' → (_≡_ {A = Written} (record { count = r; verdict = Done }) (Places.written number bs)) × (o' ≡ over number bs o)
+  pub done : (o' : List ℕ) (r : ℕ) → number ≡ 0 → Wrote o 0 bs r o'
+      → (_≡_ {A = Written} (record { count = r; verdict = Done }) (Places.written number bs)) × (o' ≡ frontWritten number bs o)
   unfolding verdictOf
   done o' r e w =
       let f = front o bs o' r w in

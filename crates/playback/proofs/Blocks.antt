@@ -11,7 +11,7 @@ use lib.ListN.{length, take, drop, length-drop}
 use lib.Seq.{length-take-le, take-append-seam}
 use borrow.Author.Tests.{ne-eqb, eqb-true}
 use Rattle.text.specs.Writing.{Wrote}
-use Rattle.text.proofs.Putting.{same}
+use Rattle.text.proofs.Putting.{wrote-same}
 use Rattle.sums.specs.Machine.{Output}
 use Rattle.sums.specs.State.{State, refusal}
 use Rattle.sums.specs.Calls.{unless, stepState, stepGiven}
@@ -24,16 +24,23 @@ use Rattle.cic.specs.Answers.{wroteOf, decimatedOf}
 use Rattle.cic.specs.declared.state.Cic.{Cic}
 use Rattle.cic.specs.declared.runs.Decimated.{Decimated}
 use Rattle.cic.specs.declared.runs.Wrote.the-variants as Wrote
-use Rattle.playback.specs.Places.{Place, raised, fedOf, bytesOf, placeOf}
-use Rattle.playback.specs.Turns.{Gathers, marked, Room, Turns, blocked}
+use Rattle.playback.specs.Places.{Place, countedUp, fedOf, bytesOf, placeOf}
+use Rattle.playback.specs.Inner.Advances.{Gathers, outputLines, Room, Advances, afterBlock}
 use Rattle.records.specs.declared.session.Session.{Session}
 use Rattle.playback.specs.declared.driver.Replay.{Replay}
 use Rattle.playback.proofs.Running.{runs-none}
 use Rattle.playback.proofs.Batches.{between, ran, batch-place, batch-bytes}
 
 -- a turn that does nothing
-pub turn-same : (r : Replay) (input o : List ℕ) (from at : ℕ) → r .len ≤ 64 → from ≤ length input → Room (placeOf r) (drop from input) o at → Turns r input from o at r from at o
-turn-same r input o from at s h room = record { runs = runs-none (placeOf r) (drop from input) o at; room = room; low = omega arith; high = h; small = s }
+pub turn-same : (r : Replay) (input o : List ℕ) (from at : ℕ) → r .len ≤ 64 → from ≤ length input
+    → Room (placeOf r) (drop from input) o at → Advances r input from o at r from at o
+turn-same r input o from at s h room = record {
+  runs = runs-none (placeOf r) (drop from input) o at;
+  room = room;
+  low = omega arith;
+  high = h;
+  small = s;
+}
 
 -- where a block may be taken
 pub all-ready : (going opened : Bool) (len : ℕ) → (going && (opened && eqb len 0)) ≡ true → (going ≡ true) × (opened ≡ true) × (len ≡ 0)
@@ -72,7 +79,11 @@ join-few none l = omega arith
 outputs-few : (s : State ℤ) (xs : List ℤ) → length (outputs i32Ops s xs) ≤ length xs
 unfolding outputs
 outputs-few s [] = omega arith
-outputs-few s (x ∷ xs) = omega (arith, join-few (stepGiven i32Ops s x) (outputs i32Ops (stepState i32Ops s x) xs), outputs-few (stepState i32Ops s x) xs)
+outputs-few s (x ∷ xs) = omega (
+  arith,
+  join-few (stepGiven i32Ops s x) (outputs i32Ops (stepState i32Ops s x) xs),
+  outputs-few (stepState i32Ops s x) xs,
+)
 
 place-is : (s : Session) (n k len : ℕ) (line : List ℕ) (b : Bool) → s .opened ≡ true → b ≡ true → len ≡ 0
     → _≡_ {A = Place} (record { session = s; lines = n; outputs = k; line = take len line; going = b }) (between (stateOf (s .filter)) n k)
@@ -82,8 +93,11 @@ place-is s n k len line b o e z =
     ∙ ap (λ (x : Bool). record { session = record { opened = x; filter = s .filter }; lines = n; outputs = k; line = []; going = true }) o
 
 -- the block of the first n samples
-module _ (filter : Cic) (samples given : List ℤ) (n : ℕ) (enough : n ≤ length samples) (long8 : length (filter .integrators) ≡ 8) (long64 : length (filter .combs) ≡ 64) (d : Decimated) (is : d ≡ decimatedOf filter (take n samples) given) (k u : ℕ) (wrote : d .wrote ≡ Wrote.Outputs k u) where
-  told : wroteOf (blockNumber (stateOf filter) (take n samples) given) (needed (length (take n samples)) (filter .countdown) (filter .rate)) (filter .unsettled) ≡ Wrote.Outputs k u
+module _ (filter : Cic) (samples given : List ℤ) (n : ℕ) (enough : n ≤ length samples) (long8 : length (filter .integrators) ≡ 8)
+    (long64 : length (filter .combs) ≡ 64) (d : Decimated) (is : d ≡ decimatedOf filter (take n samples) given) (k u : ℕ)
+    (wrote : d .wrote ≡ Wrote.Outputs k u) where
+  told : wroteOf (blockNumber (stateOf filter) (take n samples) given) (needed (length (take n samples)) (filter .countdown)
+      (filter .rate)) (filter .unsettled) ≡ Wrote.Outputs k u
   told = sym (ap (λ (x : Decimated). x .wrote) is) ∙ wrote
 
   number-is : blockNumber (stateOf filter) (take n samples) given ≡ 0
@@ -112,37 +126,62 @@ module _ (filter : Cic) (samples given : List ℤ) (n : ℕ) (enough : n ≤ len
   unsettled-is : u ≡ filter .unsettled
   unsettled-is = wrote-unsettled _ _ _ k u told
 
-  text-is : marked u (take k (blockOut i32Ops (stateOf filter) (take n samples) given)) ≡ marked (filter .unsettled) (values (outputs i32Ops (stateOf filter) (take n samples)))
+  text-is : outputLines u (take k (blockOut i32Ops (stateOf filter) (take n samples) given))
+      ≡ outputLines (filter .unsettled) (values (outputs i32Ops (stateOf filter) (take n samples)))
   text-is = rw (values-are, unsettled-is)
 
-  after-is : (a b : ℕ) → _≡_ {A = Place} (record { session = record { opened = true; filter = d .state }; lines = raised a n; outputs = raised b k; line = []; going = true }) (ran (stateOf filter) (take n samples) a b)
+  after-is : (a b : ℕ) → _≡_ {A = Place} (record {
+    session = record { opened = true; filter = d .state };
+    lines = countedUp a n;
+    outputs = countedUp b k;
+    line = [];
+    going = true;
+  }) (ran (stateOf filter) (take n samples) a b)
   after-is a b =
       let m : n ≡ length (take n samples) = sym (length-take-le n samples enough) in
-      ap (λ (f : Cic). record { session = record { opened = true; filter = f }; lines = raised a n; outputs = raised b k; line = []; going = true }) state-is
-      ∙ ap (λ (x : ℕ). between (after i32Ops (stateOf filter) (take n samples)) (raised a x) (raised b k)) m
-      ∙ ap (λ (x : ℕ). between (after i32Ops (stateOf filter) (take n samples)) (raised a (length (take n samples))) (raised b x)) count-is
+      ap (λ (f : Cic). record {
+        session = record { opened = true; filter = f };
+        lines = countedUp a n;
+        outputs = countedUp b k;
+        line = [];
+        going = true;
+      }) state-is
+      ∙ ap (λ (x : ℕ). between (after i32Ops (stateOf filter) (take n samples)) (countedUp a x) (countedUp b k)) m
+      ∙ ap (λ (x : ℕ). between (after i32Ops (stateOf filter) (take n samples)) (countedUp a (length (take n samples)))
+      (countedUp b x)) count-is
 
-  module _ (r : Replay) (of : r .session .filter ≡ filter) (input o : List ℕ) (from at : ℕ) (opened : r .session .opened ≡ true) (going : r .going ≡ true) (none : r .len ≡ 0)
-      (lines : r .lines ≤ 18446744073709551615) (outs : r .outputs ≤ 18446744073709551615) (room : Room (placeOf r) (drop from input) o at) (next : ℕ) (g : Gathers input from samples n next) where
+  module _ (r : Replay) (of : r .session .filter ≡ filter) (input o : List ℕ) (from at : ℕ) (opened : r .session .opened ≡ true)
+      (going : r .going ≡ true) (none : r .len ≡ 0)
+      (lines : r .lines ≤ 18446744073709551615) (outs : r .outputs ≤ 18446744073709551615)
+      (room : Room (placeOf r) (drop from input) o at) (next : ℕ) (g : Gathers input from samples n next) where
     here : placeOf r ≡ between (stateOf filter) (r .lines) (r .outputs)
-    here = place-is (r .session) (r .lines) (r .outputs) (r .len) (r .line) (r .going) opened going none ∙ ap (λ (f : Cic). between (stateOf f) (r .lines) (r .outputs)) of
+    here = place-is (r .session) (r .lines) (r .outputs) (r .len) (r .line) (r .going) opened going none
+        ∙ ap (λ (f : Cic). between (stateOf f) (r .lines) (r .outputs)) of
 
-    pub turn-block : (t : Replay) → placeOf t ≡ blocked (placeOf r) (d .state) n k → t .len ≡ r .len → (w : ℕ) (o' : List ℕ) → length o' ≡ length o → Wrote o at (marked u (take k (blockOut i32Ops (stateOf filter) (take n samples) given))) w o' → w ≤ at + 16 * k
-        → Turns r input from o at t next w o'
+    pub turn-block : (t : Replay) → placeOf t ≡ afterBlock (placeOf r) (d .state) n k → t .len ≡ r .len → (w : ℕ) (o' : List ℕ)
+        → length o' ≡ length o → Wrote o at (outputLines u (take k (blockOut i32Ops (stateOf filter) (take n samples) given))) w o'
+        → w ≤ at + 16 * k
+        → Advances r input from o at t next w o'
     turn-block t e z w o' lo wr near =
-        let i : placeOf t ≡ blocked (between (stateOf filter) (r .lines) (r .outputs)) (d .state) n k = e ∙ ap (λ (p : Place). blocked p (d .state) n k) here in
+        let i : placeOf t ≡ afterBlock (between (stateOf filter) (r .lines) (r .outputs)) (d .state) n k = e
+        ∙ ap (λ (p : Place). afterBlock p (d .state) n k) here in
         let q : placeOf t ≡ ran (stateOf filter) (take n samples) (r .lines) (r .outputs) = i ∙ after-is (r .lines) (r .outputs) in
         record {
           runs = record {
-            place = ap (λ (x : Place). fedOf x (drop from input)) here ∙ batch-place (g .lines) (stateOf filter) fit (r .lines) (r .outputs) lines outs ∙ ap (λ (x : Place). fedOf x (drop next input)) (sym q);
-            text = marked (filter .unsettled) (values (outputs i32Ops (stateOf filter) (take n samples)));
-            bytes = ap (λ (x : Place). bytesOf x (drop from input)) here ∙ batch-bytes (g .lines) (stateOf filter) fit (r .lines) (r .outputs) lines outs
-                ∙ ap (λ (x : Place). marked (filter .unsettled) (values (outputs i32Ops (stateOf filter) (take n samples))) ++ bytesOf x (drop next input)) (sym q);
-            wrote = same text-is wr;
+            place = ap (λ (x : Place). fedOf x (drop from input)) here
+                ∙ batch-place (g .lines) (stateOf filter) fit (r .lines) (r .outputs) lines outs
+                ∙ ap (λ (x : Place). fedOf x (drop next input)) (sym q);
+            text = outputLines (filter .unsettled) (values (outputs i32Ops (stateOf filter) (take n samples)));
+            bytes = ap (λ (x : Place). bytesOf x (drop from input)) here
+                ∙ batch-bytes (g .lines) (stateOf filter) fit (r .lines) (r .outputs) lines outs
+                ∙ ap (λ (x : Place). outputLines (filter .unsettled) (values (outputs i32Ops (stateOf filter) (take n samples)))
+                ++ bytesOf x (drop next input)) (sym q);
+            wrote = wrote-same text-is wr;
           };
           room = record {
             within = omega (arith, room .fits going, block-few, g .far, g .within, length-drop from input);
-            fits = λ y. let m : length (placeOf t .line) ≡ 0 = ap (λ (x : Place). length (x .line)) i in omega (arith, room .fits going, block-few, g .far, g .within, length-drop from input, length-drop next input);
+            fits = λ y. let m : length (placeOf t .line) ≡ 0 = ap (λ (x : Place). length (x .line)) i in omega
+                (arith, room .fits going, block-few, g .far, g .within, length-drop from input, length-drop next input);
           };
           low = omega (arith, g .far);
           high = g .within;

@@ -9,10 +9,22 @@ use lib.ListN.{length, drop, length-take, length-append}
 use lib.Seq.{drop-length}
 use borrow.Author.Tests.{ltb-false, le-ltb}
 use Rattle.text.specs.Writing.{Wrote}
-use Rattle.text.proofs.Putting.{then, same}
+use Rattle.text.proofs.Putting.{then, wrote-same}
 use Rattle.playback.specs.Replays.{replay}
-use Rattle.playback.specs.Places.{Place, fedOf, bytesOf, finishBytes, start, placeOf, replayOf, feedNumber, over, written, fed}
-use Rattle.playback.specs.Turns.{Room, Turns}
+use Rattle.playback.specs.Places.{
+  Place,
+  fedOf,
+  bytesOf,
+  finishBytes,
+  start,
+  placeOf,
+  replayOf,
+  feedNumber,
+  frontWritten,
+  written,
+  fed,
+}
+use Rattle.playback.specs.Inner.Advances.{Room, Advances}
 use Rattle.playback.specs.declared.answers.Written.{Written}
 use Rattle.playback.specs.declared.driver.Replay.{Replay}
 use Rattle.playback.specs.declared.driver.Fed.{Fed}
@@ -35,38 +47,49 @@ module _ (input out : List ℕ) (short : Bool) (is : short ≡ ltb (length out) 
 
 -- a part that was refused or taken
 module _ (r : Replay) (input out : List ℕ) where
-  pub feed-refused : feedNumber input out ≡ 20 → (_≡_ {A = Fed} (record { replay = r; wrote = record { count = 0; verdict = Refused 20 } }) (fed r input out)) × (out ≡ over (feedNumber input out) (bytesOf (placeOf r) input) out)
+  pub feed-refused : feedNumber input out ≡ 20 → (_≡_ {A = Fed}
+      (record { replay = r; wrote = record { count = 0; verdict = Refused 20 } }) (fed r input out))
+      × (out ≡ frontWritten (feedNumber input out) (bytesOf (placeOf r) input) out)
   feed-refused e =
-      let w = refused-20 (feedNumber input out) (bytesOf (placeOf r) input) out e in
-      (ap (λ (x : Written). record { replay = r; wrote = x }) (w .0) ∙ ap (λ (x : Replay). record { replay = x; wrote = written (feedNumber input out) (bytesOf (placeOf r) input) }) (sym (rw e)), w .1)
+      let w = refused-20 (feedNumber input out) (bytesOf (placeOf r) input) out e in (
+        ap (λ (x : Written). record { replay = r; wrote = x }) (w .0)
+            ∙ ap (λ (x : Replay). record { replay = x; wrote = written (feedNumber input out) (bytesOf (placeOf r) input) })
+            (sym (rw e)),
+        w .1,
+      )
 
   -- a run to the end of the part
-  module _ (first last : Replay) (here : placeOf first ≡ placeOf r) (next w : ℕ) (o' : List ℕ) (t : Turns first input 0 out 0 last next w o') (all : next ≡ length input) where
+  module _ (first last : Replay) (here : placeOf first ≡ placeOf r) (next w : ℕ) (o' : List ℕ)
+      (t : Advances first input 0 out 0 last next w o') (all : next ≡ length input) where
     ran-all : (fedOf (placeOf r) input ≡ placeOf last) × Wrote out 0 (bytesOf (placeOf r) input) w o'
     ran-all =
         let e : drop next input ≡ [] = ap (λ (j : ℕ). drop j input) all ∙ drop-length input in
         let q = runs-end (placeOf first) input out 0 (placeOf last) w o' (rw e at (t .runs)) in
-        (ap (λ (p : Place). fedOf p input) (sym here) ∙ q .0, same (ap (λ (p : Place). bytesOf p input) here) (q .1))
+        (ap (λ (p : Place). fedOf p input) (sym here) ∙ q .0, wrote-same (ap (λ (p : Place). bytesOf p input) here) (q .1))
 
     pub feed-done : feedNumber input out ≡ 0 → (tidy : Replay) → tidy ≡ replayOf (placeOf last)
-        → (_≡_ {A = Fed} (record { replay = tidy; wrote = record { count = w; verdict = Done } }) (fed r input out)) × (o' ≡ over (feedNumber input out) (bytesOf (placeOf r) input) out)
+        → (_≡_ {A = Fed} (record { replay = tidy; wrote = record { count = w; verdict = Done } }) (fed r input out))
+        × (o' ≡ frontWritten (feedNumber input out) (bytesOf (placeOf r) input) out)
     feed-done e tidy q =
         let d = done (feedNumber input out) (bytesOf (placeOf r) input) out o' w e (ran-all .1) in
         let p : tidy ≡ replayOf (fedOf (placeOf r) input) = q ∙ ap replayOf (sym (ran-all .0)) in (
           ap (λ (x : Written). record { replay = tidy; wrote = x }) (d .0)
-              ∙ ap (λ (x : Replay). record { replay = x; wrote = written (feedNumber input out) (bytesOf (placeOf r) input) }) (p ∙ sym (rw e)),
+              ∙ ap (λ (x : Replay). record { replay = x; wrote = written (feedNumber input out) (bytesOf (placeOf r) input) })
+              (p ∙ sym (rw e)),
           d .1,
         )
 
     -- and then the end of the input
-    pub ran-whole : placeOf r ≡ start → length input < 2 ^ 64 → (n : ℕ) (o'' : List ℕ) → Wrote o' w (finishBytes (placeOf last)) n o'' → Wrote out 0 (replay input) n o''
+    pub ran-whole : placeOf r ≡ start → length input < 2 ^ 64 → (n : ℕ) (o'' : List ℕ)
+        → Wrote o' w (finishBytes (placeOf last)) n o'' → Wrote out 0 (replay input) n o''
     ran-whole s h n o'' f =
         let a : bytesOf (placeOf r) input ++ finishBytes (placeOf last) ≡ wholly start input =
         ap (λ (p : Place). bytesOf (placeOf r) input ++ finishBytes p) (sym (ran-all .0)) ∙ ap (λ (p : Place). wholly p input) s in
-        same (a ∙ whole input h) (then (omega arith) (ran-all .1) f)
+        wrote-same (a ∙ whole input h) (then (omega arith) (ran-all .1) f)
 
 -- for callers: what was written is within the slice, and a part for which there is room is taken
-pub count-fits : (number : ℕ) (bs o o' : List ℕ) (w : Written) → w ≡ written number bs → o' ≡ over number bs o → w .count ≤ length o'
+pub count-fits : (number : ℕ) (bs o o' : List ℕ) (w : Written) → w ≡ written number bs → o' ≡ frontWritten number bs o
+    → w .count ≤ length o'
 count-fits number bs o o' w e q = by (eqb number 0) (ap (λ (x : Written). x .count) e) q
   where
     by : (t : Bool) → w .count ≡ cond t (length bs) 0 → o' ≡ cond t (bs ++ drop (length bs) o) o → w .count ≤ length o'

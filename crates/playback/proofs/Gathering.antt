@@ -10,17 +10,19 @@ use lib.IntN.{ℤ, pos}
 use lib.ListN.{length, take, drop, getD, set, length-drop, take-append-drop}
 use lib.Seq.{drop-cons, drop-drop, take-suc-set, length-take-le}
 use borrow.Author.Tests.{eq-eqb, ne-eqb, leb-true, leb-false}
+use Rattle.text.specs.Letters.{byte, tab, newline}
 use Rattle.text.specs.Numbers.{numberOf, capped}
 use Rattle.text.specs.Parts.{parted, count, endOf}
 use Rattle.text.specs.Writing.{Wrote}
 use Rattle.text.proofs.Parting.{before-plain, parted-plain, end-at, end-part}
 use Rattle.text.proofs.Numerals.{number-count}
-use Rattle.text.proofs.Putting.{nothing, then, same as rewritten}
+use Rattle.text.proofs.Putting.{nothing, then, wrote-same as rewritten}
 use Rattle.text.specs.declared.numbers.Number.the-variants.{Wrong}
-use Rattle.records.specs.Lines.{same, nameOf, integerOf, recordOf}
+use Rattle.text.specs.Same.{same}
+use Rattle.records.specs.Lines.{nameOf, integerOf, recordOf}
 use Rattle.playback.specs.Replays.{outputLine}
-use Rattle.playback.specs.Turns as Turns
-use Rattle.playback.specs.Turns.{SampleLine, finds, Sampled, Gathers, marked}
+use Rattle.playback.specs.Inner.Advances as Advances
+use Rattle.playback.specs.Inner.Advances.{SampleLine, finds, Sampled, Gathers, outputLines}
 use Rattle.playback.specs.declared.samples.Found.{Found}
 use Rattle.playback.specs.declared.samples.Found.the-variants as Found
 use Rattle.records.specs.declared.parse.Integer.{Integer}
@@ -29,27 +31,33 @@ use Rattle.records.specs.declared.parse.Record.the-variants.{Sample}
 use Rattle.records.proofs.Parsing.{integer-capped}
 
 -- a line more at the end
-pub sampled-more : {bs mid : List ℕ} {xs : List ℤ} → Sampled bs xs mid → (line rest : List ℕ) (x : ℤ) → mid ≡ line ++ (10 ∷ rest)
-    → count 10 line ≡ 0 → length line ≤ 64 → recordOf line ≡ Sample x → Sampled bs (xs ++ (x ∷ [])) rest
-sampled-more Turns.none line rest x e plain short reads = rw e (Turns.more line plain short reads Turns.none)
-sampled-more (Turns.more l p s r on) line rest x e plain short reads = Turns.more l p s r (sampled-more on line rest x e plain short reads)
+pub sampled-more : {bs mid : List ℕ} {xs : List ℤ} → Sampled bs xs mid → (line rest : List ℕ) (x : ℤ) → mid ≡ line ++ (newline ∷ rest)
+    → count newline line ≡ 0 → length line ≤ 64 → recordOf line ≡ Sample x → Sampled bs (xs ++ (x ∷ [])) rest
+sampled-more Advances.none line rest x e plain short reads = rw e (Advances.more line plain short reads Advances.none)
+sampled-more (Advances.more l p s r on) line rest x e plain short reads = Advances.more l p s r
+    (sampled-more on line rest x e plain short reads)
 
--- `x`, a tab and a field that is a number
+-- `x`, a second and a field that is a number
 number-some : (field : List ℕ) (x : ℤ) → integerOf (numberOf field) ≡ Integer.Within x → numberOf field ≡ Wrong → ⊥
-number-some field x e w = let z : _≡_ {A = Integer} Integer.Outside (Integer.Within x) = sym (ap integerOf w) ∙ e in let k : _≡_ {A = ℕ} 0 1 = cc in omega arith
+number-some field x e w = let z : _≡_ {A = Integer} Integer.Outside (Integer.Within x) = sym (ap integerOf w)
+    ∙ e in let k : _≡_ {A = ℕ} 0 1 = cc in omega arith
 
 field-some : (field : List ℕ) (x : ℤ) → integerOf (numberOf field) ≡ Integer.Within x → 1 ≤ length field
 unfolding numberOf
 field-some [] x e = let k : _≡_ {A = ℕ} 0 1 = cc in absurd (omega arith)
 field-some (b ∷ l) x e = omega arith
 
-x-record : (field : List ℕ) (x : ℤ) → integerOf (numberOf field) ≡ Integer.Within x → recordOf (120 ∷ 9 ∷ field) ≡ Sample x
+x-record : (field : List ℕ) (x : ℤ) → integerOf (numberOf field) ≡ Integer.Within x → recordOf (byte "x" ∷ tab ∷ field) ≡ Sample x
 unfolding recordOf parted nameOf same
 x-record field x e =
-    let p : parted 9 field ≡ field ∷ [] = parted-plain 9 field (number-count 9 refl (λ z. omega arith) field (number-some field x e)) in
+    let p : parted tab field ≡ field ∷ [] = parted-plain tab field (number-count tab refl (λ z. omega arith) field
+    (number-some field x e)) in
     rw (p, e)
 
-module _ (l : List ℕ) (at end : ℕ) (x : ℤ) (long : at + 4 ≤ length l) (first : getD l at 0 ≡ 120) (tab : getD l (at + 1) 0 ≡ 9) (ends : end ≡ endOf 10 l (at + 2)) (more : end < length l) (near : end - (at + 2) ≤ 62) (v : Integer) (reads : v ≡ integerOf (capped (numberOf (take (end - (at + 2)) (drop (at + 2) l))))) (is : v ≡ Integer.Within x) where
+module _ (l : List ℕ) (at end : ℕ) (x : ℤ) (long : at + 4 ≤ length l) (first : getD l at 0 ≡ byte "x")
+    (second : getD l (at + 1) 0 ≡ tab) (ends : end ≡ endOf newline l (at + 2)) (more : end < length l) (near : end - (at + 2) ≤ 62)
+    (v : Integer) (reads : v ≡ integerOf (capped (numberOf (take (end - (at + 2)) (drop (at + 2) l)))))
+    (is : v ≡ Integer.Within x) where
   field : List ℕ
   field = take (end - (at + 2)) (drop (at + 2) l)
 
@@ -57,35 +65,39 @@ module _ (l : List ℕ) (at end : ℕ) (x : ℤ) (long : at + 4 ≤ length l) (f
   unfolding field
   field-reads = sym (integer-capped (numberOf (take (end - (at + 2)) (drop (at + 2) l)))) ∙ sym reads ∙ is
 
-  field-plain : count 10 field ≡ 0
+  field-plain : count newline field ≡ 0
   unfolding field
-  field-plain = rw ends (ap (count 10) (end-part 10 l (at + 2) (omega arith)) ∙ before-plain 10 (drop (at + 2) l))
+  field-plain = rw ends (ap (count newline) (end-part newline l (at + 2) (omega arith)) ∙ before-plain newline (drop (at + 2) l))
 
-  behind-field : drop (at + 2) l ≡ field ++ (10 ∷ drop (end + 1) l)
+  behind-field : drop (at + 2) l ≡ field ++ (newline ∷ drop (end + 1) l)
   unfolding field
   behind-field =
       let e : at + 2 + (end - (at + 2)) ≡ end = omega (arith, ends) in
       let q : suc end ≡ end + 1 = omega arith in
-      let n : getD l end 0 ≡ 10 = rw ends (end-at 10 l (at + 2) (omega arith) (rw ends at more)) in
+      let n : getD l end 0 ≡ newline = rw ends (end-at newline l (at + 2) (omega arith) (rw ends at more)) in
       sym (take-append-drop (end - (at + 2)) (drop (at + 2) l))
-      ∙ ap (λ (k : List ℕ). take (end - (at + 2)) (drop (at + 2) l) ++ k) (drop-drop (end - (at + 2)) (at + 2) l ∙ ap (λ (j : ℕ). drop j l) e ∙ drop-cons l end 0 more ∙ ap (λ (b : ℕ). b ∷ drop (suc end) l) n ∙ ap (λ (j : ℕ). 10 ∷ drop j l) q)
+      ∙ ap (λ (k : List ℕ). take (end - (at + 2)) (drop (at + 2) l) ++ k) (drop-drop (end - (at + 2)) (at + 2) l
+      ∙ ap (λ (j : ℕ). drop j l) e ∙ drop-cons l end 0 more ∙ ap (λ (b : ℕ). b ∷ drop (suc end) l) n
+      ∙ ap (λ (j : ℕ). newline ∷ drop j l) q)
 
   length-field : length field ≡ end - (at + 2)
   unfolding field
   length-field = length-take-le (end - (at + 2)) (drop (at + 2) l) (omega (arith, length-drop (at + 2) l))
 
-  two : drop at l ≡ 120 ∷ 9 ∷ drop (at + 2) l
+  two : drop at l ≡ byte "x" ∷ tab ∷ drop (at + 2) l
   two =
       let e : suc (suc at) ≡ at + 2 = omega arith in
       let f : suc at ≡ at + 1 = omega arith in
       drop-cons l at 0 (omega arith) ∙ ap (λ (b : ℕ). b ∷ drop (suc at) l) first
-      ∙ ap (λ (k : List ℕ). 120 ∷ k) (drop-cons l (suc at) 0 (omega arith) ∙ ap (λ (j : ℕ). getD l j 0 ∷ drop (suc (suc at)) l) f ∙ ap (λ (b : ℕ). b ∷ drop (suc (suc at)) l) tab ∙ ap (λ (j : ℕ). 9 ∷ drop j l) e)
+      ∙ ap (λ (k : List ℕ). byte "x" ∷ k) (drop-cons l (suc at) 0 (omega arith)
+      ∙ ap (λ (j : ℕ). getD l j 0 ∷ drop (suc (suc at)) l) f ∙ ap (λ (b : ℕ). b ∷ drop (suc (suc at)) l) second
+      ∙ ap (λ (j : ℕ). tab ∷ drop j l) e)
 
   pub sample-found : SampleLine l at x (end + 1)
   unfolding count
   sample-found = record {
-    line = 120 ∷ 9 ∷ field;
-    here = two ∙ ap (λ (k : List ℕ). 120 ∷ 9 ∷ k) behind-field;
+    line = byte "x" ∷ tab ∷ field;
+    here = two ∙ ap (λ (k : List ℕ). byte "x" ∷ tab ∷ k) behind-field;
     plain = field-plain;
     short = omega (arith, length-field);
     reads = x-record field x field-reads;
@@ -96,9 +108,10 @@ module _ (l : List ℕ) (at end : ℕ) (x : ℤ) (long : at + 4 ≤ length l) (f
 -- the loop that gathers
 module _ (l : List ℕ) (from : ℕ) where
   pub gathers-start : (samples : List ℤ) → from ≤ length l → Gathers l from samples 0 from
-  gathers-start samples h = record { few = omega arith; far = omega arith; within = h; lines = Turns.none }
+  gathers-start samples h = record { few = omega arith; far = omega arith; within = h; lines = Advances.none }
 
-  pub gathers-on : (samples : List ℤ) (n i next : ℕ) (x : ℤ) → n < 512 → n < length samples → Gathers l from samples n i → SampleLine l i x next → Gathers l from (set samples n x) (n + 1) next
+  pub gathers-on : (samples : List ℤ) (n i next : ℕ) (x : ℤ) → n < 512 → n < length samples → Gathers l from samples n i
+      → SampleLine l i x next → Gathers l from (set samples n x) (n + 1) next
   gathers-on samples n i next x h k g s =
       let e : take (n + 1) (set samples n x) ≡ take n samples ++ (x ∷ []) = rw add-one (take-suc-set samples n x k) in
       record {
@@ -112,7 +125,7 @@ module _ (l : List ℕ) (from : ℕ) where
 pub record Writing (o : List ℕ) (at : ℕ) (ys : List ℤ) (unsettled : ℕ) (o' : List ℕ) (w i : ℕ) : Type 0 where
   pub small : i ≤ length ys
   pub done : List ℕ
-  pub left : marked unsettled ys ≡ done ++ marked (unsettled - i) (drop i ys)
+  pub left : outputLines unsettled ys ≡ done ++ outputLines (unsettled - i) (drop i ys)
   pub wrote : Wrote o at done w o'
   pub near : w ≤ at + 16 * i
 
@@ -131,12 +144,13 @@ module _ (o : List ℕ) (at : ℕ) (ys : List ℤ) (unsettled : ℕ) (within : a
 
   pub writing-on : (o₁ o₂ : List ℕ) (w₁ w₂ i : ℕ) (y : ℤ) → i < length ys → y ≡ getD ys i (pos 0) → Writing o at ys unsettled o₁ w₁ i
       → Wrote o₁ w₁ (outputLine y (leb unsettled i)) w₂ o₂ → w₂ ≤ w₁ + 16 → Writing o at ys unsettled o₂ w₂ (i + 1)
-  unfolding marked
+  unfolding outputLines
   writing-on o₁ o₂ w₁ w₂ i y h e r w n =
       let d : drop i ys ≡ y ∷ drop (i + 1) ys = rw add-one (drop-cons ys i (pos 0) h ∙ ap (λ (b : ℤ). b ∷ drop (suc i) ys) (sym e)) in
       let m : unsettled - i - 1 ≡ unsettled - (i + 1) = omega arith in
-      let s : marked (unsettled - i) (drop i ys) ≡ outputLine y (leb unsettled i) ++ marked (unsettled - (i + 1)) (drop (i + 1) ys) =
-      rw (d, mark-is unsettled i) (ap (λ (u : ℕ). outputLine y (eqb (unsettled - i) 0) ++ marked u (drop (i + 1) ys)) m) in
+      let s : outputLines (unsettled - i) (drop i ys) ≡ outputLine y (leb unsettled i) ++ outputLines (unsettled - (i + 1))
+      (drop (i + 1) ys) =
+      rw (d, mark-is unsettled i) (ap (λ (u : ℕ). outputLine y (eqb (unsettled - i) 0) ++ outputLines u (drop (i + 1) ys)) m) in
       record {
         small = omega arith;
         done = r .done ++ outputLine y (leb unsettled i);
@@ -145,8 +159,8 @@ module _ (o : List ℕ) (at : ℕ) (ys : List ℤ) (unsettled : ℕ) (within : a
         near = omega (arith, r .near);
       }
 
-  pub writing-done : (o₁ : List ℕ) (w i : ℕ) → length ys ≤ i → Writing o at ys unsettled o₁ w i → Wrote o at (marked unsettled ys) w o₁
-  unfolding marked
+  pub writing-done : (o₁ : List ℕ) (w i : ℕ) → length ys ≤ i → Writing o at ys unsettled o₁ w i → Wrote o at (outputLines unsettled ys) w o₁
+  unfolding outputLines
   writing-done o₁ w i h r =
       let e : drop i ys ≡ [] = by-length (drop i ys) (length-drop i ys ∙ omega arith) in
       rewritten (sym (r .left ∙ rw e (append-nil (r .done)))) (r .wrote)

@@ -8,6 +8,7 @@ use lib.Dec.{eqb, ltb}
 use lib.IntN.{ℤ}
 use lib.ListN.{length}
 use borrow.Author.Tests.{ne-eqb}
+use Rattle.text.specs.Letters.{tab, newline}
 use Rattle.text.specs.Numbers.{numberOf}
 use Rattle.text.specs.Parts.{parted}
 use Rattle.text.proofs.Parting.{parted-total, total}
@@ -19,7 +20,8 @@ use Rattle.sums.specs.State.{State, refusal}
 use Rattle.sums.specs.Calls.{newNumber, newState, rateNumber, rateState, clearState}
 use Rattle.cic.specs.Reading.{i32Ops, stateOf, cicOf}
 use Rattle.blocks.specs.Verdicts.{verdictOf}
-use Rattle.records.specs.Lines.{same, nameOf, naturalOf, withNatural, fieldAt, wantedOf, filledOf, shapedOf, fieldsRecord, recordOf}
+use Rattle.text.specs.Same.{same}
+use Rattle.records.specs.Lines.{nameOf, naturalOf, withNatural, fieldAt, wantedOf, namedRecord, shapedOf, fieldsRecord, recordOf}
 use Rattle.records.specs.Sessions.{refuse, toldBy, ordered, takeOf, lineOf}
 use Rattle.playback.specs.Places.{givenBy, endTaken}
 use Rattle.records.specs.declared.parse.Name.{Name}
@@ -64,7 +66,8 @@ take-none s (Open n m rate) e =
     either (s .opened) (refuse s 71) (ordered s (newNumber n m rate) t) refl (ordered-none s (newNumber n m rate) t)
 take-none s (Rate rate) e =
     let f = stateOf (s .filter) in
-    either (s .opened) (ordered s (rateNumber f rate) (rateState i32Ops f rate)) (refuse s 71) (ordered-none s (rateNumber f rate) (rateState i32Ops f rate)) refl
+    either (s .opened) (ordered s (rateNumber f rate) (rateState i32Ops f rate)) (refuse s 71)
+    (ordered-none s (rateNumber f rate) (rateState i32Ops f rate)) refl
 take-none s (Sample v) e = cc
 take-none s Clear e =
     let f = stateOf (s .filter) in
@@ -89,7 +92,7 @@ tested false r h = refl
 never : {A : Type 0} → true ≡ false → A
 never e = let z : _≡_ {A = ℕ} 0 1 = cc in absurd (omega arith)
 
-x-field : (name : List ℕ) (fs : List (List ℕ)) → nameOf name ≡ Name.X → isSample (shapedOf Name.X fs) ≡ true → 4 ≤ total 9 (name ∷ fs)
+x-field : (name : List ℕ) (fs : List (List ℕ)) → nameOf name ≡ Name.X → isSample (shapedOf Name.X fs) ≡ true → 4 ≤ total tab (name ∷ fs)
 unfolding total nameOf same numberOf
 x-field [] fs n e = let z : _≡_ {A = Name} Name.Unknown Name.X = n in let k : _≡_ {A = ℕ} 0 1 = cc in absurd (omega arith)
 x-field (a ∷ name) [] n e = never (sym e)
@@ -99,10 +102,11 @@ x-field (a ∷ name) (f ∷ g ∷ gs) n e =
     let m : isSample (shapedOf Name.X (f ∷ g ∷ gs)) ≡ false = rw (ne-eqb (length (f ∷ g ∷ gs)) 1 (λ z. omega arith)) in
     never (sym e ∙ m)
 
-other-name : (k : Name) (fs : List (List ℕ)) → isSample (filledOf k fs) ≡ false → isSample (shapedOf k fs) ≡ false
-other-name k fs h = tested (eqb (length fs) (wantedOf k)) (filledOf k fs) h
+other-name : (k : Name) (fs : List (List ℕ)) → isSample (namedRecord k fs) ≡ false → isSample (shapedOf k fs) ≡ false
+other-name k fs h = tested (eqb (length fs) (wantedOf k)) (namedRecord k fs) h
 
-shaped-long : (k : Name) (name : List ℕ) (fs : List (List ℕ)) → nameOf name ≡ k → isSample (shapedOf k fs) ≡ true → 4 ≤ total 9 (name ∷ fs)
+shaped-long : (k : Name) (name : List ℕ) (fs : List (List ℕ)) → nameOf name ≡ k → isSample (shapedOf k fs) ≡ true
+    → 4 ≤ total tab (name ∷ fs)
 shaped-long Name.Cic name fs n e =
     never (sym e ∙ other-name Name.Cic fs (cic-none (naturalOf (fieldAt fs 0)) (naturalOf (fieldAt fs 1)) (naturalOf (fieldAt fs 2))))
 shaped-long Name.Rate name fs n e = never (sym e ∙ other-name Name.Rate fs (rate-none (naturalOf (fieldAt fs 0))))
@@ -110,13 +114,13 @@ shaped-long Name.X name fs n e = x-field name fs n e
 shaped-long Name.Clear name fs n e = never (sym e ∙ other-name Name.Clear fs refl)
 shaped-long Name.Unknown name fs n e = never (sym e ∙ other-name Name.Unknown fs refl)
 
-fields-long : (ps : List (List ℕ)) → isSample (fieldsRecord ps) ≡ true → 4 ≤ total 9 ps
+fields-long : (ps : List (List ℕ)) → isSample (fieldsRecord ps) ≡ true → 4 ≤ total tab ps
 fields-long [] e = never (sym e)
 fields-long (name ∷ fs) e = shaped-long (nameOf name) name fs refl e
 
 sample-long : (l : List ℕ) → isSample (recordOf l) ≡ true → 3 ≤ length l
 unfolding recordOf
-sample-long l e = omega (arith, fields-long (parted 9 l) e, parted-total 9 l)
+sample-long l e = omega (arith, fields-long (parted tab l) e, parted-total tab l)
 
 line-given : (s : Session) (l : List ℕ) → 16 * givenBy (lineOf s l .reply) ≤ 4 * (length l + 1)
 unfolding lineOf
@@ -131,7 +135,7 @@ line-given s l = by (ltb 64 (length l))
     by false = record-given (isSample (recordOf l)) refl
 
 pub end-given : (s : Session) (l : List ℕ) (b : ℕ) → 16 * givenBy (endTaken s l b .reply) ≤ 4 * (length l + 1)
-end-given s l b = by (eqb b 10)
+end-given s l b = by (eqb b newline)
   where
     by : (t : Bool) → 16 * givenBy (cond t (lineOf s l) (refuse s 72) .reply) ≤ 4 * (length l + 1)
     by true = line-given s l

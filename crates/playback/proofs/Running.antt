@@ -7,13 +7,26 @@ use Prim.Native.Nat.{ℕ, suc, _+_, _≤_, _<_}
 use lib.Dec.{eqb}
 use lib.ListN.{length, length-append}
 use borrow.Author.Tests.{ne-eqb, lt-ltb, eqb-false}
+use Rattle.text.specs.Letters.{newline}
 use Rattle.text.specs.Parts.{count}
 use Rattle.text.specs.Writing.{Wrote}
-use Rattle.text.proofs.Putting.{nothing, then, same}
-use Rattle.playback.specs.Places.{Place, raised, replyBytes, lineEnds, endTaken, ended, longer, stepPlace, stepBytes, fedOf, bytesOf}
-use Rattle.playback.specs.Turns.{Runs}
+use Rattle.text.proofs.Putting.{nothing, then, wrote-same}
+use Rattle.playback.specs.Places.{
+  Place,
+  countedUp,
+  replyBytes,
+  lineEnds,
+  endTaken,
+  ended,
+  longer,
+  stepPlace,
+  stepBytes,
+  fedOf,
+  bytesOf,
+}
+use Rattle.playback.specs.Inner.Advances.{Reaches}
 
--- the same place with another line
+-- the wrote-same place with another line
 abbrev pub lined : Place → List ℕ → Place
 lined p l = record { session = p .session; lines = p .lines; outputs = p .outputs; line = l; going = p .going }
 
@@ -38,7 +51,8 @@ module _ (p : Place) (h : p .going ≡ false) where
   pub stopped-bytes : (bs : List ℕ) → bytesOf p bs ≡ []
   unfolding bytesOf
   stopped-bytes [] = refl
-  stopped-bytes (b ∷ bs) = ap (λ (l : List ℕ). l ++ bytesOf (stepPlace p b) bs) (mute b) ∙ ap (λ (q : Place). bytesOf q bs) (stays b) ∙ stopped-bytes bs
+  stopped-bytes (b ∷ bs) = ap (λ (l : List ℕ). l ++ bytesOf (stepPlace p b) bs) (mute b)
+      ∙ ap (λ (q : Place). bytesOf q bs) (stays b) ∙ stopped-bytes bs
 
 -- a byte of a replay that goes on
 module _ (p : Place) (g : p .going ≡ true) (b : ℕ) where
@@ -46,7 +60,8 @@ module _ (p : Place) (g : p .going ≡ true) (b : ℕ) where
   unfolding stepPlace
   step-ends e = picked (p .going) true _ p g ∙ picked (lineEnds (p .line) b) true _ (longer p b) e
 
-  pub bytes-end : lineEnds (p .line) b ≡ true → stepBytes p b ≡ replyBytes (raised (p .lines) 1) (endTaken (p .session) (p .line) b .reply)
+  pub bytes-end : lineEnds (p .line) b ≡ true → stepBytes p b
+      ≡ replyBytes (countedUp (p .lines) 1) (endTaken (p .session) (p .line) b .reply)
   unfolding stepBytes
   bytes-end e = picked (p .going) true _ [] g ∙ picked (lineEnds (p .line) b) true _ [] e
 
@@ -59,19 +74,19 @@ module _ (p : Place) (g : p .going ≡ true) (b : ℕ) where
   bytes-on e = picked (p .going) true _ [] g ∙ picked (lineEnds (p .line) b) false _ [] e
 
 -- bytes without a newline
-no-newline : (b : ℕ) (l : List ℕ) → count 10 (b ∷ l) ≡ 0 → (b ≡ 10 → ⊥) × (count 10 l ≡ 0)
+no-newline : (b : ℕ) (l : List ℕ) → count newline (b ∷ l) ≡ 0 → (b ≡ newline → ⊥) × (count newline l ≡ 0)
 unfolding count
-no-newline b l h = by (eqb b 10) refl h
+no-newline b l h = by (eqb b newline) refl h
   where
-    by : (t : Bool) → eqb b 10 ≡ t → cond t (suc (count 10 l)) (count 10 l) ≡ 0 → (b ≡ 10 → ⊥) × (count 10 l ≡ 0)
+    by : (t : Bool) → eqb b newline ≡ t → cond t (suc (count newline l)) (count newline l) ≡ 0 → (b ≡ newline → ⊥) × (count newline l ≡ 0)
     by true e k = absurd (omega arith)
-    by false e k = (eqb-false b 10 e, k)
+    by false e k = (eqb-false b newline e, k)
 
-pub stays-open : (l : List ℕ) (b : ℕ) → (b ≡ 10 → ⊥) → length l < 64 → lineEnds l b ≡ false
-stays-open l b n h = rw (ne-eqb b 10 n, lt-ltb (length l) 64 h)
+pub stays-open : (l : List ℕ) (b : ℕ) → (b ≡ newline → ⊥) → length l < 64 → lineEnds l b ≡ false
+stays-open l b n h = rw (ne-eqb b newline n, lt-ltb (length l) 64 h)
 
 -- bytes that make the line longer
-pub plain-place : (taken cs : List ℕ) (p : Place) → p .going ≡ true → count 10 taken ≡ 0 → length (p .line ++ taken) ≤ 64
+pub plain-place : (taken cs : List ℕ) (p : Place) → p .going ≡ true → count newline taken ≡ 0 → length (p .line ++ taken) ≤ 64
     → fedOf p (taken ++ cs) ≡ fedOf (lined p (p .line ++ taken)) cs
 unfolding fedOf
 plain-place [] cs p g n h = ap (λ (l : List ℕ). fedOf (lined p l) cs) (sym (append-nil (p .line)))
@@ -83,7 +98,7 @@ plain-place (b ∷ taken) cs p g n h =
     ∙ plain-place taken cs (longer p b) g (m .1) (rw e h)
     ∙ ap (λ (l : List ℕ). fedOf (lined p l) cs) e
 
-pub plain-bytes : (taken cs : List ℕ) (p : Place) → p .going ≡ true → count 10 taken ≡ 0 → length (p .line ++ taken) ≤ 64
+pub plain-bytes : (taken cs : List ℕ) (p : Place) → p .going ≡ true → count newline taken ≡ 0 → length (p .line ++ taken) ≤ 64
     → bytesOf p (taken ++ cs) ≡ bytesOf (lined p (p .line ++ taken)) cs
 unfolding bytesOf
 plain-bytes [] cs p g n h = ap (λ (l : List ℕ). bytesOf (lined p l) cs) (sym (append-nil (p .line)))
@@ -97,7 +112,8 @@ plain-bytes (b ∷ taken) cs p g n h =
     ∙ ap (λ (l : List ℕ). bytesOf (lined p l) cs) e
 
 -- and the byte that ends it
-module _ (taken : List ℕ) (b : ℕ) (cs : List ℕ) (p : Place) (l : List ℕ) (g : p .going ≡ true) (n : count 10 taken ≡ 0) (e : l ≡ p .line ++ taken) (h : length l ≤ 64) (k : lineEnds l b ≡ true) where
+module _ (taken : List ℕ) (b : ℕ) (cs : List ℕ) (p : Place) (l : List ℕ) (g : p .going ≡ true) (n : count newline taken ≡ 0)
+    (e : l ≡ p .line ++ taken) (h : length l ≤ 64) (k : lineEnds l b ≡ true) where
   pub line-place : fedOf p (taken ++ (b ∷ cs)) ≡ fedOf (ended p (endTaken (p .session) l b)) cs
   unfolding fedOf
   line-place =
@@ -105,7 +121,8 @@ module _ (taken : List ℕ) (b : ℕ) (cs : List ℕ) (p : Place) (l : List ℕ)
       ∙ ap (λ (x : List ℕ). fedOf (lined p x) (b ∷ cs)) (sym e)
       ∙ ap (λ (q : Place). fedOf q cs) (step-ends (lined p l) g b k)
 
-  pub line-bytes : bytesOf p (taken ++ (b ∷ cs)) ≡ replyBytes (raised (p .lines) 1) (endTaken (p .session) l b .reply) ++ bytesOf (ended p (endTaken (p .session) l b)) cs
+  pub line-bytes : bytesOf p (taken ++ (b ∷ cs)) ≡ replyBytes (countedUp (p .lines) 1) (endTaken (p .session) l b .reply) ++ bytesOf
+      (ended p (endTaken (p .session) l b)) cs
   unfolding bytesOf
   line-bytes =
       plain-bytes taken (b ∷ cs) p g n (rw (sym e) h)
@@ -114,10 +131,11 @@ module _ (taken : List ℕ) (b : ℕ) (cs : List ℕ) (p : Place) (l : List ℕ)
       ∙ ap (λ (x : List ℕ). x ++ bytesOf (ended p (endTaken (p .session) l b)) cs) (bytes-end (lined p l) g b k)
 
 -- turns one after the other
-pub runs-none : (p : Place) (bs o : List ℕ) (at : ℕ) → Runs p bs o at p bs at o
+pub runs-none : (p : Place) (bs o : List ℕ) (at : ℕ) → Reaches p bs o at p bs at o
 runs-none p bs o at = record { place = refl; text = []; bytes = refl; wrote = nothing o at }
 
-pub runs-then : {p q r : Place} {bs cs ds o o₁ o₂ : List ℕ} {at w₁ w₂ : ℕ} → at ≤ length o → Runs p bs o at q cs w₁ o₁ → Runs q cs o₁ w₁ r ds w₂ o₂ → Runs p bs o at r ds w₂ o₂
+pub runs-then : {p q r : Place} {bs cs ds o o₁ o₂ : List ℕ} {at w₁ w₂ : ℕ} → at ≤ length o → Reaches p bs o at q cs w₁ o₁
+    → Reaches q cs o₁ w₁ r ds w₂ o₂ → Reaches p bs o at r ds w₂ o₂
 runs-then {p} {q} {r} {bs} {cs} {ds} h x y = record {
   place = x .place ∙ y .place;
   text = x .text ++ y .text;
@@ -126,7 +144,7 @@ runs-then {p} {q} {r} {bs} {cs} {ds} h x y = record {
 }
 
 -- a stopped replay leaves the rest
-pub runs-stopped : (p : Place) (bs o : List ℕ) (at : ℕ) → p .going ≡ false → Runs p bs o at p [] at o
+pub runs-stopped : (p : Place) (bs o : List ℕ) (at : ℕ) → p .going ≡ false → Reaches p bs o at p [] at o
 runs-stopped p bs o at h = record {
   place = stopped-place p h bs ∙ sym (stopped-place p h []);
   text = [];
@@ -135,6 +153,7 @@ runs-stopped p bs o at h = record {
 }
 
 -- at the end of the input nothing is left
-pub runs-end : (p : Place) (bs o : List ℕ) (at : ℕ) (q : Place) (w : ℕ) (o' : List ℕ) → Runs p bs o at q [] w o' → (fedOf p bs ≡ q) × Wrote o at (bytesOf p bs) w o'
+pub runs-end : (p : Place) (bs o : List ℕ) (at : ℕ) (q : Place) (w : ℕ) (o' : List ℕ) → Reaches p bs o at q [] w o'
+    → (fedOf p bs ≡ q) × Wrote o at (bytesOf p bs) w o'
 unfolding fedOf bytesOf
-runs-end p bs o at q w o' r = (r .place, same (sym (r .bytes ∙ append-nil (r .text))) (r .wrote))
+runs-end p bs o at q w o' r = (r .place, wrote-same (sym (r .bytes ∙ append-nil (r .text))) (r .wrote))

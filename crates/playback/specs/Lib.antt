@@ -1,3 +1,3 @@
-pub mod Replays
+pub mod Inner
 pub mod Places
-pub mod Turns
+pub mod Replays

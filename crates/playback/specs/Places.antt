@@ -1,4 +1,5 @@
 -- The replay byte by byte, as a part of the input leaves it: what the driver promises. specs/Replays is what it comes to.
+use mathlib.Core.Path.{_≡_}
 use mathlib.Core.Bool.{Bool, true, false, cond}
 use mathlib.Core.List.{List, [], _∷_, _++_}
 use Prim.Native.Nat.{ℕ, _+_, _-_, _*_, min}
@@ -6,6 +7,7 @@ use lib.Dec.{ltb, eqb}
 use lib.ListN.{length, take, drop, replicate}
 use Rattle.blocks.specs.Verdicts.{verdictOf}
 use Rattle.sums.specs.Calls.{unless}
+use Rattle.text.specs.Letters.{newline}
 use Rattle.records.specs.Sessions.{refuse, lineOf}
 use Rattle.playback.specs.Replays.{outputLine, endLine, badLine, unopened}
 use Rattle.records.specs.declared.session.Session.{Session}
@@ -25,8 +27,8 @@ pub record Place : Type 0 where
   pub going : Bool
 
 -- A count is held in 64 bits and stays at its greatest: an input that could bring it there has 2 ^ 64 bytes.
-abbrev pub raised : ℕ → ℕ → ℕ
-raised n by = min (n + by) 18446744073709551615
+abbrev pub countedUp : ℕ → ℕ → ℕ
+countedUp n by = min (n + by) 18446744073709551615
 
 -- what an answer writes, how many outputs it gives, and whether the replay goes on
 abbrev pub replyBytes : ℕ → Reply → List ℕ
@@ -46,16 +48,16 @@ goesOn (Reply.Bad number) = false
 
 -- A newline ends the line. Any other byte makes it longer, but where it has 64 bytes already: a line over 64 bytes is refused at its 65th.
 abbrev pub lineEnds : List ℕ → ℕ → Bool
-lineEnds line b = cond (eqb b 10) true (cond (ltb (length line) 64) false true)
+lineEnds line b = cond (eqb b newline) true (cond (ltb (length line) 64) false true)
 
 abbrev pub endTaken : Session → List ℕ → ℕ → Taken
-endTaken s line b = cond (eqb b 10) (lineOf s line) (refuse s 72)
+endTaken s line b = cond (eqb b newline) (lineOf s line) (refuse s 72)
 
 abbrev pub ended : Place → Taken → Place
 ended p t = record {
   session = t .session;
-  lines = raised (p .lines) 1;
-  outputs = raised (p .outputs) (givenBy (t .reply));
+  lines = countedUp (p .lines) 1;
+  outputs = countedUp (p .outputs) (givenBy (t .reply));
   line = [];
   going = goesOn (t .reply);
 }
@@ -68,7 +70,8 @@ unfoldable pub stepPlace : Place → ℕ → Place
 stepPlace p b = cond (p .going) (cond (lineEnds (p .line) b) (ended p (endTaken (p .session) (p .line) b)) (longer p b)) p
 
 unfoldable pub stepBytes : Place → ℕ → List ℕ
-stepBytes p b = cond (p .going) (cond (lineEnds (p .line) b) (replyBytes (raised (p .lines) 1) (endTaken (p .session) (p .line) b .reply)) []) []
+stepBytes p b = cond (p .going) (cond (lineEnds (p .line) b)
+    (replyBytes (countedUp (p .lines) 1) (endTaken (p .session) (p .line) b .reply)) []) []
 
 -- a part of the input
 unfoldable pub fedOf : Place → List ℕ → Place
@@ -81,7 +84,7 @@ bytesOf p (b ∷ bs) = stepBytes p b ++ bytesOf (stepPlace p b) bs
 
 -- the end of the input
 unfoldable pub finishBytes : Place → List ℕ
-finishBytes p = cond (p .going) (cond (eqb (length (p .line)) 0) (endLine (p .outputs)) (badLine (raised (p .lines) 1) 70)) []
+finishBytes p = cond (p .going) (cond (eqb (length (p .line)) 0) (endLine (p .outputs)) (badLine (countedUp (p .lines) 1) 70)) []
 
 -- before the first byte
 abbrev pub start : Place
@@ -110,11 +113,15 @@ abbrev pub feedNumber : List ℕ → List ℕ → ℕ
 feedNumber input out = cond (ltb (length out) (4 * length input + 292)) 20 0
 
 -- the front of a lent slice is written and the rest stays as it was; where the call has a number, all of it stays
-abbrev pub over : ℕ → List ℕ → List ℕ → List ℕ
-over number bytes out = unless number out (bytes ++ drop (length bytes) out)
+abbrev pub frontWritten : ℕ → List ℕ → List ℕ → List ℕ
+frontWritten number bytes out = unless number out (bytes ++ drop (length bytes) out)
 
 abbrev pub written : ℕ → List ℕ → Written
 written number bytes = record { count = unless number 0 (length bytes); verdict = verdictOf number }
+
+-- what a call that writes to the front of a lent slice answers and leaves there
+abbrev pub Writes : ℕ → List ℕ → List ℕ → Written → List ℕ → Type 0
+Writes number bytes out r left = (r ≡ written number bytes) × (left ≡ frontWritten number bytes out)
 
 -- a part of the input: the replay after it, and what was written
 abbrev pub fed : Replay → List ℕ → List ℕ → Fed
@@ -123,10 +130,14 @@ fed r input out = record {
   wrote = written (feedNumber input out) (bytesOf (placeOf r) input);
 }
 
+abbrev pub Feeds : Replay → List ℕ → List ℕ → Fed → List ℕ → Type 0
+Feeds r input out f left =
+    (f ≡ fed r input out) × (left ≡ frontWritten (feedNumber input out) (bytesOf (placeOf r) input) out)
+
 -- An input in parts: what they give out one after the other, and then the end.
-unfoldable pub joined : List (List ℕ) → List ℕ
-joined [] = []
-joined (part ∷ rest) = part ++ joined rest
+unfoldable pub concatenated : List (List ℕ) → List ℕ
+concatenated [] = []
+concatenated (part ∷ rest) = part ++ concatenated rest
 
 unfoldable pub inParts : Replay → List (List ℕ) → List ℕ
 inParts r [] = finishBytes (placeOf r)

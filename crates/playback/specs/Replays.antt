@@ -5,6 +5,7 @@ use Prim.Native.Nat.{ℕ, suc}
 use lib.Dec.{ltb, eqb}
 use lib.IntN.{ℤ}
 use lib.ListN.{length}
+use Rattle.text.specs.Letters.{byte, bytes, tab, newline}
 use Rattle.text.specs.Numbers.{decimalOf, signedOf}
 use Rattle.text.specs.Parts.{parted}
 use Rattle.sums.specs.State.{blank}
@@ -16,15 +17,15 @@ use Rattle.records.specs.declared.session.Reply.the-variants as Reply
 
 -- Each output gives `y`, value, 1 for settled or 0.
 unfoldable pub outputLine : ℤ → Bool → List ℕ
-outputLine value settled = 121 ∷ 9 ∷ (signedOf value ++ (9 ∷ cond settled 49 48 ∷ 10 ∷ []))
+outputLine value settled = bytes "y\t" ++ (signedOf value ++ (tab ∷ cond settled (byte "1") (byte "0") ∷ newline ∷ []))
 
 -- At the end of input: `end` and the count of outputs.
 unfoldable pub endLine : ℕ → List ℕ
-endLine outputs = 101 ∷ 110 ∷ 100 ∷ 9 ∷ (decimalOf outputs ++ (10 ∷ []))
+endLine outputs = bytes "end\t" ++ (decimalOf outputs ++ (newline ∷ []))
 
 -- At a refusal: `bad`, line number from 1, refusal number,
 unfoldable pub badLine : ℕ → ℕ → List ℕ
-badLine line number = 98 ∷ 97 ∷ 100 ∷ 9 ∷ (decimalOf line ++ (9 ∷ (decimalOf number ++ (10 ∷ []))))
+badLine line number = bytes "bad\t" ++ (decimalOf line ++ (tab ∷ (decimalOf number ++ (newline ∷ []))))
 
 -- and it stops without `end`. Else the rest follows, told how many outputs there were.
 abbrev pub answered : Reply → ℕ → ℕ → (ℕ → List ℕ) → List ℕ
@@ -32,7 +33,8 @@ answered Reply.Silent line outputs rest = rest outputs
 answered (Reply.Output value settled) line outputs rest = outputLine value settled ++ rest (suc outputs)
 answered (Reply.Bad number) line outputs rest = badLine line number
 
--- Each line is ended by byte 10: what follows the last one is an unterminated line, unless it is empty. That is 72 over 64 bytes, else 70.
+-- Each line is ended by a newline: what follows the last one is an unterminated line, unless it is empty.
+-- That is 72 over 64 bytes, else 70.
 abbrev pub closing : ℕ → ℕ → List ℕ → List ℕ
 closing lines outputs last = cond (eqb (length last) 0) (endLine outputs) (badLine (suc lines) (cond (ltb 64 (length last)) 72 70))
 
@@ -48,4 +50,4 @@ abbrev pub unopened : Session
 unopened = record { opened = false; filter = cicOf (blank i32Ops) }
 
 unfoldable pub replay : List ℕ → List ℕ
-replay input = replayFrom unopened 0 0 (parted 10 input)
+replay input = replayFrom unopened 0 0 (parted newline input)

@@ -11,7 +11,7 @@ ghost use Prim.Native.Nat.{_+_, _*_, _≤_};
 ghost use lib.ListN.{length};
 ghost use Rattle.text.specs.Writing.{Wrote};
 ghost use Rattle.playback.specs.Replays.{outputLine, endLine, badLine};
-ghost use Rattle.playback.specs.Places.{replyBytes, givenBy, goesOn, answerNumber, over, written};
+ghost use Rattle.playback.specs.Places.{replyBytes, givenBy, goesOn, answerNumber, Writes};
 
 // How many bytes were written to the front of a lent slice, and whether it was long enough.
 pub struct Written {
@@ -39,9 +39,9 @@ pub(crate) fn put_bad(out: &mut [u8], at: usize, line: u64, number: u32) -> usiz
 {
     let a = put_bytes(out, at, b"bad\t");
     let b = put_decimal(out, a, line);
-    let c = put_byte(out, b, 9);
+    let c = put_byte(out, b, b'\t');
     let d = put_decimal(out, c, number as u64);
-    put_byte(out, d, 10)
+    put_byte(out, d, b'\n')
 }
 
 // `end` and the count of outputs.
@@ -51,13 +51,14 @@ pub(crate) fn put_end(out: &mut [u8], at: usize, outputs: u64) -> usize
 {
     let a = put_bytes(out, at, b"end\t");
     let b = put_decimal(out, a, outputs);
-    put_byte(out, b, 10)
+    put_byte(out, b, b'\n')
 }
 
 // What line number `line` is answered.
 pub(crate) fn put_reply(out: &mut [u8], at: usize, line: u64, reply: Reply) -> usize
     requires { ⌜ at + 36 ≤ length (now out) ⌝ }
-    ensures { λ r. ⌜ Wrote (now (out .entry)) at (replyBytes line reply) r (now (out .exit)) × (r ≤ at + 36) × (goesOn reply ≡ true → r ≤ at + 16 * givenBy reply) ⌝ }
+    ensures { λ r. ⌜ Wrote (now (out .entry)) at (replyBytes line reply) r (now (out .exit)) × (r ≤ at + 36)
+        × (goesOn reply ≡ true → r ≤ at + 16 * givenBy reply) ⌝ }
 {
     match reply {
         Reply::Silent => at,
@@ -69,7 +70,7 @@ pub(crate) fn put_reply(out: &mut [u8], at: usize, line: u64, reply: Reply) -> u
 // What line number `line` is answered, to the front of out; the rest stays. Refused with 20, nothing written, where out
 // is shorter than 36 bytes, the longest answer.
 pub fn write_reply(line: u64, reply: Reply, out: &mut [u8]) -> Written
-    ensures { λ r. ⌜ (r ≡ written (answerNumber (now (out .entry))) (replyBytes line reply)) × (now (out .exit) ≡ over (answerNumber (now (out .entry))) (replyBytes line reply) (now (out .entry))) ⌝ }
+    ensures { λ r. ⌜ Writes (answerNumber (now (out .entry))) (replyBytes line reply) (now (out .entry)) r (now (out .exit)) ⌝ }
 {
     if out.len() < 36 {
         return Written {

@@ -2,8 +2,8 @@
 use crate::answers::Written;
 use crate::answers::put_bad;
 use crate::answers::put_end;
-use crate::turns::raise;
-use crate::turns::run;
+use crate::turns::count_up;
+use crate::turns::replay_part;
 use blocks::Verdict;
 use cic::state::Cic;
 use records::session::Session;
@@ -15,8 +15,7 @@ ghost use lib.Dec.{ltb};
 ghost use lib.ListN.{length, take, replicate};
 ghost use Rattle.text.specs.Writing.{Wrote};
 ghost use Rattle.playback.specs.Replays.{replay};
-ghost use Rattle.playback.specs.Places.{start, placeOf, replayOf, bytesOf, finishBytes};
-ghost use Rattle.playback.specs.Places.{answerNumber, feedNumber, over, written, fed};
+ghost use Rattle.playback.specs.Places.{start, placeOf, replayOf, finishBytes, answerNumber, feedNumber, Writes, Feeds};
 
 // What a replay keeps from one part of its input to the next: its filter, the lines and outputs so far, the first len
 // bytes of `line` that came of the next line, and whether no refusal has stopped it.
@@ -71,7 +70,7 @@ fn put_finish(r: Replay, out: &mut [u8], at: usize) -> usize
     if r.len == 0 {
         return put_end(out, at, r.outputs);
     }
-    put_bad(out, at, raise(r.lines, 1), 70)
+    put_bad(out, at, count_up(r.lines, 1), 70)
 }
 
 impl Replay {
@@ -100,7 +99,7 @@ impl Replay {
     // out stays. Refused with 20 where out is shorter than 4 bytes for each of the part's and 292 more; a refused part
     // changes nothing.
     pub fn feed(self, input: &[u8], out: &mut [u8]) -> Fed
-        ensures { λ r. ⌜ (r ≡ fed self (now (input .entry)) (now (out .entry))) × (now (out .exit) ≡ over (feedNumber (now (input .entry)) (now (out .entry))) (bytesOf (placeOf self) (now (input .entry))) (now (out .entry))) ⌝ }
+        ensures { λ r. ⌜ Feeds self (now (input .entry)) (now (out .entry)) r (now (out .exit)) ⌝ }
     {
         if short_of(out.len(), input.len()) {
             let none = Written {
@@ -115,7 +114,7 @@ impl Replay {
         let first = self.clipped();
         let mut samples = [0i32; 512];
         let mut given = [0i32; 512];
-        let t = run(first, input, out, &mut samples, &mut given);
+        let t = replay_part(first, input, out, &mut samples, &mut given);
         let last = t.replay;
         let wrote = Written {
             count: t.written,
@@ -130,7 +129,7 @@ impl Replay {
     // The end of the input: `end` and the count of outputs, or a refusal, goes to the front of out, and the rest of out
     // stays. Refused with 20, nothing written, where out is shorter than 36 bytes.
     pub fn finish(self, out: &mut [u8]) -> Written
-        ensures { λ r. ⌜ (r ≡ written (answerNumber (now (out .entry))) (finishBytes (placeOf self))) × (now (out .exit) ≡ over (answerNumber (now (out .entry))) (finishBytes (placeOf self)) (now (out .entry))) ⌝ }
+        ensures { λ r. ⌜ Writes (answerNumber (now (out .entry))) (finishBytes (placeOf self)) (now (out .entry)) r (now (out .exit)) ⌝ }
     {
         if out.len() < 36 {
             return Written {
@@ -178,7 +177,8 @@ impl Replay {
 // The replay of an input that is there as a whole, to the front of out; the rest of out stays. Refused with 20, nothing
 // written, where out is shorter than 4 bytes for each of the input's and 292 more.
 pub fn replay_whole(input: &[u8], out: &mut [u8]) -> Written
-    ensures { λ r. ⌜ (r ≡ written (feedNumber (now (input .entry)) (now (out .entry))) (replay (now (input .entry)))) × (now (out .exit) ≡ over (feedNumber (now (input .entry)) (now (out .entry))) (replay (now (input .entry))) (now (out .entry))) ⌝ }
+    ensures { λ r. ⌜ Writes (feedNumber (now (input .entry)) (now (out .entry))) (replay (now (input .entry))) (now (out .entry)) r
+        (now (out .exit)) ⌝ }
 {
     if short_of(out.len(), input.len()) {
         return Written {
@@ -189,7 +189,7 @@ pub fn replay_whole(input: &[u8], out: &mut [u8]) -> Written
     let first = Replay::start();
     let mut samples = [0i32; 512];
     let mut given = [0i32; 512];
-    let t = run(first, input, out, &mut samples, &mut given);
+    let t = replay_part(first, input, out, &mut samples, &mut given);
     let last = t.replay;
     let n = put_finish(last, out, t.written);
     Written {

@@ -7,7 +7,7 @@ use text::parts::part_end;
 ghost use Prim.Native.Nat.{_+_, _*_, _≤_};
 ghost use lib.ListN.{length, take};
 ghost use Rattle.text.specs.Writing.{Wrote};
-ghost use Rattle.playback.specs.Turns.{finds, Gathers, marked};
+ghost use Rattle.playback.specs.Inner.Advances.{finds, Gathers, outputLines};
 
 // A whole line that is a sample: its value, and where the next line starts.
 pub enum Found {
@@ -29,14 +29,14 @@ fn sample_at(input: &[u8], at: usize) -> Found
     if n - at < 4 {
         return Found::Other;
     }
-    if input[at] != 120 {
+    if input[at] != b'x' {
         return Found::Other;
     }
-    if input[at + 1] != 9 {
+    if input[at + 1] != b'\t' {
         return Found::Other;
     }
     let from = at + 2;
-    let end = part_end(input, from, 10);
+    let end = part_end(input, from, b'\n');
     if n <= end {
         return Found::Other;
     }
@@ -78,7 +78,8 @@ pub(crate) fn put_outputs(
     unsettled: usize,
 ) -> usize
     requires { ⌜ (count ≤ length (now given)) × (at + 16 * count ≤ length (now out)) ⌝ }
-    ensures { λ r. ⌜ Wrote (now (out .entry)) at (marked unsettled (take count (now (given .entry)))) r (now (out .exit)) × (r ≤ at + 16 * count) ⌝ }
+    ensures { λ r. ⌜ Wrote (now (out .entry)) at (outputLines unsettled (take count (now (given .entry)))) r (now (out .exit))
+        × (r ≤ at + 16 * count) ⌝ }
 {
     let mut w = at;
     let mut i: usize = 0;

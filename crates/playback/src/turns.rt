@@ -13,11 +13,11 @@ ghost use mathlib.Core.Bool.{_&&_};
 ghost use Prim.Native.Nat.{_+_, _≤_, _<_};
 ghost use lib.Dec.{eqb};
 ghost use lib.ListN.{length, take, drop};
-ghost use Rattle.playback.specs.Places.{raised, givenBy, goesOn, endTaken, placeOf};
-ghost use Rattle.playback.specs.Turns.{Fills, Answers, Room, Turns, blocked};
+ghost use Rattle.playback.specs.Places.{countedUp, givenBy, goesOn, endTaken, placeOf};
+ghost use Rattle.playback.specs.Inner.Advances.{Collects, Answers, Room, Advances, afterBlock};
 
 // A replay after some bytes, the place of the next byte, and the place behind what was written.
-pub struct Turned {
+pub struct Advanced {
     pub replay: Replay,
     pub next: usize,
     pub written: usize,
@@ -30,14 +30,14 @@ pub struct Answered {
 }
 
 // A line's length so far, and the place of the byte that ends it.
-pub struct Filled {
+pub struct Collected {
     pub len: usize,
     pub at: usize,
 }
 
 // A count raised, no further than 2^64 - 1.
-pub(crate) fn raise(n: u64, by: usize) -> u64
-    ensures { λ r. ⌜ r ≡ raised n by ⌝ }
+pub(crate) fn count_up(n: u64, by: usize) -> u64
+    ensures { λ r. ⌜ r ≡ countedUp n by ⌝ }
 {
     let k = by as u64;
     if n <= 18446744073709551615 - k {
@@ -68,32 +68,33 @@ fn given_by(reply: Reply) -> usize
 }
 
 // The bytes of the input that make the line longer: up to a newline, or until it has 64.
-fn fill(line: &mut [u8; 64], len: usize, input: &[u8], from: usize) -> Filled
+fn collect(line: &mut [u8; 64], len: usize, input: &[u8], from: usize) -> Collected
     requires { ⌜ (len ≤ 64) × (from ≤ length (now input)) × (length (now line) ≡ 64) ⌝ }
-    ensures { λ r. ⌜ Fills (take len (now (line .entry))) (now (input .entry)) from (take (r .len) (now (line .exit))) (r .len) (r .at) ⌝ }
+    ensures { λ r. ⌜ Collects (take len (now (line .entry))) (now (input .entry)) from
+        (take (r .len) (now (line .exit))) (r .len) (r .at) ⌝ }
 {
     let mut n = len;
     let mut i = from;
     while i < input.len() {
         let b = input[i];
-        if b == 10 {
-            return Filled { len: n, at: i };
+        if b == b'\n' {
+            return Collected { len: n, at: i };
         }
         if n == 64 {
-            return Filled { len: n, at: i };
+            return Collected { len: n, at: i };
         }
         line[n] = b;
         n += 1;
         i += 1;
     }
-    Filled { len: n, at: i }
+    Collected { len: n, at: i }
 }
 
 // The line that byte b ends: a newline, or the 65th byte.
 fn end_line(s: Session, line: &[u8], b: u8) -> Taken
     ensures { λ r. ⌜ r ≡ endTaken s (now (line .entry)) b ⌝ }
 {
-    if b == 10 {
+    if b == b'\n' {
         return take_line(s, line);
     }
     Taken {
@@ -103,19 +104,19 @@ fn end_line(s: Session, line: &[u8], b: u8) -> Taken
 }
 
 // The replay after a line that was taken, and its answer.
-fn answer(r: Replay, t: Taken, out: &mut [u8], at: usize) -> Answered
+fn answer_line(r: Replay, t: Taken, out: &mut [u8], at: usize) -> Answered
     requires { ⌜ at + 36 ≤ length (now out) ⌝ }
     ensures { λ a. ⌜ Answers r t (now (out .entry)) at (a .replay) (a .written) (now (out .exit)) ⌝ }
 {
     let session = t.session;
     let reply = t.reply;
-    let number = raise(r.lines, 1);
+    let number = count_up(r.lines, 1);
     let written = put_reply(out, at, number, reply);
     let line = r.line;
     let replay = Replay {
         session,
         lines: number,
-        outputs: raise(r.outputs, given_by(reply)),
+        outputs: count_up(r.outputs, given_by(reply)),
         line,
         len: 0,
         going: goes_on(reply),
@@ -124,20 +125,21 @@ fn answer(r: Replay, t: Taken, out: &mut [u8], at: usize) -> Answered
 }
 
 // The bytes up to the end of a line, or of the input.
-fn take_bytes(r: Replay, input: &[u8], from: usize, out: &mut [u8], at: usize) -> Turned
+fn take_bytes(r: Replay, input: &[u8], from: usize, out: &mut [u8], at: usize) -> Advanced
     requires { ⌜ (r .len ≤ 64) × (from ≤ length (now input)) × Room (placeOf r) (drop from (now input)) (now out) at ⌝ }
-    ensures { λ t. ⌜ Turns r (now (input .entry)) from (now (out .entry)) at (t .replay) (t .next) (t .written) (now (out .exit)) × (from < length (now (input .entry)) → from < t .next) ⌝ }
+    ensures { λ t. ⌜ Advances r (now (input .entry)) from (now (out .entry)) at (t .replay) (t .next) (t .written) (now (out .exit))
+        × (from < length (now (input .entry)) → from < t .next) ⌝ }
 {
     let going = r.going;
     if !going {
-        return Turned {
+        return Advanced {
             replay: r,
             next: input.len(),
             written: at,
         };
     }
     let mut line = r.line;
-    let f = fill(&mut line, r.len, input, from);
+    let f = collect(&mut line, r.len, input, from);
     let n = f.len;
     let i = f.at;
     let session = r.session;
@@ -145,16 +147,16 @@ fn take_bytes(r: Replay, input: &[u8], from: usize, out: &mut [u8], at: usize) -
         let mut cut = r;
         cut.line = line;
         cut.len = n;
-        return Turned {
+        return Advanced {
             replay: cut,
             next: i,
             written: at,
         };
     }
     let t = end_line(session, &line[..n], input[i]);
-    let a = answer(r, t, out, at);
+    let a = answer_line(r, t, out, at);
     let replay = a.replay;
-    Turned {
+    Advanced {
         replay,
         next: i + 1,
         written: a.written,
@@ -176,7 +178,7 @@ fn ready(going: bool, opened: bool, len: usize) -> bool
 
 // The replay after a block of `x` lines: its filter, and so many lines and outputs more.
 fn after_block(r: Replay, filter: Cic, lines: usize, outputs: usize) -> Replay
-    ensures { λ t. ⌜ (placeOf t ≡ blocked (placeOf r) filter lines outputs) × (t .len ≡ r .len) ⌝ }
+    ensures { λ t. ⌜ (placeOf t ≡ afterBlock (placeOf r) filter lines outputs) × (t .len ≡ r .len) ⌝ }
 {
     let session = Session {
         opened: true,
@@ -184,8 +186,8 @@ fn after_block(r: Replay, filter: Cic, lines: usize, outputs: usize) -> Replay
     };
     let mut next = r;
     next.session = session;
-    next.lines = raise(r.lines, lines);
-    next.outputs = raise(r.outputs, outputs);
+    next.lines = count_up(r.lines, lines);
+    next.outputs = count_up(r.outputs, outputs);
     next
 }
 
@@ -198,11 +200,12 @@ fn take_samples(
     at: usize,
     samples: &mut [i32],
     given: &mut [i32],
-) -> Turned
-    requires { ⌜ (r .len ≤ 64) × (from ≤ length (now input)) × Room (placeOf r) (drop from (now input)) (now out) at × (512 ≤ length (now samples)) × (512 ≤ length (now given)) ⌝ }
-    ensures { λ t. ⌜ Turns r (now (input .entry)) from (now (out .entry)) at (t .replay) (t .next) (t .written) (now (out .exit)) ⌝ }
+) -> Advanced
+    requires { ⌜ (r .len ≤ 64) × (from ≤ length (now input)) × Room (placeOf r) (drop from (now input)) (now out) at
+        × (512 ≤ length (now samples)) × (512 ≤ length (now given)) ⌝ }
+    ensures { λ t. ⌜ Advances r (now (input .entry)) from (now (out .entry)) at (t .replay) (t .next) (t .written) (now (out .exit)) ⌝ }
 {
-    let same = Turned {
+    let same = Advanced {
         replay: r,
         next: from,
         written: at,
@@ -221,7 +224,7 @@ fn take_samples(
     };
     let w = put_outputs(out, at, given, k, unsettled);
     let state = d.state;
-    Turned {
+    Advanced {
         replay: after_block(r, state, count, k),
         next: g.next,
         written: w,
@@ -229,15 +232,17 @@ fn take_samples(
 }
 
 // A part of the input, with room for samples and outputs of a block.
-pub(crate) fn run(
+pub(crate) fn replay_part(
     first: Replay,
     input: &[u8],
     out: &mut [u8],
     samples: &mut [i32],
     given: &mut [i32],
-) -> Turned
-    requires { ⌜ (first .len ≤ 64) × Room (placeOf first) (now input) (now out) 0 × (512 ≤ length (now samples)) × (512 ≤ length (now given)) ⌝ }
-    ensures { λ t. ⌜ Turns first (now (input .entry)) 0 (now (out .entry)) 0 (t .replay) (t .next) (t .written) (now (out .exit)) × (t .next ≡ length (now (input .entry))) ⌝ }
+) -> Advanced
+    requires { ⌜ (first .len ≤ 64) × Room (placeOf first) (now input) (now out) 0 × (512 ≤ length (now samples))
+        × (512 ≤ length (now given)) ⌝ }
+    ensures { λ t. ⌜ Advances first (now (input .entry)) 0 (now (out .entry)) 0 (t .replay) (t .next) (t .written) (now (out .exit))
+        × (t .next ≡ length (now (input .entry))) ⌝ }
 {
     let mut r = first;
     let mut i: usize = 0;
@@ -251,7 +256,7 @@ pub(crate) fn run(
         i = b.next;
         w = b.written;
     }
-    Turned {
+    Advanced {
         replay: r,
         next: i,
         written: w,

@@ -12,6 +12,7 @@ use lib.Seq.{drop-cons, getD-drop}
 use mir.Syntax.{w32}
 use mir.ValLaws.{toZ-pos, toZ-neg}
 use borrow.Author.Tests.{eq-eqb, ne-eqb, lt-leb, leb-true, leb-false, ltb-true, ltb-false, eqb-true}
+use Rattle.text.specs.Letters.{tab}
 use Rattle.text.specs.Numbers.{numberOf, cap, capped}
 use Rattle.text.specs.Parts.{parted, behind, count, endOf}
 use Rattle.text.proofs.Parting.{parted-length, end-high, end-parted}
@@ -19,8 +20,19 @@ use Rattle.text.specs.declared.numbers.Number.{Number}
 use Rattle.text.specs.declared.numbers.Number.the-variants.{Plus, Minus, Wrong}
 use Rattle.words.specs.Words.{wrap}
 use Rattle.words.proofs.Reading.{word-is}
-use Rattle.records.specs.Lines.{same, naturalOf, integerOf, withNatural, fieldAt, filledOf, nameOf, wantedOf, shapedOf, fieldsRecord, recordOf}
-use Rattle.records.specs.Fields.{Reads}
+use Rattle.records.specs.Lines.{
+  naturalOf,
+  integerOf,
+  withNatural,
+  fieldAt,
+  namedRecord,
+  nameOf,
+  wantedOf,
+  shapedOf,
+  fieldsRecord,
+  recordOf,
+}
+use Rattle.records.specs.Inner.Fields.{Reads}
 use Rattle.records.specs.declared.parse.Name.{Name}
 use Rattle.records.specs.declared.parse.Name.the-variants as Name
 use Rattle.records.specs.declared.parse.Natural.{Natural}
@@ -29,33 +41,8 @@ use Rattle.records.specs.declared.parse.Integer.{Integer}
 use Rattle.records.specs.declared.parse.Integer.the-variants as Integer
 use Rattle.records.specs.declared.parse.Record.the-variants.{Open, Malformed}
 
-same-self : (l : List ℕ) → same l l ≡ true
-unfolding same
-same-self [] = refl
-same-self (a ∷ l) = rw (eq-eqb a a refl) (same-self l)
-
-same-eq : (l k : List ℕ) → same l k ≡ true → l ≡ k
-unfolding same
-same-eq [] [] h = refl
-same-eq [] (b ∷ k) h = cc
-same-eq (a ∷ l) [] h = cc
-same-eq (a ∷ l) (b ∷ k) h = by (eqb a b) refl (same-eq l k) h
-  where
-    by : (t : Bool) → eqb a b ≡ t → (same l k ≡ true → l ≡ k) → cond t (same l k) false ≡ true → a ∷ l ≡ b ∷ k
-    by true e f h = let p : a ≡ b = eqb-true a b e in let q : l ≡ k = f h in cc
-    by false e f h = cc
-
--- what `check::same` answers
-pub same-is : (r : Bool) (l k : List ℕ) → (r ≡ true → l ≡ k) × (l ≡ k → r ≡ true) → same l k ≡ r
-same-is true l k f = rw (f .0 refl) (same-self k)
-same-is false l k f = by (same l k) refl
-  where
-    by : (t : Bool) → same l k ≡ t → t ≡ false
-    by true e = sym (f .1 (same-eq l k e))
-    by false e = refl
-
 -- where a field follows the place e, there is a tab at e
-pub inside : (l : List ℕ) (e : ℕ) → 1 ≤ length (behind 9 (drop e l)) → e < length l
+pub inside : (l : List ℕ) (e : ℕ) → 1 ≤ length (behind tab (drop e l)) → e < length l
 inside l e h = by (ltb e (length l)) refl
   where
     by : (t : Bool) → ltb e (length l) ≡ t → e < length l
@@ -65,15 +52,17 @@ inside l e h = by (ltb e (length l)) refl
         let n : 1 ≤ 0 = rw (drop-of-length-le l k) at h in
         absurd (omega arith)
 
-behind-some : (l : List ℕ) (e : ℕ) → e < length l → behind 9 (drop e l) ≡ parted 9 (drop (e + 1) l)
+behind-some : (l : List ℕ) (e : ℕ) → e < length l → behind tab (drop e l) ≡ parted tab (drop (e + 1) l)
 behind-some l e h = rw (add-one, drop-cons l e 0 h)
 
-pub reads : (l : List ℕ) (e f : ℕ) (v : Number) → 1 ≤ length (behind 9 (drop e l)) → f ≡ endOf 9 l (e + 1) → v ≡ capped (numberOf (take (f - (e + 1)) (drop (e + 1) l))) → Reads l e v f
+pub reads : (l : List ℕ) (e f : ℕ) (v : Number) → 1 ≤ length (behind tab (drop e l)) → f ≡ endOf tab l (e + 1) → v
+    ≡ capped (numberOf (take (f - (e + 1)) (drop (e + 1) l))) → Reads l e v f
 reads l e f v h q n =
     let k = inside l e h in
-    let c : behind 9 (drop e l) ≡ take (f - (e + 1)) (drop (e + 1) l) ∷ behind 9 (drop f l) = rw q (behind-some l e k ∙ end-parted 9 l (e + 1) (omega arith)) in
+    let c : behind tab (drop e l) ≡ take (f - (e + 1)) (drop (e + 1) l) ∷ behind tab (drop f l) = rw q
+    (behind-some l e k ∙ end-parted tab l (e + 1) (omega arith)) in
     record {
-      within = rw q (end-high 9 l (e + 1) (omega arith));
+      within = rw q (end-high tab l (e + 1) (omega arith));
       value = n ∙ sym (ap (λ (fs : List (List ℕ)). capped (fieldAt fs 0)) c);
       rest = sym (ap (λ (fs : List (List ℕ)). drop 1 fs) c);
     }
@@ -82,7 +71,8 @@ reads l e f v h q n =
 pub natural-capped : (n : Number) → naturalOf (capped n) ≡ naturalOf n
 natural-capped (Plus v) = by (leb v 4294967295) refl
   where
-    by : (t : Bool) → leb v 4294967295 ≡ t → cond (leb (min v cap) 4294967295) (Natural.Within (min v cap)) Natural.Outside ≡ cond t (Natural.Within v) Natural.Outside
+    by : (t : Bool) → leb v 4294967295 ≡ t → cond (leb (min v cap) 4294967295) (Natural.Within (min v cap)) Natural.Outside
+        ≡ cond t (Natural.Within v) Natural.Outside
     by true e = let h = leb-true v 4294967295 e in let m : min v cap ≡ v = omega arith in rw (m, e)
     by false e = let h = leb-false v 4294967295 e in rw (lt-leb (min v cap) 4294967295 (omega arith))
 natural-capped (Minus v) = refl
@@ -91,7 +81,8 @@ natural-capped Wrong = refl
 pub integer-capped : (n : Number) → integerOf (capped n) ≡ integerOf n
 integer-capped (Plus v) = by (leb v 2147483647) refl
   where
-    by : (t : Bool) → leb v 2147483647 ≡ t → cond (leb (min v cap) 2147483647) (Integer.Within (pos (min v cap))) Integer.Outside ≡ cond t (Integer.Within (pos v)) Integer.Outside
+    by : (t : Bool) → leb v 2147483647 ≡ t → cond (leb (min v cap) 2147483647) (Integer.Within (pos (min v cap))) Integer.Outside
+        ≡ cond t (Integer.Within (pos v)) Integer.Outside
     by true e = let h = leb-true v 2147483647 e in let m : min v cap ≡ v = omega arith in rw (m, e)
     by false e = let h = leb-false v 2147483647 e in rw (lt-leb (min v cap) 2147483647 (omega arith))
 integer-capped (Minus v) = by (leb v 2147483648) refl
@@ -123,8 +114,8 @@ second fs gs e = ap (λ (x : List (List ℕ)). fieldAt x 0) e ∙ ap numberOf (g
 pub third : (fs gs hs : List (List ℕ)) → gs ≡ drop 1 fs → hs ≡ drop 1 gs → fieldAt hs 0 ≡ fieldAt fs 2
 third fs gs hs e d = second gs hs d ∙ ap (λ (x : List (List ℕ)). fieldAt x 1) e ∙ ap numberOf (getD-drop 1 fs 1 [])
 
-pub fewer : (l : List ℕ) (e : ℕ) (v : Number) (f : ℕ) → Reads l e v f → length (behind 9 (drop f l)) ≡ length (behind 9 (drop e l)) - 1
-fewer l e v f r = ap (λ (x : List (List ℕ)). length x) (r .rest) ∙ length-drop 1 (behind 9 (drop e l))
+pub fewer : (l : List ℕ) (e : ℕ) (v : Number) (f : ℕ) → Reads l e v f → length (behind tab (drop f l)) ≡ length (behind tab (drop e l)) - 1
+fewer l e v f r = ap (λ (x : List (List ℕ)). length x) (r .rest) ∙ length-drop 1 (behind tab (drop e l))
 
 pub natural-is : (v : Number) (r : Natural) (n : Number) → v ≡ capped n → r ≡ naturalOf v → r ≡ naturalOf n
 natural-is v r n e d = d ∙ ap naturalOf e ∙ natural-capped n
@@ -132,37 +123,37 @@ natural-is v r n e d = d ∙ ap naturalOf e ∙ natural-capped n
 pub integer-is : (v : Number) (r : Integer) (n : Number) → v ≡ capped n → r ≡ integerOf v → r ≡ integerOf n
 integer-is v r n e d = d ∙ ap integerOf e ∙ integer-capped n
 
-pub cic-is : (fs : List (List ℕ)) (a b c : Natural) → a ≡ naturalOf (fieldAt fs 0) → b ≡ naturalOf (fieldAt fs 1) → c ≡ naturalOf (fieldAt fs 2)
-    → withNatural a (λ n. withNatural b (λ m. withNatural c (λ rate. Open n m rate))) ≡ filledOf Name.Cic fs
+pub cic-is : (fs : List (List ℕ)) (a b c : Natural) → a ≡ naturalOf (fieldAt fs 0) → b ≡ naturalOf (fieldAt fs 1) → c
+    ≡ naturalOf (fieldAt fs 2)
+    → withNatural a (λ n. withNatural b (λ m. withNatural c (λ rate. Open n m rate))) ≡ namedRecord Name.Cic fs
 cic-is fs a b c p q s = simp (p, q, s)
 
 -- a line by its name, where the first tab stands at e
-module _ (l : List ℕ) (e : ℕ) (tab : e ≡ endOf 9 l 0) where
-  shaped : recordOf l ≡ shapedOf (nameOf (take e l)) (behind 9 (drop e l))
+module _ (l : List ℕ) (e : ℕ) (first : e ≡ endOf tab l 0) where
+  shaped : recordOf l ≡ shapedOf (nameOf (take e l)) (behind tab (drop e l))
   unfolding recordOf
   shaped =
-      let z : endOf 9 l 0 - 0 ≡ endOf 9 l 0 = omega arith in
-      rw tab (ap fieldsRecord (end-parted 9 l 0 (omega arith)) ∙ ap (λ (n : ℕ). shapedOf (nameOf (take n l)) (behind 9 (drop (endOf 9 l 0) l))) z)
+      let z : endOf tab l 0 - 0 ≡ endOf tab l 0 = omega arith in
+      rw first (ap fieldsRecord (end-parted tab l 0 (omega arith))
+      ∙ ap (λ (n : ℕ). shapedOf (nameOf (take n l)) (behind tab (drop (endOf tab l 0) l))) z)
 
-  pub fields-count : length (behind 9 (drop e l)) ≡ count 9 l
+  pub fields-count : length (behind tab (drop e l)) ≡ count tab l
   fields-count =
-      let h : suc (length (behind 9 (drop (endOf 9 l 0) l))) ≡ suc (count 9 l) = sym (ap length (end-parted 9 l 0 (omega arith))) ∙ parted-length 9 l in
-      rw tab (omega arith)
+      let h : suc (length (behind tab (drop (endOf tab l 0) l)))
+      ≡ suc (count tab l) = sym (ap length (end-parted tab l 0 (omega arith))) ∙ parted-length tab l in
+      rw first (omega arith)
 
-  module _ (n w : ℕ) (name : Name) (named : name ≡ nameOf (take e l)) (counted : n ≡ count 9 l) (wants : w ≡ wantedOf name) where
+  module _ (n w : ℕ) (name : Name) (named : name ≡ nameOf (take e l)) (counted : n ≡ count tab l) (wants : w ≡ wantedOf name) where
     pub malformed : (n ≡ w → ⊥) → Malformed ≡ recordOf l
     malformed h =
-        let s : length (behind 9 (drop e l)) ≡ wantedOf name → ⊥ = λ x. h (counted ∙ sym fields-count ∙ x ∙ sym wants) in
-        sym (shaped ∙ ap (λ (x : Name). shapedOf x (behind 9 (drop e l))) (sym named) ∙ rw (ne-eqb _ _ s))
+        let s : length (behind tab (drop e l)) ≡ wantedOf name → ⊥ = λ x. h (counted ∙ sym fields-count ∙ x ∙ sym wants) in
+        sym (shaped ∙ ap (λ (x : Name). shapedOf x (behind tab (drop e l))) (sym named) ∙ rw (ne-eqb _ _ s))
 
     module _ (enough : n ≡ w) where
-      pub formed : filledOf name (behind 9 (drop e l)) ≡ recordOf l
+      pub formed : namedRecord name (behind tab (drop e l)) ≡ recordOf l
       formed =
-          let s : length (behind 9 (drop e l)) ≡ wantedOf name = fields-count ∙ sym counted ∙ enough ∙ wants in
-          sym (shaped ∙ ap (λ (x : Name). shapedOf x (behind 9 (drop e l))) (sym named) ∙ rw (eq-eqb _ _ s))
+          let s : length (behind tab (drop e l)) ≡ wantedOf name = fields-count ∙ sym counted ∙ enough ∙ wants in
+          sym (shaped ∙ ap (λ (x : Name). shapedOf x (behind tab (drop e l))) (sym named) ∙ rw (eq-eqb _ _ s))
 
-      pub formed-as : (k : Name) → name ≡ k → filledOf k (behind 9 (drop e l)) ≡ recordOf l
-      formed-as k q = ap (λ (x : Name). filledOf x (behind 9 (drop e l))) (sym q) ∙ formed
-
-      pub counts : (k : Name) → name ≡ k → length (behind 9 (drop e l)) ≡ wantedOf k
-      counts k q = fields-count ∙ sym counted ∙ enough ∙ wants ∙ ap wantedOf q
+      pub counts : length (behind tab (drop e l)) ≡ wantedOf name
+      counts = fields-count ∙ sym counted ∙ enough ∙ wants

@@ -26,25 +26,29 @@ use Rattle.records.specs.declared.session.Reply.{Reply}
 use Rattle.records.specs.declared.session.Reply.the-variants as Reply
 use Rattle.records.specs.declared.session.Taken.{Taken}
 
-pub ordered-is : (s : Session) (number : ℕ) (t : State ℤ) (m : Made) (r : Taken) → m ≡ madeOf number t → r ≡ toldBy s (m .state) (m .verdict) → r ≡ ordered s number t
+pub ordered-is : (s : Session) (number : ℕ) (t : State ℤ) (m : Made) (r : Taken) → m ≡ madeOf number t → r
+    ≡ toldBy s (m .state) (m .verdict) → r ≡ ordered s number t
 ordered-is s number t m r e w = w ∙ ap (λ (x : Made). toldBy s (x .state) (x .verdict)) e
 
 pub told-as : (s : Session) (f : Cic) (v w : Verdict) (r : Taken) → v ≡ w → r ≡ toldBy s f w → r ≡ toldBy s f v
 told-as s f v w r e h = h ∙ ap (toldBy s f) (sym e)
 
-sampled-given : (s : Session) (t : State ℤ) (y : ℤ) (b : Bool) (number : ℕ) (g : Option (Output ℤ)) → outOf number g ≡ Out.Given y b → kept (cicOf t) (Reply.Output y b) ≡ sampled s number t g
+sampled-given : (s : Session) (t : State ℤ) (y : ℤ) (b : Bool) (number : ℕ) (g : Option (Output ℤ)) → outOf number g ≡ Out.Given y b
+    → kept (cicOf t) (Reply.Output y b) ≡ sampled s number t g
 unfolding outOf
 sampled-given s t y b zero (some o) e = let p : o .value ≡ y = cc in let q : o .settled ≡ b = cc in rw (p, q)
 sampled-given s t y b zero none e = cc
 sampled-given s t y b (suc k) g e = cc
 
-sampled-none : (s : Session) (t : State ℤ) (number : ℕ) (g : Option (Output ℤ)) → outOf number g ≡ Out.Nothing → kept (cicOf t) Reply.Silent ≡ sampled s number t g
+sampled-none : (s : Session) (t : State ℤ) (number : ℕ) (g : Option (Output ℤ)) → outOf number g ≡ Out.Nothing
+    → kept (cicOf t) Reply.Silent ≡ sampled s number t g
 unfolding outOf
 sampled-none s t zero (some o) e = cc
 sampled-none s t zero none e = refl
 sampled-none s t (suc k) g e = cc
 
-sampled-refused : (s : Session) (t : State ℤ) (k number : ℕ) (g : Option (Output ℤ)) → outOf number g ≡ Out.Refused k → refuse s k ≡ sampled s number t g
+sampled-refused : (s : Session) (t : State ℤ) (k number : ℕ) (g : Option (Output ℤ)) → outOf number g ≡ Out.Refused k → refuse s k
+    ≡ sampled s number t g
 unfolding outOf
 sampled-refused s t k zero (some o) e = cc
 sampled-refused s t k zero none e = cc

@@ -1,3 +1,3 @@
+pub mod Inner
 pub mod Lines
-pub mod Fields
 pub mod Sessions

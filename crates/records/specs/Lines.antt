@@ -1,12 +1,14 @@
 -- 01, 'The replay program', a line read as a record: `cic N M rate`, `rate r`, `x v`, `clear`.
-use mathlib.Core.Bool.{Bool, true, false, cond}
+use mathlib.Core.Bool.{cond}
 use mathlib.Core.List.{List, [], _∷_}
 use Prim.Native.Nat.{ℕ, _-_}
 use lib.Dec.{leb, eqb}
 use lib.IntN.{ℤ, pos, negsuc}
 use lib.ListN.{length, getD}
+use Rattle.text.specs.Letters.{bytes, tab}
 use Rattle.text.specs.Numbers.{numberOf}
 use Rattle.text.specs.Parts.{parted}
+use Rattle.text.specs.Same.{same}
 use Rattle.text.specs.declared.numbers.Number.{Number}
 use Rattle.text.specs.declared.numbers.Number.the-variants.{Plus, Minus, Wrong}
 use Rattle.records.specs.declared.parse.Name.{Name}
@@ -18,20 +20,13 @@ use Rattle.records.specs.declared.parse.Integer.the-variants as Integer
 use Rattle.records.specs.declared.parse.Record.{Record}
 use Rattle.records.specs.declared.parse.Record.the-variants.{Open, Rate, Sample, Clear, Malformed}
 
--- the same bytes
-unfoldable pub same : List ℕ → List ℕ → Bool
-same [] [] = true
-same [] (b ∷ bs) = false
-same (a ∷ xs) [] = false
-same (a ∷ xs) (b ∷ bs) = cond (eqb a b) (same xs bs) false
-
--- the first field is the record's name: the bytes of `cic`, `rate`, `x`, `clear`
+-- the first field is the record's name
 unfoldable pub nameOf : List ℕ → Name
 nameOf field =
-    cond (same field (99 ∷ 105 ∷ 99 ∷ [])) Name.Cic
-    (cond (same field (114 ∷ 97 ∷ 116 ∷ 101 ∷ [])) Name.Rate
-    (cond (same field (120 ∷ [])) Name.X
-    (cond (same field (99 ∷ 108 ∷ 101 ∷ 97 ∷ 114 ∷ [])) Name.Clear Name.Unknown)))
+    cond (same field (bytes "cic")) Name.Cic
+    (cond (same field (bytes "rate")) Name.Rate
+    (cond (same field (bytes "x")) Name.X
+    (cond (same field (bytes "clear")) Name.Clear Name.Unknown)))
 
 -- how many fields follow it
 abbrev pub wantedOf : Name → ℕ
@@ -66,21 +61,23 @@ withInteger Integer.Outside make = Malformed
 abbrev pub fieldAt : List (List ℕ) → ℕ → Number
 fieldAt fields i = numberOf (getD fields i [])
 
-abbrev pub filledOf : Name → List (List ℕ) → Record
-filledOf Name.Cic fields =
-    withNatural (naturalOf (fieldAt fields 0)) (λ n. withNatural (naturalOf (fieldAt fields 1)) (λ m. withNatural (naturalOf (fieldAt fields 2)) (λ rate. Open n m rate)))
-filledOf Name.Rate fields = withNatural (naturalOf (fieldAt fields 0)) (λ rate. Rate rate)
-filledOf Name.X fields = withInteger (integerOf (fieldAt fields 0)) (λ v. Sample v)
-filledOf Name.Clear fields = Clear
-filledOf Name.Unknown fields = Malformed
+-- the record of a name, by its fields
+abbrev pub namedRecord : Name → List (List ℕ) → Record
+namedRecord Name.Cic fields =
+    withNatural (naturalOf (fieldAt fields 0))
+    (λ n. withNatural (naturalOf (fieldAt fields 1)) (λ m. withNatural (naturalOf (fieldAt fields 2)) (λ rate. Open n m rate)))
+namedRecord Name.Rate fields = withNatural (naturalOf (fieldAt fields 0)) (λ rate. Rate rate)
+namedRecord Name.X fields = withInteger (integerOf (fieldAt fields 0)) (λ v. Sample v)
+namedRecord Name.Clear fields = Clear
+namedRecord Name.Unknown fields = Malformed
 
 abbrev pub shapedOf : Name → List (List ℕ) → Record
-shapedOf name fields = cond (eqb (length fields) (wantedOf name)) (filledOf name fields) Malformed
+shapedOf name fields = cond (eqb (length fields) (wantedOf name)) (namedRecord name fields) Malformed
 
 abbrev pub fieldsRecord : List (List ℕ) → Record
 fieldsRecord [] = Malformed
 fieldsRecord (name ∷ fields) = shapedOf (nameOf name) fields
 
--- fields parted by one tab (byte 9)
+-- fields parted by one tab
 unfoldable pub recordOf : List ℕ → Record
-recordOf line = fieldsRecord (parted 9 line)
+recordOf line = fieldsRecord (parted tab line)

@@ -48,14 +48,29 @@ abbrev pub sampled : Session → ℕ → State ℤ → Option (Output ℤ) → T
 sampled s zero t given = kept (cicOf t) (replied given)
 sampled s (suc k) t given = refuse s (suc k)
 
+-- the filter's calls by the session: `new`, `set_rate`, `clear` and a step
+abbrev pub filterOf : Session → State ℤ
+filterOf s = stateOf (s .filter)
+
+abbrev pub making : Session → ℕ → ℕ → ℕ → Taken
+making s n m rate = ordered s (newNumber n m rate) (newState i32Ops n m rate)
+
+abbrev pub rating : Session → ℕ → Taken
+rating s rate = ordered s (rateNumber (filterOf s) rate) (rateState i32Ops (filterOf s) rate)
+
+abbrev pub clearing : Session → Taken
+clearing s = ordered s (refusal (filterOf s)) (clearState i32Ops (filterOf s))
+
+abbrev pub stepping : Session → ℤ → Taken
+stepping s v = sampled s (refusal (filterOf s)) (stepState i32Ops (filterOf s) v) (stepGiven i32Ops (filterOf s) v)
+
 -- 70: malformed line; 71: no `cic` line yet, or a second one; then the filter's own numbers
 unfoldable pub takeOf : Session → Record → Taken
 takeOf s Malformed = refuse s 70
-takeOf s (Open n m rate) = cond (s .opened) (refuse s 71) (ordered s (newNumber n m rate) (newState i32Ops n m rate))
-takeOf s (Rate rate) = cond (s .opened) (ordered s (rateNumber (stateOf (s .filter)) rate) (rateState i32Ops (stateOf (s .filter)) rate)) (refuse s 71)
-takeOf s (Sample v) =
-    cond (s .opened) (sampled s (refusal (stateOf (s .filter))) (stepState i32Ops (stateOf (s .filter)) v) (stepGiven i32Ops (stateOf (s .filter)) v)) (refuse s 71)
-takeOf s Clear = cond (s .opened) (ordered s (refusal (stateOf (s .filter))) (clearState i32Ops (stateOf (s .filter)))) (refuse s 71)
+takeOf s (Open n m rate) = cond (s .opened) (refuse s 71) (making s n m rate)
+takeOf s (Rate rate) = cond (s .opened) (rating s rate) (refuse s 71)
+takeOf s (Sample v) = cond (s .opened) (stepping s v) (refuse s 71)
+takeOf s Clear = cond (s .opened) (clearing s) (refuse s 71)
 
 -- a line that its newline ends. 72: line over 64 bytes before its newline
 unfoldable pub lineOf : Session → List ℕ → Taken

@@ -1,4 +1,5 @@
 // A line read as a record: its fields are counted, then read from left to right.
+use text::comparing::same_bytes;
 use text::numbers::Number;
 use text::numbers::parsed;
 use text::parts::part_end;
@@ -7,9 +8,10 @@ use words::casts::u32_as_i32;
 ghost use mathlib.Core.Path.{_≡_};
 ghost use Prim.Native.Nat.{_≤_};
 ghost use lib.ListN.{length, drop};
+ghost use Rattle.text.specs.Letters.{tab};
 ghost use Rattle.text.specs.Parts.{behind};
-ghost use Rattle.records.specs.Lines.{nameOf, wantedOf, naturalOf, integerOf, withNatural, filledOf, recordOf};
-ghost use Rattle.records.specs.Fields.{Reads};
+ghost use Rattle.records.specs.Lines.{nameOf, wantedOf, naturalOf, integerOf, withNatural, namedRecord, recordOf};
+ghost use Rattle.records.specs.Inner.Fields.{Reads};
 
 // A line's record, or that it is none (01, refusal 70).
 pub enum Record {
@@ -50,16 +52,16 @@ pub struct Cell {
 fn named(name: &[u8]) -> Name
     ensures { λ r. ⌜ r ≡ nameOf (now (name .entry)) ⌝ }
 {
-    if check::same(name, b"cic") {
+    if same_bytes(name, b"cic") {
         return Name::Cic;
     }
-    if check::same(name, b"rate") {
+    if same_bytes(name, b"rate") {
         return Name::Rate;
     }
-    if check::same(name, b"x") {
+    if same_bytes(name, b"x") {
         return Name::X;
     }
-    if check::same(name, b"clear") {
+    if same_bytes(name, b"clear") {
         return Name::Clear;
     }
     Name::Unknown
@@ -123,11 +125,11 @@ pub fn integer_of(n: Number) -> Integer
 
 // The first field after the tab at e.
 fn field(line: &[u8], e: usize) -> Cell
-    requires { ⌜ 1 ≤ length (behind 9 (drop e (now line))) ⌝ }
+    requires { ⌜ 1 ≤ length (behind tab (drop e (now line))) ⌝ }
     ensures { λ r. ⌜ Reads (now (line .entry)) e (r .value) (r .end) ⌝ }
 {
     let from = e + 1;
-    let end = part_end(line, from, 9);
+    let end = part_end(line, from, b'\t');
     let value = parsed(&line[from..end]);
     Cell { value, end }
 }
@@ -148,8 +150,8 @@ fn opening(a: Natural, b: Natural, c: Natural) -> Record
 }
 
 fn cic_record(line: &[u8], e: usize) -> Record
-    requires { ⌜ length (behind 9 (drop e (now line))) ≡ 3 ⌝ }
-    ensures { λ r. ⌜ r ≡ filledOf Name.Cic (behind 9 (drop e (now (line .entry)))) ⌝ }
+    requires { ⌜ length (behind tab (drop e (now line))) ≡ 3 ⌝ }
+    ensures { λ r. ⌜ r ≡ namedRecord Name.Cic (behind tab (drop e (now (line .entry)))) ⌝ }
 {
     let a = field(line, e);
     let i = a.end;
@@ -163,8 +165,8 @@ fn cic_record(line: &[u8], e: usize) -> Record
 }
 
 fn rate_record(line: &[u8], e: usize) -> Record
-    requires { ⌜ length (behind 9 (drop e (now line))) ≡ 1 ⌝ }
-    ensures { λ r. ⌜ r ≡ filledOf Name.Rate (behind 9 (drop e (now (line .entry)))) ⌝ }
+    requires { ⌜ length (behind tab (drop e (now line))) ≡ 1 ⌝ }
+    ensures { λ r. ⌜ r ≡ namedRecord Name.Rate (behind tab (drop e (now (line .entry)))) ⌝ }
 {
     let a = field(line, e);
     let v = a.value;
@@ -176,8 +178,8 @@ fn rate_record(line: &[u8], e: usize) -> Record
 }
 
 fn sample_record(line: &[u8], e: usize) -> Record
-    requires { ⌜ length (behind 9 (drop e (now line))) ≡ 1 ⌝ }
-    ensures { λ r. ⌜ r ≡ filledOf Name.X (behind 9 (drop e (now (line .entry)))) ⌝ }
+    requires { ⌜ length (behind tab (drop e (now line))) ≡ 1 ⌝ }
+    ensures { λ r. ⌜ r ≡ namedRecord Name.X (behind tab (drop e (now (line .entry)))) ⌝ }
 {
     let a = field(line, e);
     let v = a.value;
@@ -188,15 +190,11 @@ fn sample_record(line: &[u8], e: usize) -> Record
     Record::Sample(x)
 }
 
-// A line, without its newline, read as a record.
-pub fn parse(line: &[u8]) -> Record
-    ensures { λ r. ⌜ r ≡ recordOf (now (line .entry)) ⌝ }
+// The record of a name, whose fields follow the tab at e, as many as it wants.
+fn named_record(name: Name, line: &[u8], e: usize) -> Record
+    requires { ⌜ length (behind tab (drop e (now line))) ≡ wantedOf name ⌝ }
+    ensures { λ r. ⌜ r ≡ namedRecord name (behind tab (drop e (now (line .entry)))) ⌝ }
 {
-    let e = part_end(line, 0, 9);
-    let name = named(&line[..e]);
-    if separators(line, 9) != wanted(name) {
-        return Record::Malformed;
-    }
     match name {
         Name::Cic => cic_record(line, e),
         Name::Rate => rate_record(line, e),
@@ -204,4 +202,16 @@ pub fn parse(line: &[u8]) -> Record
         Name::Clear => Record::Clear,
         Name::Unknown => Record::Malformed,
     }
+}
+
+// A line, without its newline, read as a record.
+pub fn parse(line: &[u8]) -> Record
+    ensures { λ r. ⌜ r ≡ recordOf (now (line .entry)) ⌝ }
+{
+    let e = part_end(line, 0, b'\t');
+    let name = named(&line[..e]);
+    if separators(line, b'\t') != wanted(name) {
+        return Record::Malformed;
+    }
+    named_record(name, line, e)
 }

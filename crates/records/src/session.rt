@@ -5,10 +5,7 @@ use blocks::Verdict;
 use cic::state::Cic;
 use cic::steps::Out;
 ghost use mathlib.Core.Path.{_≡_};
-ghost use Rattle.sums.specs.State.{refusal};
-ghost use Rattle.sums.specs.Calls.{newNumber, newState, rateNumber, rateState, clearState, stepState, stepGiven};
-ghost use Rattle.cic.specs.Reading.{i32Ops, stateOf};
-ghost use Rattle.records.specs.Sessions.{refuse, kept, toldBy, ordered, sampled, takeOf, lineOf};
+ghost use Rattle.records.specs.Sessions.{refuse, kept, toldBy, making, rating, clearing, stepping, takeOf, lineOf};
 
 // The filter, once a `cic` record has made it.
 pub struct Session {
@@ -59,7 +56,7 @@ fn told(s: Session, filter: Cic, verdict: Verdict) -> Taken
 }
 
 fn make(s: Session, order: u32, delay: u32, rate: u32) -> Taken
-    ensures { λ r. ⌜ r ≡ ordered s (newNumber order delay rate) (newState i32Ops order delay rate) ⌝ }
+    ensures { λ r. ⌜ r ≡ making s order delay rate ⌝ }
 {
     let m = Cic::new(order as usize, delay as usize, rate);
     let f = m.state;
@@ -68,7 +65,7 @@ fn make(s: Session, order: u32, delay: u32, rate: u32) -> Taken
 }
 
 fn change_rate(s: Session, rate: u32) -> Taken
-    ensures { λ r. ⌜ r ≡ ordered s (rateNumber (stateOf (s .filter)) rate) (rateState i32Ops (stateOf (s .filter)) rate) ⌝ }
+    ensures { λ r. ⌜ r ≡ rating s rate ⌝ }
 {
     let f = s.filter;
     let m = f.set_rate(rate);
@@ -78,7 +75,7 @@ fn change_rate(s: Session, rate: u32) -> Taken
 }
 
 fn clear_filter(s: Session) -> Taken
-    ensures { λ r. ⌜ r ≡ ordered s (refusal (stateOf (s .filter))) (clearState i32Ops (stateOf (s .filter))) ⌝ }
+    ensures { λ r. ⌜ r ≡ clearing s ⌝ }
 {
     let f = s.filter;
     let m = f.clear();
@@ -88,7 +85,7 @@ fn clear_filter(s: Session) -> Taken
 }
 
 fn take_sample(s: Session, x: i32) -> Taken
-    ensures { λ r. ⌜ r ≡ sampled s (refusal (stateOf (s .filter))) (stepState i32Ops (stateOf (s .filter)) x) (stepGiven i32Ops (stateOf (s .filter)) x) ⌝ }
+    ensures { λ r. ⌜ r ≡ stepping s x ⌝ }
 {
     let f = s.filter;
     let t = f.decimate(x);

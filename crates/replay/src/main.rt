@@ -18,7 +18,8 @@ struct Pumped {
 // A part of at most 65,536 bytes, for which there is room.
 fn take(r: Replay, part: &[u8], out: &mut [u8]) -> Fed
     requires { ⌜ (length (now part) ≤ 65536) × (262436 ≤ length (now out)) ⌝ }
-    ensures { λ f. ⌜ (f .replay ≡ replayOf (fedOf (placeOf r) (now (part .entry)))) × (f .wrote .count ≡ length (bytesOf (placeOf r) (now (part .entry)))) × (f .wrote .count ≤ length (now (out .exit))) ⌝ }
+    ensures { λ f. ⌜ (f .replay ≡ replayOf (fedOf (placeOf r) (now (part .entry))))
+        × (f .wrote .count ≡ length (bytesOf (placeOf r) (now (part .entry)))) × (f .wrote .count ≤ length (now (out .exit))) ⌝ }
 {
     r.feed(part, out)
 }
@@ -64,8 +65,9 @@ fn turns_left(turns: u64, more: bool) -> u64
     if more { turns - 1 } else { 0 }
 }
 
-// A proved loop ends, and nothing says that the input does: the turns count down from a number that no run uses up.
-fn run(buffer: &mut [u8], out: &mut [u8])
+// The whole input, read by read. A proved loop ends, and nothing says that the input does: the turns count down from a
+// number that no input uses up.
+fn replay_input(buffer: &mut [u8], out: &mut [u8])
     requires { ⌜ (length (now buffer) ≤ 65536) × (262436 ≤ length (now out)) ⌝ }
 {
     let mut r = Replay::start();
@@ -89,5 +91,5 @@ fn run(buffer: &mut [u8], out: &mut [u8])
 fn main() {
     let mut buffer = [0u8; 65536];
     let mut out = [0u8; 262436];
-    run(&mut buffer, &mut out);
+    replay_input(&mut buffer, &mut out);
 }

@@ -2,3 +2,4 @@ pub mod Numerals
 pub mod Parting
 pub mod Putting
 pub mod Spelling
+pub mod Sameness

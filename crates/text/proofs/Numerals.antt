@@ -105,7 +105,8 @@ module _ (sep : ℕ) (no-digit : isDigit sep ≡ false) (no-minus : sep ≡ 45 �
   count-digit : (b : ℕ) (l : List ℕ) → isDigit b ≡ true → count sep (b ∷ l) ≡ count sep l
   unfolding count
   count-digit b l h =
-      let n : b ≡ sep → ⊥ = λ e. let z : _≡_ {A = Bool} true false = sym h ∙ ap isDigit e ∙ no-digit in let k : _≡_ {A = ℕ} 0 1 = cc in omega arith in
+      let n : b ≡ sep → ⊥ = λ e. let z : _≡_ {A = Bool} true false = sym h ∙ ap isDigit e
+      ∙ no-digit in let k : _≡_ {A = ℕ} 0 1 = cc in omega arith in
       rw (ne-eqb b sep n)
 
   digits-count : (l : List ℕ) (v : ℕ) → (digitsFrom v l ≡ Wrong → ⊥) → count sep l ≡ 0

@@ -53,7 +53,8 @@ module _ (sep : ℕ) where
   before-take [] = refl
   before-take (b ∷ l) = by (eqb b sep) (before-take l)
     where
-      by : (t : Bool) → take (length (before sep l)) l ≡ before sep l → take (length (cond t [] (b ∷ before sep l))) (b ∷ l) ≡ cond t [] (b ∷ before sep l)
+      by : (t : Bool) → take (length (before sep l)) l ≡ before sep l → take (length (cond t [] (b ∷ before sep l))) (b ∷ l)
+          ≡ cond t [] (b ∷ before sep l)
       by true h = refl
       by false h = ap (λ (k : List ℕ). b ∷ k) h
 
@@ -63,7 +64,8 @@ module _ (sep : ℕ) where
   parted-first (b ∷ l) = by (eqb b sep) (parted-first l)
     where
       by : (t : Bool) → parted sep l ≡ before sep l ∷ behind sep (drop (length (before sep l)) l)
-          → cond t ([] ∷ parted sep l) (onto b (parted sep l)) ≡ cond t [] (b ∷ before sep l) ∷ behind sep (drop (length (cond t [] (b ∷ before sep l))) (b ∷ l))
+          → cond t ([] ∷ parted sep l) (onto b (parted sep l))
+          ≡ cond t [] (b ∷ before sep l) ∷ behind sep (drop (length (cond t [] (b ∷ before sep l))) (b ∷ l))
       by true h = refl
       by false h = ap (onto b) h
 
@@ -73,7 +75,8 @@ module _ (sep : ℕ) where
   parted-length [] = refl
   parted-length (b ∷ l) = by (eqb b sep) (parted sep l) (parted-length l)
     where
-      by : (t : Bool) (ps : List (List ℕ)) → length ps ≡ suc (count sep l) → length (cond t ([] ∷ ps) (onto b ps)) ≡ suc (cond t (suc (count sep l)) (count sep l))
+      by : (t : Bool) (ps : List (List ℕ)) → length ps ≡ suc (count sep l) → length (cond t ([] ∷ ps) (onto b ps))
+          ≡ suc (cond t (suc (count sep l)) (count sep l))
       by true ps h = ap suc h
       by false [] h = absurd (omega arith)
       by false (p ∷ ps) h = h
@@ -90,7 +93,8 @@ module _ (sep : ℕ) (l : List ℕ) (from : ℕ) (within : from ≤ length l) wh
 
   pub end-parted : parted sep (drop from l) ≡ take (endOf sep l from - from) (drop from l) ∷ behind sep (drop (endOf sep l from) l)
   end-parted =
-      rw end-part (parted-first sep (drop from l) ∙ ap (λ (k : List ℕ). before sep (drop from l) ∷ behind sep k) (drop-drop (length (before sep (drop from l))) from l))
+      rw end-part (parted-first sep (drop from l) ∙ ap (λ (k : List ℕ). before sep (drop from l) ∷ behind sep k)
+      (drop-drop (length (before sep (drop from l))) from l))
 
 module _ (sep : ℕ) where
   pub count-append : (k l : List ℕ) → count sep (k ++ l) ≡ count sep k + count sep l
@@ -98,7 +102,8 @@ module _ (sep : ℕ) where
   count-append [] l = omega arith
   count-append (b ∷ k) l = by (eqb b sep) (count-append k l)
     where
-      by : (t : Bool) → count sep (k ++ l) ≡ count sep k + count sep l → cond t (suc (count sep (k ++ l))) (count sep (k ++ l)) ≡ cond t (suc (count sep k)) (count sep k) + count sep l
+      by : (t : Bool) → count sep (k ++ l) ≡ count sep k + count sep l → cond t (suc (count sep (k ++ l))) (count sep (k ++ l))
+          ≡ cond t (suc (count sep k)) (count sep k) + count sep l
       by true h = omega arith
       by false h = h
 
@@ -132,7 +137,8 @@ module _ (sep : ℕ) where
   parted-plain [] h = refl
   parted-plain (b ∷ l) h = by (eqb b sep) (parted-plain l) h
     where
-      by : (t : Bool) → (count sep l ≡ 0 → parted sep l ≡ l ∷ []) → cond t (suc (count sep l)) (count sep l) ≡ 0 → cond t ([] ∷ parted sep l) (onto b (parted sep l)) ≡ (b ∷ l) ∷ []
+      by : (t : Bool) → (count sep l ≡ 0 → parted sep l ≡ l ∷ []) → cond t (suc (count sep l)) (count sep l) ≡ 0
+          → cond t ([] ∷ parted sep l) (onto b (parted sep l)) ≡ (b ∷ l) ∷ []
       by true f k = absurd (omega arith)
       by false f k = ap (onto b) (f k)
 

@@ -10,22 +10,23 @@ use lib.Dec.{leb}
 use lib.ListN.{length, take, drop, set, getD, length-append, length-take, length-drop, take-append-drop}
 use lib.Seq.{set-split, drop-drop, take-at, take-suc, length-take-le, drop-append-add}
 use borrow.Author.Tests.{le-leb, lt-leb, leb-true, leb-false, not-true, not-false}
-use Rattle.text.specs.Writing.{put, Wrote, Puts}
+use Rattle.text.specs.Writing.{overlaid, Wrote, Puts}
 
-pub put-one : (l : List ℕ) (at b : ℕ) → at < length l → set l at b ≡ put l at (b ∷ [])
-unfolding put
+pub put-one : (l : List ℕ) (at b : ℕ) → at < length l → set l at b ≡ overlaid l at (b ∷ [])
+unfolding overlaid
 put-one l at b h = set-split l at b h ∙ simp add-one
 
-pub put-nil : (l : List ℕ) (at : ℕ) → l ≡ put l at []
-unfolding put
+pub put-nil : (l : List ℕ) (at : ℕ) → l ≡ overlaid l at []
+unfolding overlaid
 put-nil l at = rw (add-zero, take-append-drop)
 
-pub length-put : (l : List ℕ) (at : ℕ) (bs : List ℕ) → at + length bs ≤ length l → length (put l at bs) ≡ length l
-unfolding put
+pub length-put : (l : List ℕ) (at : ℕ) (bs : List ℕ) → at + length bs ≤ length l → length (overlaid l at bs) ≡ length l
+unfolding overlaid
 length-put l at bs h = simp (length-append, length-take, length-drop) (omega arith)
 
-pub put-put : (l : List ℕ) (at : ℕ) (xs ys : List ℕ) → at ≤ length l → put (put l at xs) (at + length xs) ys ≡ put l at (xs ++ ys)
-unfolding put
+pub put-put : (l : List ℕ) (at : ℕ) (xs ys : List ℕ) → at ≤ length l → overlaid (overlaid l at xs) (at + length xs) ys
+    ≡ overlaid l at (xs ++ ys)
+unfolding overlaid
 put-put l at xs ys h =
     let p = take at l ++ xs in
     let q = drop (at + length xs) l in
@@ -34,21 +35,24 @@ put-put l at xs ys h =
     let a : take (at + length xs) (take at l ++ (xs ++ q)) ≡ p = rw r (take-at p q (at + length xs) e) in
     let n : at + length xs + length ys ≡ at + length (xs ++ ys) = omega (arith, length-append xs ys) in
     let b : drop (at + length xs + length ys) (take at l ++ (xs ++ q)) ≡ drop (at + length (xs ++ ys)) l =
-    rw r (ap (λ (k : ℕ). drop (k + length ys) (p ++ q)) (sym e) ∙ drop-append-add p q (length ys) ∙ drop-drop (length ys) (at + length xs) l ∙ ap (λ (k : ℕ). drop k l) n) in
+    rw r (ap (λ (k : ℕ). drop (k + length ys) (p ++ q)) (sym e) ∙ drop-append-add p q (length ys)
+    ∙ drop-drop (length ys) (at + length xs) l ∙ ap (λ (k : ℕ). drop k l) n) in
     rw (a, b) (simp append-assoc)
 
 pub nothing : (o : List ℕ) (at : ℕ) → Wrote o at [] at o
 nothing o at = record { next = omega arith; text = put-nil o at }
 
 -- what is written next stands behind what was written
-pub then : {o o₁ o₂ : List ℕ} {at r₁ r₂ : ℕ} {xs ys : List ℕ} → at ≤ length o → Wrote o at xs r₁ o₁ → Wrote o₁ r₁ ys r₂ o₂ → Wrote o at (xs ++ ys) r₂ o₂
+pub then : {o o₁ o₂ : List ℕ} {at r₁ r₂ : ℕ} {xs ys : List ℕ} → at ≤ length o → Wrote o at xs r₁ o₁ → Wrote o₁ r₁ ys r₂ o₂
+    → Wrote o at (xs ++ ys) r₂ o₂
 then {o} {o₁} {o₂} {at} {r₁} {r₂} {xs} {ys} h a b = record {
   next = omega (arith, a .next, b .next, length-append xs ys);
-  text = b .text ∙ ap (λ (n : ℕ). put o₁ n ys) (a .next) ∙ ap (λ (l : List ℕ). put l (at + length xs) ys) (a .text) ∙ put-put o at xs ys h;
+  text = b .text ∙ ap (λ (n : ℕ). overlaid o₁ n ys) (a .next) ∙ ap (λ (l : List ℕ). overlaid l (at + length xs) ys) (a .text)
+      ∙ put-put o at xs ys h;
 }
 
-pub same : {o o' : List ℕ} {at r : ℕ} {xs ys : List ℕ} → xs ≡ ys → Wrote o at xs r o' → Wrote o at ys r o'
-same e w = rw e at w
+pub wrote-same : {o o' : List ℕ} {at r : ℕ} {xs ys : List ℕ} → xs ≡ ys → Wrote o at xs r o' → Wrote o at ys r o'
+wrote-same e w = rw e at w
 
 pub wrote-length : {o o' : List ℕ} {at r : ℕ} {xs : List ℕ} → at + length xs ≤ length o → Wrote o at xs r o' → length o' ≡ length o
 wrote-length {o} {o'} {at} {r} {xs} h w = ap length (w .text) ∙ length-put o at xs h
@@ -71,20 +75,22 @@ puts-none o at bs h =
     record { next = sym (rw e); text = sym (rw e) }
 
 -- a call that puts further bytes, where there is room for all
-pub then-puts : {o o₁ o₂ : List ℕ} {at r₁ r₂ : ℕ} {xs ys : List ℕ} → at + (length xs + length ys) ≤ length o → Wrote o at xs r₁ o₁ → Puts o₁ r₁ ys r₂ o₂ → Wrote o at (xs ++ ys) r₂ o₂
+pub then-puts : {o o₁ o₂ : List ℕ} {at r₁ r₂ : ℕ} {xs ys : List ℕ} → at + (length xs + length ys) ≤ length o → Wrote o at xs r₁ o₁
+    → Puts o₁ r₁ ys r₂ o₂ → Wrote o at (xs ++ ys) r₂ o₂
 then-puts {o} {o₁} {o₂} {at} {r₁} {r₂} {xs} {ys} h w p =
     let m : length o₁ ≡ length o = wrote-length (omega arith) w in
     then (omega arith) w (written o₁ r₁ ys r₂ o₂ (omega (arith, w .next)) p)
 
 -- a copy, one byte more
-pub copy-on : (o s : List ℕ) (at i : ℕ) → at + length s ≤ length o → i < length s → set (put o at (take i s)) (at + i) (getD s i 0) ≡ put o at (take (i + 1) s)
+pub copy-on : (o s : List ℕ) (at i : ℕ) → at + length s ≤ length o → i < length s
+    → set (overlaid o at (take i s)) (at + i) (getD s i 0) ≡ overlaid o at (take (i + 1) s)
 copy-on o s at i h k =
     let n : length (take i s) ≡ i = length-take-le i s (omega arith) in
-    let m : length (put o at (take i s)) ≡ length o = length-put o at (take i s) (omega arith) in
-    put-one (put o at (take i s)) (at + i) (getD s i 0) (omega arith)
-    ∙ ap (λ (j : ℕ). put (put o at (take i s)) (at + j) (getD s i 0 ∷ [])) (sym n)
+    let m : length (overlaid o at (take i s)) ≡ length o = length-put o at (take i s) (omega arith) in
+    put-one (overlaid o at (take i s)) (at + i) (getD s i 0) (omega arith)
+    ∙ ap (λ (j : ℕ). overlaid (overlaid o at (take i s)) (at + j) (getD s i 0 ∷ [])) (sym n)
     ∙ put-put o at (take i s) (getD s i 0 ∷ []) (omega arith)
-    ∙ ap (put o at) (sym (take-suc s i 0 k) ∙ ap (λ (j : ℕ). take j s) (sym (add-one i)))
+    ∙ ap (overlaid o at) (sym (take-suc s i 0 k) ∙ ap (λ (j : ℕ). take j s) (sym (add-one i)))
 
 -- the test that n bytes fit
 pub fits-test : (len at n : ℕ) → at ≤ len → leb n (len - at) ≡ leb (at + n) len

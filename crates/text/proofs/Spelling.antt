@@ -14,7 +14,7 @@ use mir.Val.{SFits}
 use borrow.Author.Tests.{lt-ltb, le-ltb, ltb-true}
 use Rattle.words.specs.Words.{word}
 use Rattle.text.specs.Numbers.{spelt, decimalOf, signedOf}
-use Rattle.text.specs.Writing.{put}
+use Rattle.text.specs.Writing.{overlaid}
 use Rattle.text.proofs.Putting.{put-nil}
 
 one-digit : (k n : ℕ) → n < 10 → spelt (suc k) n ≡ (48 + n % 10) ∷ []
@@ -41,7 +41,8 @@ spelt-most w zero n high = omega arith
 spelt-most zero (suc k) n high = let e = ap length (one-digit k n (omega arith)) in omega arith
 spelt-most (suc w) (suc k) n high = by (ltb n 10) (spelt-most w k (n / 10) (let q = pow-suc 10 (suc w) in omega arith))
   where
-    by : (t : Bool) → length (spelt k (n / 10)) ≤ suc w → length (cond t ((48 + n) ∷ []) (spelt k (n / 10) ++ ((48 + n % 10) ∷ []))) ≤ suc (suc w)
+    by : (t : Bool) → length (spelt k (n / 10)) ≤ suc w → length (cond t ((48 + n) ∷ []) (spelt k (n / 10) ++ ((48 + n % 10) ∷ [])))
+        ≤ suc (suc w)
     by true h = omega arith
     by false h = simp length-append (omega arith)
 
@@ -97,15 +98,18 @@ spelt-last (suc k) n = by (ltb n 10) refl (spelt-last k (n / 10))
         let h = ltb-true n 10 e in
         ap (λ (x : ℕ). x ∷ []) (omega arith)
     by false e f =
-        let m : length (spelt k (n / 10) ++ ((48 + n % 10) ∷ [])) ≡ suc (length (spelt k (n / 10))) = length-append (spelt k (n / 10)) ((48 + n % 10) ∷ []) ∙ omega arith in
+        let m : length (spelt k (n / 10) ++ ((48 + n % 10) ∷ []))
+        ≡ suc (length (spelt k (n / 10))) = length-append (spelt k (n / 10)) ((48 + n % 10) ∷ []) ∙ omega arith in
         rw m (ap (λ (l : List ℕ). l ++ ((48 + n % 10) ∷ [])) f)
 
 -- lists that end alike begin alike
 snoc-same : (xs ys : List ℕ) (a b : ℕ) → xs ++ (a ∷ []) ≡ ys ++ (b ∷ []) → (xs ≡ ys) × (a ≡ b)
 snoc-same [] [] a b e = (refl, cc)
 snoc-same [] (y ∷ []) a b e = absurd (let z : _≡_ {A = ℕ} 1 2 = ap length e in omega arith)
-snoc-same [] (y ∷ z ∷ ys) a b e = absurd (let n : 1 ≡ length ((y ∷ z ∷ ys) ++ (b ∷ [])) = ap length e in omega (arith, length-append (y ∷ z ∷ ys) (b ∷ [])))
-snoc-same (x ∷ xs) [] a b e = absurd (let n : length ((x ∷ xs) ++ (a ∷ [])) ≡ 1 = ap length e in omega (arith, length-append (x ∷ xs) (a ∷ [])))
+snoc-same [] (y ∷ z ∷ ys) a b e = absurd (let n : 1 ≡ length ((y ∷ z ∷ ys) ++ (b ∷ [])) = ap length e in omega
+    (arith, length-append (y ∷ z ∷ ys) (b ∷ [])))
+snoc-same (x ∷ xs) [] a b e = absurd (let n : length ((x ∷ xs) ++ (a ∷ []))
+    ≡ 1 = ap length e in omega (arith, length-append (x ∷ xs) (a ∷ [])))
 snoc-same (x ∷ xs) (y ∷ ys) a b e =
     let h : x ≡ y = cc in
     let t : xs ++ (a ∷ []) ≡ ys ++ (b ∷ []) = cc in
@@ -117,11 +121,12 @@ pub record Filling (o ds : List ℕ) (at : ℕ) (o' : List ℕ) (left i : ℕ) :
   pub low : at ≤ i
   pub high : i ≤ at + length ds
   pub same-length : length o' ≡ length o
-  pub text : o' ≡ put o i (drop (i - at) ds)
+  pub text : o' ≡ overlaid o i (drop (i - at) ds)
   pub rest : lastOf (i - at) left ≡ take (i - at) ds
 
-pub filling-start : (o ds : List ℕ) (at n : ℕ) → at + length ds ≤ length o → ds ≡ lastOf (length ds) n → Filling o ds at o n (at + length ds)
-unfolding put
+pub filling-start : (o ds : List ℕ) (at n : ℕ) → at + length ds ≤ length o → ds ≡ lastOf (length ds) n
+    → Filling o ds at o n (at + length ds)
+unfolding overlaid
 filling-start o ds at n h e =
     let m : at + length ds - at ≡ length ds = omega arith in
     record {
@@ -133,15 +138,16 @@ filling-start o ds at n h e =
     }
 
 -- a byte in front of what was put
-put-front : (o : List ℕ) (i b : ℕ) (bs : List ℕ) → suc i + length bs ≤ length o → set (put o (suc i) bs) i b ≡ put o i (b ∷ bs)
-unfolding put
+put-front : (o : List ℕ) (i b : ℕ) (bs : List ℕ) → suc i + length bs ≤ length o → set (overlaid o (suc i) bs) i b ≡ overlaid o i (b ∷ bs)
+unfolding overlaid
 put-front o i b bs h =
     let t : take (suc i) o ≡ take i o ++ (getD o i 0 ∷ []) = take-suc o i 0 (omega arith) in
     let n : length (take i o) ≡ i = length-take-le i o (omega arith) in
     let m : suc i + length bs ≡ i + suc (length bs) = omega arith in
     rw (t, m, append-assoc) (set-at (take i o) (getD o i 0) (bs ++ drop (i + suc (length bs)) o) b i n)
 
-pub filling-on : (o ds : List ℕ) (at : ℕ) (o' : List ℕ) (left i b : ℕ) → at + length ds ≤ length o → at < i → Filling o ds at o' left i → b ≡ 48 + left % 10
+pub filling-on : (o ds : List ℕ) (at : ℕ) (o' : List ℕ) (left i b : ℕ) → at + length ds ≤ length o → at < i
+    → Filling o ds at o' left i → b ≡ 48 + left % 10
     → Filling o ds at (set o' (i - 1) b) (left / 10) (i - 1)
 unfolding lastOf
 filling-on o ds at o' left i b room h f e =
@@ -159,16 +165,16 @@ filling-on o ds at o' left i b room h f e =
       low = omega arith;
       high = omega (arith, f .high);
       same-length = length-set o' (i - 1) b ∙ f .same-length;
-      text = ap (λ (x : List ℕ). set x (i - 1) b) (f .text ∙ ap (λ (k : ℕ). put o k (drop (i - at) ds)) (sym q))
-          ∙ put-front o (i - 1) b (drop (i - at) ds) (omega (arith, f .high)) ∙ ap (put o (i - 1)) (sym d);
+      text = ap (λ (x : List ℕ). set x (i - 1) b) (f .text ∙ ap (λ (k : ℕ). overlaid o k (drop (i - at) ds)) (sym q))
+          ∙ put-front o (i - 1) b (drop (i - at) ds) (omega (arith, f .high)) ∙ ap (overlaid o (i - 1)) (sym d);
       rest = u .0;
     }
 
-pub filling-done : (o ds : List ℕ) (at : ℕ) (o' : List ℕ) (left i : ℕ) → i ≤ at → Filling o ds at o' left i → o' ≡ put o at ds
+pub filling-done : (o ds : List ℕ) (at : ℕ) (o' : List ℕ) (left i : ℕ) → i ≤ at → Filling o ds at o' left i → o' ≡ overlaid o at ds
 filling-done o ds at o' left i h f =
     let e : i ≡ at = omega (arith, f .low) in
     let z : at - at ≡ 0 = omega arith in
-    f .text ∙ ap (λ (k : ℕ). put o k (drop (k - at) ds)) e ∙ rw z refl
+    f .text ∙ ap (λ (k : ℕ). overlaid o k (drop (k - at) ds)) e ∙ rw z refl
 
 -- a number's sign and size, from its bits
 pub from-zero : (v : ℤ) (u : ℕ) → SFits w32 v → u ≡ word w32 v → u < 2147483648 → decimalOf u ≡ signedOf v

@@ -1,3 +1,5 @@
+pub mod Letters
 pub mod Numbers
 pub mod Parts
+pub mod Same
 pub mod Writing

@@ -1,4 +1,4 @@
--- 01, 'The replay program': fields parted by one tab, each line ended by byte 10.
+-- 01, 'The replay program': fields parted by one tab, each line ended by a newline.
 use mathlib.Core.Bool.{cond}
 use mathlib.Core.List.{List, [], _∷_}
 use Prim.Native.Nat.{ℕ, suc, _+_}

@@ -7,15 +7,15 @@ use lib.Dec.{leb}
 use lib.ListN.{length, take, drop}
 
 -- the list with bs at the place
-unfoldable pub put : List ℕ → ℕ → List ℕ → List ℕ
-put l at bs = take at l ++ (bs ++ drop (at + length bs) l)
+unfoldable pub overlaid : List ℕ → ℕ → List ℕ → List ℕ
+overlaid l at bs = take at l ++ (bs ++ drop (at + length bs) l)
 
 -- bs were put into o at the place: r is the next place, and o' the buffer afterwards
 pub record Wrote (o : List ℕ) (at : ℕ) (bs : List ℕ) (r : ℕ) (o' : List ℕ) : Type 0 where
   pub next : r ≡ at + length bs
-  pub text : o' ≡ put o at bs
+  pub text : o' ≡ overlaid o at bs
 
 -- the same where there is room for all of bs; elsewhere nothing is written, and the place stays
 pub record Puts (o : List ℕ) (at : ℕ) (bs : List ℕ) (r : ℕ) (o' : List ℕ) : Type 0 where
   pub next : r ≡ cond (leb (at + length bs) (length o)) (at + length bs) at
-  pub text : o' ≡ cond (leb (at + length bs) (length o)) (put o at bs) o
+  pub text : o' ≡ cond (leb (at + length bs) (length o)) (overlaid o at bs) o

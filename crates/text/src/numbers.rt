@@ -35,14 +35,14 @@ fn digits(s: &[u8]) -> Number
     let mut v: u64 = 0;
     let mut i: usize = 0;
     while i < s.len() {
-        let b = wide(s[i]);
-        if b < 48 {
+        let b = s[i];
+        if b < b'0' {
             return Number::Wrong;
         }
-        if 57 < b {
+        if b'9' < b {
             return Number::Wrong;
         }
-        v = grown(v, b - 48);
+        v = grown(v, wide(b - b'0'));
         i += 1;
     }
     Number::Plus(v)
@@ -65,7 +65,7 @@ fn leading(s: &[u8]) -> Number
     if s.len() == 0 {
         return Number::Wrong;
     }
-    if s[0] == 48 {
+    if s[0] == b'0' {
         return Number::Wrong;
     }
     digits(s)
@@ -79,10 +79,10 @@ pub fn parsed(field: &[u8]) -> Number
         return Number::Wrong;
     }
     let b = field[0];
-    if b == 45 {
+    if b == b'-' {
         return flip(leading(&field[1..]));
     }
-    if b == 48 {
+    if b == b'0' {
         if field.len() == 1 {
             return Number::Plus(0);
         }

@@ -74,7 +74,7 @@ pub fn put_decimal(out: &mut [u8], at: usize, n: u64) -> usize
     let mut i = end;
     while at < i {
         i -= 1;
-        out[i] = (48 + left % 10) as u8;
+        out[i] = b'0' + (left % 10) as u8;
         left = left / 10;
     }
     end
@@ -92,6 +92,6 @@ pub fn put_signed(out: &mut [u8], at: usize, v: i32) -> usize
     if !has_room(out.len(), at, width(size) + 1) {
         return at;
     }
-    let next = put_byte(out, at, 45);
+    let next = put_byte(out, at, b'-');
     put_decimal(out, next, size)
 }

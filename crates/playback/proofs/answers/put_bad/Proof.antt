@@ -1,45 +1,23 @@
+-- Each part is put behind the one before, and no number has more than 20 digits.
 use native.Mathlib.Omega.{arith}
 use borrow.Author.Needs.{needs}
 use Rattle.playback.proofs.Answering.{bad-wrote}
 use Rattle.playback.proofs.answers.put_bad.Statement.{statement}
 use Rattle.playback.proofs.answers.put_bad.Tie as tie
 
-slice-aggregate-put-bytes : tie.Need-slice-aggregate-put-bytes
-slice-aggregate-put-bytes c = search needs
-
-put-bytes-requires : tie.Need-put-bytes-requires
-put-bytes-requires c κs = search needs
-
-put-decimal-requires : tie.Need-put-decimal-requires
-put-decimal-requires c κs = search needs
-
-put-byte-requires : tie.Need-put-byte-requires
-put-byte-requires c κs = search needs
-
-put-decimal-requires-2 : tie.Need-put-decimal-requires-2
-put-decimal-requires-2 c κs = search needs
-
-put-byte-requires-2 : tie.Need-put-byte-requires-2
-put-byte-requires-2 c κs = search needs
-
-same-length : tie.Need-same-length
-same-length c = search needs
-
 returns : tie.Need-returns
 returns c =
-    let a = c .before .before .before .before .before .before .before .before .before .before .before .before .before .before .before .before .before .before .before .before .before .before .args in
-    bad-wrote (a .out .now) (a .at) (a .line) (a .number) _ _ _ _ _ _ _ _ _ _ (omega arith) (c .before .before .before .before .before .before .before .before .before .before .before .before .before .before .before .before .before .before .before .before .before .before .pre)
-    (c .before .before .before .before .before .before .before .before .before .before .before .before .before .before .before .before .before .before .put-bytes .ensures) (c .before .before .before .before .before .before .before .before .before .before .before .before .before .before .put-decimal .ensures) (c .before .before .before .before .before .before .before .before .before .before .put-byte .ensures) (c .before .before .before .before .before .before .put-decimal2 .ensures) (c .before .before .put-byte2 .ensures)
+    let at-put-decimal2 : tie.After-put-decimal2 = search in
+    let at-put-byte : tie.After-put-byte = search in
+    let at-put-decimal : tie.After-put-decimal = search in
+    let at-put-bytes : tie.After-put-bytes = search in
+    let begin : tie.Start = search in
+    let a = begin .args in
+    bad-wrote (a .out .now) (a .at) (a .line) (a .number) _ _ _ _ _ _ _ _ _ _ (omega arith) (begin .pre)
+    (at-put-bytes .put-bytes .ensures) (at-put-decimal .put-decimal .ensures) (at-put-byte .put-byte .ensures)
+    (at-put-decimal2 .put-decimal2 .ensures) (c .before .before .put-byte2 .ensures)
 
 pub put-bad-spec : {M : Type 1} → statement M
 put-bad-spec =
-    tie.close
-    (tie.spec
-    slice-aggregate-put-bytes
-    put-bytes-requires
-    put-decimal-requires
-    put-byte-requires
-    put-decimal-requires-2
-    put-byte-requires-2
-    same-length
-    returns)
+    tie.close (tie.spec (λ c. search needs) (λ c κs. search needs) (λ c κs. search needs) (λ c κs. search needs)
+    (λ c κs. search needs) (λ c κs. search needs) (λ c. search needs) returns)

@@ -1,3 +1,4 @@
+-- The bytes from len to i are zeros.
 use mathlib.Core.Path.{_≡_, refl}
 use mathlib.Core.List.{_++_}
 use native.Mathlib.Omega.{arith}
@@ -22,17 +23,16 @@ loop-holds c =
 array-write-a : tie.Need-array-write-a Inv-loop μ-loop
 array-write-a c = omega arith
 
-add-i : tie.Need-add-i Inv-loop μ-loop
-add-i c = search needs
-
-loop-less : tie.Need-loop-less Inv-loop μ-loop
-loop-less c = search needs
-
 loop-again : tie.Need-loop-again Inv-loop μ-loop
 loop-again c =
     let a = c .before .before .args in
-    let l = c .before .loop in
-    (omega (arith, l .inv .0), omega arith, l .inv .2, pad-on (a .line) (a .len) (l .i) (l .inv .0) (l .inv .2) (l .a) (omega arith) (l .inv .3))
+    let l = c .before .loop in (
+      omega (arith, l .inv .0),
+      omega arith,
+      l .inv .2,
+      pad-on (a .line) (a .len) (l .i) (l .inv .0) (l .inv .2) (l .a) (omega arith)
+          (l .inv .3),
+    )
 
 returns : tie.Need-returns Inv-loop μ-loop
 returns c =
@@ -42,5 +42,5 @@ returns c =
 
 pub padded-spec : {M : Type 1} → statement M
 padded-spec =
-    tie.close
-    (tie.spec Inv-loop μ-loop loop-holds array-write-a add-i loop-less loop-again returns)
+    tie.close (tie.spec Inv-loop μ-loop loop-holds array-write-a (λ c. search needs) (λ c. search needs) loop-again
+    returns)

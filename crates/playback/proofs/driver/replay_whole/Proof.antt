@@ -1,3 +1,4 @@
+-- The whole input is one part, and then comes the end (Wholes).
 use mathlib.Core.Path.{refl, ap}
 use native.Mathlib.Omega.{arith}
 use Prim.Native.Nat.{_≤_}
@@ -9,57 +10,51 @@ use Rattle.playback.proofs.Feeding.{too-short, long-enough, room-for, r
 use Rattle.playback.proofs.driver.replay_whole.Statement.{statement}
 use Rattle.playback.proofs.driver.replay_whole.Tie as tie
 
-short-of-requires : tie.Need-short-of-requires
-short-of-requires c κs = search needs
-
 returns : tie.Need-returns
 returns c =
-    let a = c .before .before .before .before .args in
-    refused-20 (feedNumber (a .input .now) (a .out .now)) (replay (a .input .now)) (a .out .now) (too-short (a .input .now) (a .out .now) (c .before .short-of .result) (c .before .short-of .ensures) (c .if1 .taken))
+    let begin : tie.Start = search in
+    let a = begin .args in
+    refused-20 (feedNumber (a .input .now) (a .out .now)) (replay (a .input .now)) (a .out .now)
+    (too-short (a .input .now) (a .out .now) (c .before .short-of .result) (c .before .short-of .ensures) (c .if1 .taken))
 
-start-requires : tie.Need-start-requires
-start-requires c κs = search needs
-
-slice-aggregate-run : tie.Need-slice-aggregate-run
-slice-aggregate-run c = search needs
-
-slice-aggregate-run-2 : tie.Need-slice-aggregate-run-2
-slice-aggregate-run-2 c = search needs
-
-run-requires : tie.Need-run-requires
-run-requires c κs =
-    let a = c .before .before .before .before .before .before .before .before .args in
+replay-part-requires : tie.Need-replay-part-requires
+replay-part-requires c κs =
+    let else1 : tie.Else1 = search in
+    let at-short-of : tie.After-short-of = search in
+    let begin : tie.Start = search in
+    let a = begin .args in
     let k = c .before .before .before .start in
-    let z : k .result .len ≤ 64 = rw (k .ensures) (omega arith) in
-    (z, room-for (a .input .now) (a .out .now) (c .before .before .before .before .before .short-of .result) (c .before .before .before .before .before .short-of .ensures) (c .before .before .before .before .if1 .left) (k .result) z, omega arith, omega arith)
+    let z : k .result .len ≤ 64 = rw (k .ensures) (omega arith) in (
+      z,
+      room-for (a .input .now) (a .out .now) (at-short-of .short-of .result) (at-short-of .short-of .ensures) (else1 .if1 .left)
+          (k .result) z,
+      omega arith,
+      omega arith,
+    )
 
 put-finish-requires : tie.Need-put-finish-requires
-put-finish-requires c κs = λ g. omega (arith, c .before .before .before .before .before .before .run .ensures .0 .room .fits g)
-
-same-length : tie.Need-same-length
-same-length c = search needs
+put-finish-requires c κs =
+    let at-run : tie.After-replay-part = search in
+    λ g. omega (arith, at-run .replay-part .ensures .0 .room .fits g)
 
 returns-2 : tie.Need-returns-2
 returns-2 c =
-    let a = c .before .before .before .before .before .before .before .before .before .before .before .before .before .before .before .before .before .before .args in
-    let k = c .before .before .before .before .before .before .before .before .before .before .before .before .before .start in
-    let t = c .before .before .before .before .before .before .before .before .before .run in
+    let at-run : tie.After-replay-part = search in
+    let at-start : tie.After-start = search in
+    let else1 : tie.Else1 = search in
+    let at-short-of : tie.After-short-of = search in
+    let begin : tie.Start = search in
+    let a = begin .args in
+    let k = at-start .start in
+    let t = at-run .replay-part in
     let f = c .before .before .put-finish in
     done (feedNumber (a .input .now) (a .out .now)) (replay (a .input .now)) (a .out .now) (f .last .1 .0) (f .result)
-    (long-enough (a .input .now) (a .out .now) (c .before .before .before .before .before .before .before .before .before .before .before .before .before .before .before .short-of .result) (c .before .before .before .before .before .before .before .before .before .before .before .before .before .before .before .short-of .ensures) (c .before .before .before .before .before .before .before .before .before .before .before .before .before .before .if1 .left))
-    (ran-whole (k .result) (a .input .now) (a .out .now) (k .result) (t .result .replay) refl (t .result .next) (t .result .written) (t .last .1 .1 .0) (t .ensures .0) (t .ensures .1)
+    (long-enough (a .input .now) (a .out .now) (at-short-of .short-of .result) (at-short-of .short-of .ensures) (else1 .if1 .left))
+    (ran-whole (k .result) (a .input .now) (a .out .now) (k .result) (t .result .replay) refl (t .result .next) (t .result .written)
+    (t .last .1 .1 .0) (t .ensures .0) (t .ensures .1)
     (ap placeOf (k .ensures)) (omega arith) (f .result) (f .last .1 .0) (f .ensures))
 
 pub replay-whole-spec : {M : Type 1} → statement M
 replay-whole-spec =
-    tie.close
-    (tie.spec
-    short-of-requires
-    returns
-    start-requires
-    slice-aggregate-run
-    slice-aggregate-run-2
-    run-requires
-    put-finish-requires
-    same-length
-    returns-2)
+    tie.close (tie.spec (λ c κs. search needs) returns (λ c κs. search needs) (λ c. search needs) (λ c. search needs)
+    replay-part-requires put-finish-requires (λ c. search needs) returns-2)

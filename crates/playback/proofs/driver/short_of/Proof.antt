@@ -1,3 +1,4 @@
+-- A quotient in place of a product that may wrap.
 use mathlib.Core.Path.{sym}
 use native.Mathlib.Omega.{arith}
 use Prim.Native.Nat.{_+_, _*_}

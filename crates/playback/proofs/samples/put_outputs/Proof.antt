@@ -1,3 +1,4 @@
+-- The lines of the first i outputs are written, and the marks of the rest count on (Gathering).
 use lib.IntN.{ℤ, pos}
 use lib.ListN.{getD, length, take}
 use lib.Seq.{getD-take, length-take-le}
@@ -19,8 +20,11 @@ abbrev μ-loop : tie.MeasureT-loop
 μ-loop out₀ at given count unsettled w₀ i₀ out w i = count - i
 
 loop-holds : tie.Need-loop-holds Inv-loop μ-loop
-loop-holds c =
-    (refl, writing-start (c .before .args .out .now) (c .before .args .at) (take (c .before .args .count) (c .before .args .given .now)) (c .before .args .unsettled) (omega (arith, c .before .pre)))
+loop-holds c = (
+  refl,
+  writing-start (c .before .args .out .now) (c .before .args .at) (take (c .before .args .count)
+      (c .before .args .given .now)) (c .before .args .unsettled) (omega (arith, c .before .pre)),
+)
 
 mul-y : tie.Need-mul-y Inv-loop μ-loop
 mul-y c =
@@ -32,25 +36,28 @@ shared-slice-copy-out-y c = omega (arith, c .before .before .before .pre .0)
 
 put-output-requires : tie.Need-put-output-requires Inv-loop μ-loop
 put-output-requires c κs =
+    let begin : tie.Start Inv-loop μ-loop = search in
     let l = c .before .before .before .loop in
-    omega (arith, l .inv .0, l .inv .1 .near, c .before .before .before .before .before .pre .1, c .before .before .loop-test .taken)
-
-add-i : tie.Need-add-i Inv-loop μ-loop
-add-i c = search needs
-
-loop-less : tie.Need-loop-less Inv-loop μ-loop
-loop-less c = search needs
+    omega (arith, l .inv .0, l .inv .1 .near, begin .pre .1, c .before .before .loop-test .taken)
 
 loop-again : tie.Need-loop-again Inv-loop μ-loop
 loop-again c =
-    let a = c .before .before .before .before .before .before .before .before .args in
-    let l = c .before .before .before .before .before .before .loop in
+    let at-y : tie.After-y Inv-loop μ-loop = search in
+    let in-loop : tie.In-loop Inv-loop μ-loop = search in
+    let turn : tie.At-loop Inv-loop μ-loop = search in
+    let begin : tie.Start Inv-loop μ-loop = search in
+    let a = begin .args in
+    let l = turn .loop in
     let p = c .before .before .put-output in
     let y : ℤ = getD (a .given .now) (l .i) (pos 0) in
     let ys = take (a .count) (a .given .now) in
-    let n : length ys ≡ a .count = length-take-le (a .count) (a .given .now) (c .before .before .before .before .before .before .before .before .pre .0) in
-    let e : toZ w32 (ofZ w32 y) ≡ getD ys (l .i) (pos 0) = read w32 y (c .before .before .before .before .y .given) ∙ sym (getD-take (a .count) (a .given .now) (l .i) (pos 0) (c .before .before .before .before .before .loop-test .taken)) in
-    (p .kept .0 ∙ l .inv .0, writing-on (a .out .now) (a .at) ys (a .unsettled) (omega (arith, c .before .before .before .before .before .before .before .before .pre .1)) (l .out) (p .last .0) (l .w) (p .result) (l .i) _ (omega (arith, c .before .before .before .before .before .loop-test .taken)) e (l .inv .1) (p .ensures .0) (p .ensures .1))
+    let n : length ys ≡ a .count = length-take-le (a .count) (a .given .now) (begin .pre .0) in
+    let e : toZ w32 (ofZ w32 y) ≡ getD ys (l .i) (pos 0) = read w32 y (at-y .y .given)
+    ∙ sym (getD-take (a .count) (a .given .now) (l .i) (pos 0) (in-loop .loop-test .taken)) in (
+      p .kept .0 ∙ l .inv .0,
+      writing-on (a .out .now) (a .at) ys (a .unsettled) (omega (arith, begin .pre .1)) (l .out) (p .last .0)
+          (l .w) (p .result) (l .i) _ (omega (arith, in-loop .loop-test .taken)) e (l .inv .1) (p .ensures .0) (p .ensures .1),
+    )
 
 same-length : tie.Need-same-length Inv-loop μ-loop
 same-length c = c .before .loop .inv .0
@@ -60,21 +67,13 @@ returns c =
     let a = c .before .before .before .args in
     let l = c .before .loop in
     let ys = take (a .count) (a .given .now) in
-    let n : length ys ≡ a .count = length-take-le (a .count) (a .given .now) (c .before .before .before .pre .0) in
-    (writing-done (a .out .now) (a .at) ys (a .unsettled) (omega (arith, c .before .before .before .pre .1)) (l .out) (l .w) (l .i) (omega arith) (l .inv .1), omega (arith, l .inv .1 .near, l .inv .1 .small))
+    let n : length ys ≡ a .count = length-take-le (a .count) (a .given .now) (c .before .before .before .pre .0) in (
+      writing-done (a .out .now) (a .at) ys (a .unsettled) (omega (arith, c .before .before .before .pre .1)) (l .out) (l .w) (l .i)
+          (omega arith) (l .inv .1),
+      omega (arith, l .inv .1 .near, l .inv .1 .small),
+    )
 
 pub put-outputs-spec : {M : Type 1} → statement M
 put-outputs-spec =
-    tie.close
-    (tie.spec
-    Inv-loop
-    μ-loop
-    loop-holds
-    mul-y
-    shared-slice-copy-out-y
-    put-output-requires
-    add-i
-    loop-less
-    loop-again
-    same-length
-    returns)
+    tie.close (tie.spec Inv-loop μ-loop loop-holds mul-y shared-slice-copy-out-y put-output-requires (λ c. search needs)
+    (λ c. search needs) loop-again same-length returns)

@@ -1,3 +1,4 @@
+-- The three tests in turn.
 use mathlib.Core.Path.{sym}
 use borrow.Author.Tests.{not-true, not-false}
 use Rattle.playback.proofs.turns.ready.Statement.{statement}

@@ -1,8 +1,10 @@
+-- Three fields, each behind the tab that ends the one before it.
 use Prim.Native.Nat.{_-_}
 use mathlib.Core.Path.{ap, _∙_}
 use native.Mathlib.Omega.{arith}
 use lib.ListN.{drop}
 use borrow.Author.Needs.{needs}
+use Rattle.text.specs.Letters.{tab}
 use Rattle.text.specs.Numbers.{capped}
 use Rattle.text.specs.Parts.{behind}
 use Rattle.records.specs.Lines.{fieldAt}
@@ -10,13 +12,14 @@ use Rattle.records.proofs.Parsing.{fewer, cic-is, natural-is, second, t
 use Rattle.records.proofs.parse.cic_record.Statement.{statement}
 use Rattle.records.proofs.parse.cic_record.Tie as tie
 
-field-requires : tie.Need-field-requires
-field-requires c κs = search needs
-
 field-requires-2 : tie.Need-field-requires-2
 field-requires-2 c κs =
     let l = c .before .before .args .line .now in
-    omega (arith, fewer l (c .before .before .args .e) (c .field .result .value) (c .field .result .end) (c .field .ensures), c .before .before .pre)
+    omega (
+      arith,
+      fewer l (c .before .before .args .e) (c .field .result .value) (c .field .result .end) (c .field .ensures),
+      c .before .before .pre,
+    )
 
 field-requires-3 : tie.Need-field-requires-3
 field-requires-3 c κs =
@@ -29,39 +32,25 @@ field-requires-3 c κs =
       c .before .before .before .pre,
     )
 
-natural-of-requires : tie.Need-natural-of-requires
-natural-of-requires c κs = search needs
-
-natural-of-requires-2 : tie.Need-natural-of-requires-2
-natural-of-requires-2 c κs = search needs
-
-natural-of-requires-3 : tie.Need-natural-of-requires-3
-natural-of-requires-3 c κs = search needs
-
-opening-requires : tie.Need-opening-requires
-opening-requires c κs = search needs
-
 returns : tie.Need-returns
 returns c =
-    let a = c .before .before .before .before .before .before .before .before .args in
-    let fs = behind 9 (drop (a .e) (a .line .now)) in
-    let x = c .before .before .before .before .before .before .field in
-    let y = c .before .before .before .before .before .field2 in
-    let z = c .before .before .before .before .field3 in
+    let at-field3 : tie.After-field3 = search in
+    let at-field2 : tie.After-field2 = search in
+    let at-field : tie.After-field = search in
+    let begin : tie.Start = search in
+    let a = begin .args in
+    let fs = behind tab (drop (a .e) (a .line .now)) in
+    let x = at-field .field in
+    let y = at-field2 .field2 in
+    let z = at-field3 .field3 in
     c .opening .ensures ∙ cic-is fs _ _ _
     (natural-is _ _ (fieldAt fs 0) (x .ensures .value) (c .before .before .before .natural-of .ensures))
-    (natural-is _ _ (fieldAt fs 1) (y .ensures .value ∙ ap capped (second fs _ (x .ensures .rest))) (c .before .before .natural-of2 .ensures))
-    (natural-is _ _ (fieldAt fs 2) (z .ensures .value ∙ ap capped (third fs _ _ (x .ensures .rest) (y .ensures .rest))) (c .before .natural-of3 .ensures))
+    (natural-is _ _ (fieldAt fs 1) (y .ensures .value ∙ ap capped (second fs _ (x .ensures .rest)))
+    (c .before .before .natural-of2 .ensures))
+    (natural-is _ _ (fieldAt fs 2) (z .ensures .value ∙ ap capped (third fs _ _ (x .ensures .rest) (y .ensures .rest)))
+    (c .before .natural-of3 .ensures))
 
 pub cic-record-spec : {M : Type 1} → statement M
 cic-record-spec =
-    tie.close
-    (tie.spec
-    field-requires
-    field-requires-2
-    field-requires-3
-    natural-of-requires
-    natural-of-requires-2
-    natural-of-requires-3
-    opening-requires
-    returns)
+    tie.close (tie.spec (λ c κs. search needs) field-requires-2 field-requires-3 (λ c κs. search needs)
+    (λ c κs. search needs) (λ c κs. search needs) (λ c κs. search needs) returns)

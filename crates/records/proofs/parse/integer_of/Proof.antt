@@ -1,3 +1,4 @@
+-- By sign and size; a number within i32 is read back from its 32 bits.
 use mir.Syntax.{w32}
 use mathlib.Core.Path.{sym, ap, _∙_}
 use borrow.Author.Tests.{le-leb, lt-leb, eq-eqb, ne-eqb}
@@ -9,67 +10,31 @@ use Rattle.records.proofs.Parsing.{plus-in, minus-in}
 use Rattle.records.proofs.parse.integer_of.Statement.{statement}
 use Rattle.records.proofs.parse.integer_of.Tie as tie
 
-enum-known-n : tie.Need-enum-known-n
-enum-known-n c = search needs
-
-cast-u32-as-i32 : tie.Need-cast-u32-as-i32
-cast-u32-as-i32 c = search needs
-
-u32-as-i32-requires : tie.Need-u32-as-i32-requires
-u32-as-i32-requires c κs = search needs
-
-enum-known-n-2 : tie.Need-enum-known-n-2
-enum-known-n-2 c = search needs
-
 returns : tie.Need-returns
 returns c = sym (ap integerOf (c .before .before .n2 .given .1) ∙ rw (eq-eqb _ _ (c .if2 .taken)))
-
-sub-u32-as-i32 : tie.Need-sub-u32-as-i32
-sub-u32-as-i32 c = search needs
-
-cast-u32-as-i32-2 : tie.Need-cast-u32-as-i32-2
-cast-u32-as-i32-2 c = search needs
-
-u32-as-i32-requires-2 : tie.Need-u32-as-i32-requires-2
-u32-as-i32-requires-2 c κs = search needs
-
-enum-told : tie.Need-enum-told
-enum-told c = search needs
 
 returns-2 : tie.Need-returns-2
 returns-2 c =
     let e = read w32 (c .u32-as-i32 .result) (c .u32-as-i32 .ok) in
-    sym (ap integerOf (c .before .before .before .n .given .1) ∙ rw (le-leb _ _ (c .before .if1 .taken)) (ap Integer.Within (sym (e ∙ c .u32-as-i32 .ensures ∙ plus-in _ (c .before .if1 .taken)))))
+    sym (ap integerOf (c .before .before .before .n .given .1)
+    ∙ rw (le-leb _ _ (c .before .if1 .taken)) (ap Integer.Within (sym (e ∙ c .u32-as-i32 .ensures ∙ plus-in _ (c .before .if1 .taken)))))
 
 returns-3 : tie.Need-returns-3
 returns-3 c = sym (ap integerOf (c .before .before .n .given .1) ∙ rw (lt-leb _ _ (c .if1 .left)))
 
 returns-4 : tie.Need-returns-4
 returns-4 c =
+    let at-n2 : tie.After-n2 = search in
     let e = read w32 (c .u32-as-i322 .result) (c .u32-as-i322 .ok) in
-    sym (ap integerOf (c .before .before .before .before .n2 .given .1) ∙ rw (ne-eqb _ _ (c .before .before .if2 .left), le-leb _ _ (c .before .if3 .taken)) (ap Integer.Within (sym (e ∙ c .u32-as-i322 .ensures ∙ minus-in _ (c .before .before .if2 .left) (c .before .if3 .taken)))))
+    sym (ap integerOf (at-n2 .n2 .given .1) ∙ rw (ne-eqb _ _ (c .before .before .if2 .left), le-leb _ _ (c .before .if3 .taken))
+    (ap Integer.Within (sym (e ∙ c .u32-as-i322 .ensures ∙ minus-in _ (c .before .before .if2 .left) (c .before .if3 .taken)))))
 
 returns-5 : tie.Need-returns-5
-returns-5 c = sym (ap integerOf (c .before .before .before .n2 .given .1) ∙ rw (ne-eqb _ _ (c .before .if2 .left), lt-leb _ _ (c .if3 .left)))
-
-returns-6 : tie.Need-returns-6
-returns-6 c = search needs
+returns-5 c = sym (ap integerOf (c .before .before .before .n2 .given .1)
+    ∙ rw (ne-eqb _ _ (c .before .if2 .left), lt-leb _ _ (c .if3 .left)))
 
 pub integer-of-spec : {M : Type 1} → statement M
 integer-of-spec =
-    tie.close
-    (tie.spec
-    enum-known-n
-    cast-u32-as-i32
-    u32-as-i32-requires
-    enum-known-n-2
-    returns
-    sub-u32-as-i32
-    cast-u32-as-i32-2
-    u32-as-i32-requires-2
-    enum-told
-    returns-2
-    returns-3
-    returns-4
-    returns-5
-    returns-6)
+    tie.close (tie.spec (λ c. search needs) (λ c. search needs) (λ c κs. search needs) (λ c. search needs) returns
+    (λ c. search needs) (λ c. search needs) (λ c κs. search needs) (λ c. search needs) returns-2 returns-3 returns-4
+    returns-5 (λ c. search needs))

@@ -1,3 +1,4 @@
+-- By the record, and whether the filter is there.
 use mathlib.Core.Path.{_∙_}
 use mir.Syntax.{w32}
 use mir.ValLaws.{toZ-ofZ}
@@ -7,116 +8,71 @@ use Rattle.records.proofs.Taking.{takes, is-true, is-false}
 use Rattle.records.proofs.session.take_record.Statement.{statement}
 use Rattle.records.proofs.session.take_record.Tie as tie
 
-enum-known-r : tie.Need-enum-known-r
-enum-known-r c = search needs
-
-refused-requires : tie.Need-refused-requires
-refused-requires c κs = search needs
-
-make-requires : tie.Need-make-requires
-make-requires c κs = search needs
-
-enum-known-r-2 : tie.Need-enum-known-r-2
-enum-known-r-2 c = search needs
-
-change-rate-requires : tie.Need-change-rate-requires
-change-rate-requires c κs = search needs
-
-refused-requires-2 : tie.Need-refused-requires-2
-refused-requires-2 c κs = search needs
-
-enum-known-r-3 : tie.Need-enum-known-r-3
-enum-known-r-3 c = search needs
-
-take-sample-requires : tie.Need-take-sample-requires
-take-sample-requires c κs = search needs
-
-refused-requires-3 : tie.Need-refused-requires-3
-refused-requires-3 c κs = search needs
-
-enum-told : tie.Need-enum-told
-enum-told c = search needs
-
-clear-filter-requires : tie.Need-clear-filter-requires
-clear-filter-requires c κs = search needs
-
-refused-requires-4 : tie.Need-refused-requires-4
-refused-requires-4 c κs = search needs
-
-enum-told-2 : tie.Need-enum-told-2
-enum-told-2 c = search needs
-
-refused-requires-5 : tie.Need-refused-requires-5
-refused-requires-5 c κs = search needs
-
 returns : tie.Need-returns
 unfolding takeOf
 returns c =
-    let a = c .before .before .before .before .before .args in takes (a .s) (a .r) _ (c .refused .result) (c .before .before .before .r .given .1) (c .refused .ensures ∙ is-true _ _ _ (c .before .if1 .taken))
+    let begin : tie.Start = search in
+    let a = begin .args in takes (a .s) (a .r) _ (c .refused .result) (c .before .before .before .r .given .1)
+    (c .refused .ensures ∙ is-true _ _ _ (c .before .if1 .taken))
 
 returns-2 : tie.Need-returns-2
 unfolding takeOf
 returns-2 c =
-    let a = c .before .before .before .before .before .args in takes (a .s) (a .r) _ (c .make .result) (c .before .before .before .r .given .1) (c .make .ensures ∙ is-false _ _ _ (c .before .if1 .left))
+    let begin : tie.Start = search in
+    let a = begin .args in takes (a .s) (a .r) _ (c .make .result) (c .before .before .before .r .given .1)
+    (c .make .ensures ∙ is-false _ _ _ (c .before .if1 .left))
 
 returns-3 : tie.Need-returns-3
 unfolding takeOf
 returns-3 c =
-    let a = c .before .before .before .before .before .args in takes (a .s) (a .r) _ (c .change-rate .result) (c .before .before .before .r2 .given .1) (c .change-rate .ensures ∙ is-true _ _ _ (c .before .if2 .taken))
+    let begin : tie.Start = search in
+    let a = begin .args in takes (a .s) (a .r) _ (c .change-rate .result) (c .before .before .before .r2 .given .1)
+    (c .change-rate .ensures ∙ is-true _ _ _ (c .before .if2 .taken))
 
 returns-4 : tie.Need-returns-4
 unfolding takeOf
 returns-4 c =
-    let a = c .before .before .before .before .before .args in takes (a .s) (a .r) _ (c .refused2 .result) (c .before .before .before .r2 .given .1) (c .refused2 .ensures ∙ is-false _ _ _ (c .before .if2 .left))
+    let begin : tie.Start = search in
+    let a = begin .args in takes (a .s) (a .r) _ (c .refused2 .result) (c .before .before .before .r2 .given .1)
+    (c .refused2 .ensures ∙ is-false _ _ _ (c .before .if2 .left))
 
 returns-5 : tie.Need-returns-5
 unfolding takeOf
 returns-5 c =
-    let a = c .before .before .before .before .before .args in takes (a .s) (a .r) _ (c .take-sample .result) (c .before .before .before .r3 .given .1) ((rw (toZ-ofZ w32 (c .before .before .before .r3 .given .0 .0) (record { sfits = c .before .before .known-told3 .given .0 .1 })) at (c .take-sample .ensures)) ∙ is-true _ _ _ (c .before .if3 .taken))
+    let begin : tie.Start = search in
+    let a = begin .args in takes (a .s) (a .r) _ (c .take-sample .result) (c .before .before .before .r3 .given .1)
+    ((rw (toZ-ofZ w32 (c .before .before .before .r3 .given .0 .0) (record
+    { sfits = c .before .before .known-told3 .given .0 .1 })) at (c .take-sample .ensures)) ∙ is-true _ _ _ (c .before .if3 .taken))
 
 returns-6 : tie.Need-returns-6
 unfolding takeOf
 returns-6 c =
-    let a = c .before .before .before .before .before .args in takes (a .s) (a .r) _ (c .refused3 .result) (c .before .before .before .r3 .given .1) (c .refused3 .ensures ∙ is-false _ _ _ (c .before .if3 .left))
+    let begin : tie.Start = search in
+    let a = begin .args in takes (a .s) (a .r) _ (c .refused3 .result) (c .before .before .before .r3 .given .1)
+    (c .refused3 .ensures ∙ is-false _ _ _ (c .before .if3 .left))
 
 returns-7 : tie.Need-returns-7
 unfolding takeOf
 returns-7 c =
-    let a = c .before .before .before .before .args in takes (a .s) (a .r) _ (c .clear-filter .result) (c .before .before .enum-told .given .1) (c .clear-filter .ensures ∙ is-true _ _ _ (c .before .if4 .taken))
+    let begin : tie.Start = search in
+    let a = begin .args in takes (a .s) (a .r) _ (c .clear-filter .result) (c .before .before .enum-told .given .1)
+    (c .clear-filter .ensures ∙ is-true _ _ _ (c .before .if4 .taken))
 
 returns-8 : tie.Need-returns-8
 unfolding takeOf
 returns-8 c =
-    let a = c .before .before .before .before .args in takes (a .s) (a .r) _ (c .refused4 .result) (c .before .before .enum-told .given .1) (c .refused4 .ensures ∙ is-false _ _ _ (c .before .if4 .left))
+    let begin : tie.Start = search in
+    let a = begin .args in takes (a .s) (a .r) _ (c .refused4 .result) (c .before .before .enum-told .given .1)
+    (c .refused4 .ensures ∙ is-false _ _ _ (c .before .if4 .left))
 
 returns-9 : tie.Need-returns-9
 unfolding takeOf
-returns-9 c = let a = c .before .before .before .args in takes (a .s) (a .r) _ (c .refused5 .result) (c .before .enum-told2 .given .1) (c .refused5 .ensures)
+returns-9 c = let a = c .before .before .before .args in takes (a .s) (a .r) _ (c .refused5 .result)
+    (c .before .enum-told2 .given .1) (c .refused5 .ensures)
 
 pub take-record-spec : {M : Type 1} → statement M
 take-record-spec =
-    tie.close
-    (tie.spec
-    enum-known-r
-    refused-requires
-    make-requires
-    enum-known-r-2
-    change-rate-requires
-    refused-requires-2
-    enum-known-r-3
-    take-sample-requires
-    refused-requires-3
-    enum-told
-    clear-filter-requires
-    refused-requires-4
-    enum-told-2
-    refused-requires-5
-    returns
-    returns-2
-    returns-3
-    returns-4
-    returns-5
-    returns-6
-    returns-7
-    returns-8
-    returns-9)
+    tie.close (tie.spec (λ c. search needs) (λ c κs. search needs) (λ c κs. search needs) (λ c. search needs)
+    (λ c κs. search needs) (λ c κs. search needs) (λ c. search needs) (λ c κs. search needs) (λ c κs. search needs)
+    (λ c. search needs) (λ c κs. search needs) (λ c κs. search needs) (λ c. search needs) (λ c κs. search needs) returns
+    returns-2 returns-3 returns-4 returns-5 returns-6 returns-7 returns-8 returns-9)

@@ -1,3 +1,4 @@
+-- What is left to read: the digits before i gave v, so that the number is that of v and the rest.
 use mathlib.Core.Path.{_≡_, refl, sym, ap, _∙_}
 use Prim.Native.Nat.{ℕ, _≤_, _-_, _+_, _*_, min}
 use native.Mathlib.Omega.{arith}
@@ -18,43 +19,32 @@ abbrev μ-loop : tie.MeasureT-loop
 loop-holds : tie.Need-loop-holds Inv-loop μ-loop
 loop-holds c = (search needs, search needs, refl)
 
-shared-slice-read-wide : tie.Need-shared-slice-read-wide Inv-loop μ-loop
-shared-slice-read-wide c = search needs
-
-wide-requires : tie.Need-wide-requires Inv-loop μ-loop
-wide-requires c κs = search needs
-
 returns : tie.Need-returns Inv-loop μ-loop
 returns c =
-    let l = c .before .before .before .before .loop in
-    let s = c .before .before .before .before .before .before .args .s .now in
-    sym (l .inv .2 ∙ ap capped (below s (l .i) (l .v) (omega arith) (omega (arith, c .before .wide .ensures))))
+    let turn : tie.At-loop Inv-loop μ-loop = search in
+    let begin : tie.Start Inv-loop μ-loop = search in
+    let l = turn .loop in
+    sym (l .inv .2 ∙ ap capped (below (begin .args .s .now) (l .i) (l .v) (omega arith) (c .if1 .taken)))
 
 returns-2 : tie.Need-returns-2 Inv-loop μ-loop
 returns-2 c =
-    let l = c .before .before .before .before .before .loop in
-    let s = c .before .before .before .before .before .before .before .args .s .now in
-    sym (l .inv .2 ∙ ap capped (above s (l .i) (l .v) (omega arith) (omega (arith, c .before .before .wide .ensures))))
-
-grown-requires : tie.Need-grown-requires Inv-loop μ-loop
-grown-requires c κs = search needs
-
-add-i : tie.Need-add-i Inv-loop μ-loop
-add-i c = search needs
-
-loop-less : tie.Need-loop-less Inv-loop μ-loop
-loop-less c = search needs
+    let turn : tie.At-loop Inv-loop μ-loop = search in
+    let begin : tie.Start Inv-loop μ-loop = search in
+    let l = turn .loop in
+    sym (l .inv .2 ∙ ap capped (above (begin .args .s .now) (l .i) (l .v) (omega arith) (c .if2 .taken)))
 
 loop-again : tie.Need-loop-again Inv-loop μ-loop
 loop-again c =
-    let l = c .before .before .before .before .before .before .loop in
-    let s = c .before .before .before .before .before .before .before .before .args .s .now in
-    let w = c .before .before .before .wide in
-    let e : c .grown .result ≡ min (l .v * 10 + (getD s (l .i) 0 - 48)) cap = omega (arith, w .ensures, c .grown .ensures) in (
+    let turn : tie.At-loop Inv-loop μ-loop = search in
+    let begin : tie.Start Inv-loop μ-loop = search in
+    let l = turn .loop in
+    let s = begin .args .s .now in
+    let more = l .v * 10 + (getD s (l .i) 0 - 48) in
+    let e : c .grown .result ≡ min more cap = omega (arith, c .before .wide .ensures, c .grown .ensures) in (
       omega arith,
       omega (arith, c .grown .ensures),
-      l .inv .2 ∙ ap capped (digit s (l .i) (l .v) (omega arith) (omega (arith, w .ensures)) (omega (arith, w .ensures)))
-          ∙ cuts (drop (l .i + 1) s) (l .v * 10 + (getD s (l .i) 0 - 48)) ∙ ap (λ (k : ℕ). capped (digitsFrom k (drop (l .i + 1) s))) (sym e),
+      l .inv .2 ∙ ap capped (digit s (l .i) (l .v) (omega arith) (omega arith) (omega arith)) ∙ cuts (drop (l .i + 1) s) more
+          ∙ ap (λ (k : ℕ). capped (digitsFrom k (drop (l .i + 1) s))) (sym e),
     )
 
 returns-3 : tie.Need-returns-3 Inv-loop μ-loop
@@ -66,17 +56,5 @@ returns-3 c =
 
 pub digits-spec : {M : Type 1} → statement M
 digits-spec =
-    tie.close
-    (tie.spec
-    Inv-loop
-    μ-loop
-    loop-holds
-    shared-slice-read-wide
-    wide-requires
-    returns
-    returns-2
-    grown-requires
-    add-i
-    loop-less
-    loop-again
-    returns-3)
+    tie.close (tie.spec Inv-loop μ-loop loop-holds (λ c. search needs) returns returns-2 (λ c κs. search needs)
+    (λ c κs. search needs) (λ c. search needs) (λ c. search needs) loop-again returns-3)

@@ -1,3 +1,4 @@
+-- The part that starts at `from` ends where the one that starts at i does.
 use mathlib.Core.Path.{_≡_, refl, sym, _∙_}
 use Prim.Native.Nat.{_-_}
 use lib.ListN.{length}
@@ -16,24 +17,17 @@ abbrev μ-loop : tie.MeasureT-loop
 loop-holds : tie.Need-loop-holds Inv-loop μ-loop
 loop-holds c = refl
 
-shared-slice-read-if1 : tie.Need-shared-slice-read-if1 Inv-loop μ-loop
-shared-slice-read-if1 c = search needs
-
 returns : tie.Need-returns Inv-loop μ-loop
 returns c =
-    let a = c .before .before .before .before .args in
+    let begin : tie.Start Inv-loop μ-loop = search in
+    let a = begin .args in
     let l = c .before .before .before .loop in
     sym (l .inv ∙ end-here (a .sep) (a .text .now) (l .i) (search needs) (c .if1 .taken))
 
-add-i : tie.Need-add-i Inv-loop μ-loop
-add-i c = search needs
-
-loop-less : tie.Need-loop-less Inv-loop μ-loop
-loop-less c = search needs
-
 loop-again : tie.Need-loop-again Inv-loop μ-loop
 loop-again c =
-    let a = c .before .before .before .before .args in
+    let begin : tie.Start Inv-loop μ-loop = search in
+    let a = begin .args in
     let l = c .before .before .before .loop in
     l .inv ∙ end-on (a .sep) (a .text .now) (l .i) (search needs) (c .if1 .left)
 
@@ -45,14 +39,5 @@ returns-2 c =
 
 pub part-end-spec : {M : Type 1} → statement M
 part-end-spec =
-    tie.close
-    (tie.spec
-    Inv-loop
-    μ-loop
-    loop-holds
-    shared-slice-read-if1
-    returns
-    add-i
-    loop-less
-    loop-again
-    returns-2)
+    tie.close (tie.spec Inv-loop μ-loop loop-holds (λ c. search needs) returns (λ c. search needs) (λ c. search needs)
+    loop-again returns-2)

@@ -1,3 +1,4 @@
+-- A difference that does not wrap, in place of a sum that may.
 use Prim.Native.Nat.{_+_}
 use mathlib.Core.Path.{sym}
 use native.Mathlib.Omega.{arith}

@@ -1,3 +1,4 @@
+-- One store, where there is room.
 use mathlib.Core.Path.{refl}
 use Prim.Native.Nat.{_<_}
 use native.Mathlib.Omega.{arith}
@@ -10,15 +11,6 @@ use Rattle.text.proofs.writing.put_byte.Tie as tie
 returns : tie.Need-returns
 returns c = puts-none _ _ _ (omega arith)
 
-slice-write-out : tie.Need-slice-write-out
-slice-write-out c = search needs
-
-add-result : tie.Need-add-result
-add-result c = search needs
-
-same-length : tie.Need-same-length
-same-length c = search needs
-
 returns-2 : tie.Need-returns-2
 returns-2 c =
     let a = c .before .args in
@@ -26,4 +18,5 @@ returns-2 c =
     puts _ _ _ _ _ (omega arith) (record { next = refl; text = put-one (a .out .now) (a .at) (a .b) h })
 
 pub put-byte-spec : {M : Type 1} → statement M
-put-byte-spec = tie.close (tie.spec returns slice-write-out add-result same-length returns-2)
+put-byte-spec =
+    tie.close (tie.spec returns (λ c. search needs) (λ c. search needs) (λ c. search needs) returns-2)

@@ -1,3 +1,4 @@
+-- The first i bytes are put.
 use mathlib.Core.Path.{_≡_, refl, ap, _∙_}
 use native.Mathlib.Omega.{arith}
 use Prim.Native.Nat.{ℕ, _≤_, _-_, _+_}
@@ -6,47 +7,33 @@ use lib.ListN.{length, take, set, getD, length-set}
 use lib.Seq.{take-all}
 use borrow.Author.Needs.{needs}
 use Rattle.text.proofs.Putting.{not-fits, does-fit, puts, puts-none, put-nil, copy-on}
-use Rattle.text.specs.Writing.{put}
+use Rattle.text.specs.Writing.{overlaid}
 use Rattle.text.proofs.writing.put_bytes.Statement.{statement}
 use Rattle.text.proofs.writing.put_bytes.Tie as tie
 
 abbrev Inv-loop : tie.InvT-loop
-Inv-loop out₀ at s i₀ out i = (i ≤ length s) × (at + length s ≤ length out₀) × (length out ≡ length out₀) × (out ≡ put out₀ at (take i s))
+Inv-loop out₀ at s i₀ out i = (i ≤ length s) × (at + length s ≤ length out₀) × (length out ≡ length out₀)
+    × (out ≡ overlaid out₀ at (take i s))
 
 abbrev μ-loop : tie.MeasureT-loop
 μ-loop out₀ at s i₀ out i = length s - i
 
-has-room-requires : tie.Need-has-room-requires Inv-loop μ-loop
-has-room-requires c κs = search needs
-
 returns : tie.Need-returns Inv-loop μ-loop
 returns c =
-    let a = c .before .before .before .before .args in
+    let begin : tie.Start Inv-loop μ-loop = search in
+    let a = begin .args in
     puts-none (a .out .now) (a .at) (a .s .now) (not-fits _ _ _ _ (c .before .has-room .ensures) (c .if1 .taken))
 
 loop-holds : tie.Need-loop-holds Inv-loop μ-loop
 loop-holds c =
-    let a = c .before .before .before .before .args in
+    let begin : tie.Start Inv-loop μ-loop = search in
+    let a = begin .args in
     (omega arith, does-fit _ _ _ _ (c .before .has-room .ensures) (c .if1 .left), refl, put-nil (a .out .now) (a .at))
-
-shared-slice-read-out : tie.Need-shared-slice-read-out Inv-loop μ-loop
-shared-slice-read-out c = search needs
-
-add-out : tie.Need-add-out Inv-loop μ-loop
-add-out c = search needs
-
-slice-write-out : tie.Need-slice-write-out Inv-loop μ-loop
-slice-write-out c = search needs
-
-add-i : tie.Need-add-i Inv-loop μ-loop
-add-i c = search needs
-
-loop-less : tie.Need-loop-less Inv-loop μ-loop
-loop-less c = search needs
 
 loop-again : tie.Need-loop-again Inv-loop μ-loop
 loop-again c =
-    let a = c .before .before .before .before .before .before .before .args in
+    let begin : tie.Start Inv-loop μ-loop = search in
+    let a = begin .args in
     let l = c .before .before .loop in (
       omega arith,
       l .inv .1,
@@ -55,33 +42,19 @@ loop-again c =
           ∙ copy-on (a .out .now) (a .s .now) (a .at) (l .i) (l .inv .1) (omega arith),
     )
 
-add-result : tie.Need-add-result Inv-loop μ-loop
-add-result c = search needs
-
-same-length : tie.Need-same-length Inv-loop μ-loop
-same-length c = search needs
-
 returns-2 : tie.Need-returns-2 Inv-loop μ-loop
 returns-2 c =
-    let a = c .before .before .before .before .before .before .args in
+    let begin : tie.Start Inv-loop μ-loop = search in
+    let a = begin .args in
     let l = c .before .loop in
-    puts _ _ _ _ _ (l .inv .1) (record { next = omega arith; text = l .inv .3 ∙ ap (put (a .out .now) (a .at)) (take-all (l .i) (a .s .now) (omega arith)) })
+    puts _ _ _ _ _ (l .inv .1) (record {
+      next = omega arith;
+      text = l .inv .3 ∙ ap (overlaid (a .out .now) (a .at))
+          (take-all (l .i) (a .s .now) (omega arith));
+    })
 
 pub put-bytes-spec : {M : Type 1} → statement M
 put-bytes-spec =
-    tie.close
-    (tie.spec
-    Inv-loop
-    μ-loop
-    has-room-requires
-    returns
-    loop-holds
-    shared-slice-read-out
-    add-out
-    slice-write-out
-    add-i
-    loop-less
-    loop-again
-    add-result
-    same-length
-    returns-2)
+    tie.close (tie.spec Inv-loop μ-loop (λ c κs. search needs) returns loop-holds (λ c. search needs)
+    (λ c. search needs) (λ c. search needs) (λ c. search needs) (λ c. search needs) loop-again (λ c. search needs)
+    (λ c. search needs) returns-2)

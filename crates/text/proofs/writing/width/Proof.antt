@@ -1,3 +1,4 @@
+-- After w - 1 turns p is 10 to the w, and n has at least w digits.
 use mathlib.Core.Path.{_≡_, refl}
 use native.Mathlib.Omega.{arith}
 use Prim.Native.Nat.{_≤_, _<_, _-_, _^_}
@@ -27,12 +28,6 @@ mul-p c =
     let n = c .before .before .before .args .n in
     record { fits = width-fits n (l .w) (l .p) (l .inv .0) (l .inv .1) (l .inv .2) (c .if1 .left) }
 
-add-w : tie.Need-add-w Inv-loop μ-loop
-add-w c = search needs
-
-loop-less : tie.Need-loop-less Inv-loop μ-loop
-loop-less c = search needs
-
 loop-again : tie.Need-loop-again Inv-loop μ-loop
 loop-again c =
     let l = c .before .before .loop in
@@ -48,5 +43,5 @@ returns-2 c =
 
 pub width-spec : {M : Type 1} → statement M
 width-spec =
-    tie.close
-    (tie.spec Inv-loop μ-loop loop-holds returns mul-p add-w loop-less loop-again returns-2)
+    tie.close (tie.spec Inv-loop μ-loop loop-holds returns mul-p (λ c. search needs) (λ c. search needs) loop-again
+    returns-2)

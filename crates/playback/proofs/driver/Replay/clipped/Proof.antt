@@ -1,3 +1,4 @@
+-- A line of 64 bytes has no more than 64.
 use mathlib.Core.Path.{_≡_}
 use native.Mathlib.Omega.{arith}
 use lib.ListN.{length}
@@ -14,8 +15,5 @@ returns c =
     let a = c .before .before .args .self in
     (clip-place a (long c) (omega arith), omega arith)
 
-returns-2 : tie.Need-returns-2
-returns-2 c = search needs
-
 pub clipped-spec : {M : Type 1} → statement M
-clipped-spec = tie.close (tie.spec returns returns-2)
+clipped-spec = tie.close (tie.spec returns (λ c. search needs))

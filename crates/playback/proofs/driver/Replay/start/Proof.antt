@@ -1,3 +1,4 @@
+-- A filter of order 0 is blank.
 use mathlib.Core.Path.{ap}
 use mathlib.Core.Bool.{true, false}
 use lib.ListN.{replicate}
@@ -8,13 +9,17 @@ use Rattle.cic.specs.declared.state.Made.{Made}
 use Rattle.playback.proofs.driver.Replay.start.Statement.{statement}
 use Rattle.playback.proofs.driver.Replay.start.Tie as tie
 
-new-requires : tie.Need-new-requires
-new-requires c κs = search needs
-
 returns : tie.Need-returns
 unfolding newState refusalOf
 returns c =
-    ap (λ (m : Made). record { session = record { opened = false; filter = m .state }; lines = 0; outputs = 0; line = replicate 64 0; len = 0; going = true }) (c .before .new .ensures)
+    ap (λ (m : Made). record {
+      session = record { opened = false; filter = m .state };
+      lines = 0;
+      outputs = 0;
+      line = replicate 64 0;
+      len = 0;
+      going = true;
+    }) (c .before .new .ensures)
 
 pub start-spec : {M : Type 1} → statement M
-start-spec = tie.close (tie.spec new-requires returns)
+start-spec = tie.close (tie.spec (λ c κs. search needs) returns)

@@ -1,3 +1,4 @@
+-- The place tells the replay, but for the bytes behind its line.
 use mathlib.Core.Path.{_≡_}
 use lib.ListN.{length}
 use borrow.Author.Needs.{needs}
@@ -8,12 +9,10 @@ use Rattle.playback.proofs.driver.Replay.tidied.Tie as tie
 long : (c : tie.Start) → length (c .args .self .line) ≡ 64
 long c = search needs
 
-padded-requires : tie.Need-padded-requires
-padded-requires c κs = search needs
-
 returns : tie.Need-returns
 returns c =
-    tidy-is (c .before .before .before .args .self) (c .padded .result) (c .before .before .before .pre) (long (c .before .before .before)) (c .padded .ensures)
+    tidy-is (c .before .before .before .args .self) (c .padded .result) (c .before .before .before .pre)
+    (long (c .before .before .before)) (c .padded .ensures)
 
 pub tidied-spec : {M : Type 1} → statement M
-tidied-spec = tie.close (tie.spec padded-requires returns)
+tidied-spec = tie.close (tie.spec (λ c κs. search needs) returns)

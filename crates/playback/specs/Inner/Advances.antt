@@ -6,11 +6,12 @@ use Prim.Native.Nat.{ℕ, _+_, _-_, _*_, _≤_, _<_}
 use lib.Dec.{eqb}
 use lib.IntN.{ℤ}
 use lib.ListN.{length, getD, take, drop}
+use Rattle.text.specs.Letters.{newline}
 use Rattle.text.specs.Parts.{count}
 use Rattle.text.specs.Writing.{Wrote}
 use Rattle.records.specs.Lines.{recordOf}
 use Rattle.playback.specs.Replays.{outputLine}
-use Rattle.playback.specs.Places.{Place, raised, replyBytes, givenBy, goesOn, lineEnds, ended, fedOf, bytesOf, placeOf}
+use Rattle.playback.specs.Places.{Place, countedUp, replyBytes, givenBy, goesOn, lineEnds, ended, fedOf, bytesOf, placeOf}
 use Rattle.records.specs.declared.parse.Record.the-variants.{Sample}
 use Rattle.playback.specs.declared.samples.Found.{Found}
 use Rattle.playback.specs.declared.samples.Found.the-variants as Found
@@ -21,8 +22,8 @@ use Rattle.playback.specs.declared.driver.Replay.{Replay}
 -- At a place of l stands a whole line that is the sample x, and the next line starts at `next`.
 pub record SampleLine (l : List ℕ) (at : ℕ) (x : ℤ) (next : ℕ) : Type 0 where
   pub line : List ℕ
-  pub here : drop at l ≡ line ++ (10 ∷ drop next l)
-  pub plain : count 10 line ≡ 0
+  pub here : drop at l ≡ line ++ (newline ∷ drop next l)
+  pub plain : count newline line ≡ 0
   pub short : length line ≤ 64
   pub reads : recordOf line ≡ Sample x
   pub far : at + 4 ≤ next
@@ -35,8 +36,8 @@ finds l at Found.Other = Unit
 -- bs begins with whole lines that are the samples xs, and goes on with rest.
 pub data Sampled : List ℕ → List ℤ → List ℕ → Type 0 where
   none : {bs : List ℕ} → Sampled bs [] bs
-  more : (line : List ℕ) {bs rest : List ℕ} {x : ℤ} {xs : List ℤ} → count 10 line ≡ 0 → length line ≤ 64 → recordOf line ≡ Sample x
-      → Sampled bs xs rest → Sampled (line ++ (10 ∷ bs)) (x ∷ xs) rest
+  more : (line : List ℕ) {bs rest : List ℕ} {x : ℤ} {xs : List ℤ} → count newline line ≡ 0 → length line ≤ 64 → recordOf line ≡ Sample x
+      → Sampled bs xs rest → Sampled (line ++ (newline ∷ bs)) (x ∷ xs) rest
 
 -- The lines of l from one place to the next are the first n samples.
 pub record Gathers (l : List ℕ) (from : ℕ) (samples : List ℤ) (n next : ℕ) : Type 0 where
@@ -46,25 +47,25 @@ pub record Gathers (l : List ℕ) (from : ℕ) (samples : List ℤ) (n next : �
   pub lines : Sampled (drop from l) (take n samples) (drop next l)
 
 -- the output lines of a block: a mark is 1 once the unsettled count found before it is used up
-unfoldable pub marked : ℕ → List ℤ → List ℕ
-marked unsettled [] = []
-marked unsettled (y ∷ ys) = outputLine y (eqb unsettled 0) ++ marked (unsettled - 1) ys
+unfoldable pub outputLines : ℕ → List ℤ → List ℕ
+outputLines unsettled [] = []
+outputLines unsettled (y ∷ ys) = outputLine y (eqb unsettled 0) ++ outputLines (unsettled - 1) ys
 
 -- a place after a block of `x` lines: its filter, and so many lines and outputs more
-abbrev pub blocked : Place → Cic → ℕ → ℕ → Place
-blocked p filter lines outputs = record {
+abbrev pub afterBlock : Place → Cic → ℕ → ℕ → Place
+afterBlock p filter lines outputs = record {
   session = record { opened = true; filter = filter };
-  lines = raised (p .lines) lines;
-  outputs = raised (p .outputs) outputs;
+  lines = countedUp (p .lines) lines;
+  outputs = countedUp (p .outputs) outputs;
   line = p .line;
   going = p .going;
 }
 
 -- The bytes of the input from one place to i, none of them a newline, were put behind the line so far, which is now l.
 -- The next byte, if there is one, ends the line.
-pub record Fills (before input : List ℕ) (from : ℕ) (l : List ℕ) (n i : ℕ) : Type 0 where
+pub record Collects (before input : List ℕ) (from : ℕ) (l : List ℕ) (n i : ℕ) : Type 0 where
   pub taken : List ℕ
-  pub plain : count 10 taken ≡ 0
+  pub plain : count newline taken ≡ 0
   pub here : drop from input ≡ taken ++ drop i input
   pub line : l ≡ before ++ taken
   pub size : length l ≡ n
@@ -74,7 +75,7 @@ pub record Fills (before input : List ℕ) (from : ℕ) (l : List ℕ) (n i : �
   pub ends : i < length input → lineEnds l (getD input i 0) ≡ true
 
 -- From place p with bs to come, the replay came to place q with cs to come, and what it gave out was put into o.
-pub record Runs (p : Place) (bs o : List ℕ) (at : ℕ) (q : Place) (cs : List ℕ) (r : ℕ) (o' : List ℕ) : Type 0 where
+pub record Reaches (p : Place) (bs o : List ℕ) (at : ℕ) (q : Place) (cs : List ℕ) (r : ℕ) (o' : List ℕ) : Type 0 where
   pub place : fedOf p bs ≡ fedOf q cs
   pub text : List ℕ
   pub bytes : bytesOf p bs ≡ text ++ bytesOf q cs
@@ -86,7 +87,7 @@ pub record Answers (r : Replay) (t : Taken) (o : List ℕ) (at : ℕ) (a : Repla
   pub none : a .len ≡ 0
   pub most : w ≤ at + 36
   pub few : goesOn (t .reply) ≡ true → w ≤ at + 16 * givenBy (t .reply)
-  pub wrote : Wrote o at (replyBytes (raised (r .lines) 1) (t .reply)) w o'
+  pub wrote : Wrote o at (replyBytes (countedUp (r .lines) 1) (t .reply)) w o'
 
 -- There is room for whatever bs may give out.
 pub record Room (p : Place) (bs o : List ℕ) (at : ℕ) : Type 0 where
@@ -94,8 +95,8 @@ pub record Room (p : Place) (bs o : List ℕ) (at : ℕ) : Type 0 where
   pub fits : p .going ≡ true → at + 4 * (length (p .line) + length bs) + 36 ≤ length o
 
 -- A turn of the driver: from r, the input from `from` on and the output at a place to t, `next` and r'.
-pub record Turns (r : Replay) (input : List ℕ) (from : ℕ) (o : List ℕ) (at : ℕ) (t : Replay) (next w : ℕ) (o' : List ℕ) : Type 0 where
-  pub runs : Runs (placeOf r) (drop from input) o at (placeOf t) (drop next input) w o'
+pub record Advances (r : Replay) (input : List ℕ) (from : ℕ) (o : List ℕ) (at : ℕ) (t : Replay) (next w : ℕ) (o' : List ℕ) : Type 0 where
+  pub runs : Reaches (placeOf r) (drop from input) o at (placeOf t) (drop next input) w o'
   pub room : Room (placeOf t) (drop next input) o' w
   pub low : from ≤ next
   pub high : next ≤ length input

@@ -1,10 +1,11 @@
+-- The bytes so far stand behind the line (Turning).
 use Prim.Native.Nat.{_-_}
 use native.Mathlib.Omega.{arith}
 use lib.ListN.{length}
 use borrow.Author.Needs.{needs}
 use Rattle.playback.proofs.Turning.{Filling, filling-start, filling-on, filled-newline, filled-full, filled-over}
-use Rattle.playback.proofs.turns.fill.Statement.{statement}
-use Rattle.playback.proofs.turns.fill.Tie as tie
+use Rattle.playback.proofs.turns.collect.Statement.{statement}
+use Rattle.playback.proofs.turns.collect.Tie as tie
 
 abbrev Inv-loop : tie.InvT-loop
 Inv-loop line₀ len input from n₀ i₀ line n i = Filling line₀ input len from line n i
@@ -15,54 +16,43 @@ abbrev μ-loop : tie.MeasureT-loop
 loop-holds : tie.Need-loop-holds Inv-loop μ-loop
 loop-holds c = let a = c .args in filling-start (a .line .now) (a .input .now) (a .len) (a .from) (c .pre .0) (c .pre .1) (c .pre .2)
 
-shared-slice-read-b : tie.Need-shared-slice-read-b Inv-loop μ-loop
-shared-slice-read-b c = search needs
-
 returns : tie.Need-returns Inv-loop μ-loop
 returns c =
-    let a = c .before .before .before .before .args in let l = c .before .before .before .loop in
+    let begin : tie.Start Inv-loop μ-loop = search in
+    let a = begin .args in let l = c .before .before .before .loop in
     filled-newline (a .line .now) (a .input .now) (a .len) (a .from) (l .line) (l .n) (l .i) (c .if1 .taken) (l .inv)
 
 returns-2 : tie.Need-returns-2 Inv-loop μ-loop
 returns-2 c =
-    let a = c .before .before .before .before .before .args in let l = c .before .before .before .before .loop in
+    let turn : tie.At-loop Inv-loop μ-loop = search in
+    let begin : tie.Start Inv-loop μ-loop = search in
+    let a = begin .args in let l = turn .loop in
     filled-full (a .line .now) (a .input .now) (a .len) (a .from) (l .line) (l .n) (l .i) (c .before .if1 .left) (c .if2 .taken) (l .inv)
 
 element-write-line : tie.Need-element-write-line Inv-loop μ-loop
-element-write-line c = let l = c .before .before .before .before .loop in omega (arith, l .inv .small, l .inv .same-length)
+element-write-line c =
+    let turn : tie.At-loop Inv-loop μ-loop = search in
+    let l = turn .loop in omega (arith, l .inv .small, l .inv .same-length)
 
 add-n : tie.Need-add-n Inv-loop μ-loop
-add-n c = omega (arith, c .before .before .before .before .loop .inv .small)
-
-add-i : tie.Need-add-i Inv-loop μ-loop
-add-i c = search needs
-
-loop-less : tie.Need-loop-less Inv-loop μ-loop
-loop-less c = search needs
+add-n c =
+    let turn : tie.At-loop Inv-loop μ-loop = search in
+    omega (arith, turn .loop .inv .small)
 
 loop-again : tie.Need-loop-again Inv-loop μ-loop
 loop-again c =
-    let a = c .before .before .before .before .before .args in let l = c .before .before .before .before .loop in
-    filling-on (a .line .now) (a .input .now) (a .len) (a .from) (l .line) (l .n) (l .i) (c .before .before .before .loop-test .taken) (c .before .if1 .left) (c .if2 .left) (l .inv)
+    let turn : tie.At-loop Inv-loop μ-loop = search in
+    let begin : tie.Start Inv-loop μ-loop = search in
+    let a = begin .args in let l = turn .loop in
+    filling-on (a .line .now) (a .input .now) (a .len) (a .from) (l .line) (l .n) (l .i)
+    (c .before .before .before .loop-test .taken) (c .before .if1 .left) (c .if2 .left) (l .inv)
 
 returns-3 : tie.Need-returns-3 Inv-loop μ-loop
 returns-3 c =
     let a = c .before .before .args in let l = c .before .loop in
     filled-over (a .line .now) (a .input .now) (a .len) (a .from) (l .line) (l .n) (l .i) (c .loop-test .left) (l .inv)
 
-pub fill-spec : {M : Type 1} → statement M
-fill-spec =
-    tie.close
-    (tie.spec
-    Inv-loop
-    μ-loop
-    loop-holds
-    shared-slice-read-b
-    returns
-    returns-2
-    element-write-line
-    add-n
-    add-i
-    loop-less
-    loop-again
-    returns-3)
+pub collect-spec : {M : Type 1} → statement M
+collect-spec =
+    tie.close (tie.spec Inv-loop μ-loop loop-holds (λ c. search needs) returns returns-2 element-write-line add-n
+    (λ c. search needs) (λ c. search needs) loop-again returns-3)

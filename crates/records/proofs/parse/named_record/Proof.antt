@@ -1,0 +1,38 @@
+-- By the name: its count of fields is what the arm's function asks, and the arm's record is its own.
+use mathlib.Core.Path.{sym, ap, _∙_}
+use lib.ListN.{drop}
+use borrow.Author.Needs.{needs}
+use Rattle.text.specs.Letters.{tab}
+use Rattle.text.specs.Parts.{behind}
+use Rattle.records.specs.Lines.{wantedOf, namedRecord}
+use Rattle.records.specs.declared.parse.Name.{Name}
+use Rattle.records.specs.declared.parse.Record.{Record}
+use Rattle.records.proofs.parse.named_record.Statement.{statement}
+use Rattle.records.proofs.parse.named_record.Tie as tie
+
+abbrev of : tie.Start → Name → Record
+of c n = namedRecord n (behind tab (drop (c .args .e) (c .args .line .now)))
+
+cic-record-requires : tie.Need-cic-record-requires
+cic-record-requires c κs = let begin : tie.Start = search in begin .pre ∙ ap wantedOf (c .enum-told .given .1)
+
+rate-record-requires : tie.Need-rate-record-requires
+rate-record-requires c κs = let begin : tie.Start = search in begin .pre ∙ ap wantedOf (c .enum-told2 .given .1)
+
+sample-record-requires : tie.Need-sample-record-requires
+sample-record-requires c κs = let begin : tie.Start = search in begin .pre ∙ ap wantedOf (c .enum-told3 .given .1)
+
+returns : tie.Need-returns
+returns c = let begin : tie.Start = search in c .cic-record .ensures ∙ ap (of begin) (sym (c .before .enum-told .given .1))
+
+returns-2 : tie.Need-returns-2
+returns-2 c = let begin : tie.Start = search in c .rate-record .ensures ∙ ap (of begin) (sym (c .before .enum-told2 .given .1))
+
+returns-3 : tie.Need-returns-3
+returns-3 c = let begin : tie.Start = search in c .sample-record .ensures ∙ ap (of begin) (sym (c .before .enum-told3 .given .1))
+
+pub named-record-spec : {M : Type 1} → statement M
+named-record-spec =
+    tie.close (tie.spec (λ c. search needs) cic-record-requires (λ c. search needs) rate-record-requires (λ c. search needs)
+    sample-record-requires (λ c. search needs) (λ c. search needs) returns returns-2 returns-3 (λ c. search needs)
+    (λ c. search needs))

@@ -1,0 +1,2 @@
+-- What private functions promise one another: no caller cites it.
+pub mod Fields

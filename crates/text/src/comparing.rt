@@ -1,0 +1,20 @@
+// Bytes compared.
+ghost use mathlib.Core.Path.{_≡_};
+ghost use Rattle.text.specs.Same.{same};
+
+// Whether two slices hold the same bytes.
+pub fn same_bytes(a: &[u8], b: &[u8]) -> bool
+    ensures { λ r. ⌜ r ≡ same (now (a .entry)) (now (b .entry)) ⌝ }
+{
+    if a.len() != b.len() {
+        return false;
+    }
+    let mut i: usize = 0;
+    while i < a.len() {
+        if a[i] != b[i] {
+            return false;
+        }
+        i += 1;
+    }
+    true
+}
