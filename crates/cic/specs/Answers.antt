@@ -13,6 +13,7 @@ use Rattle.cic.specs.declared.state.Cic.{Cic}
 use Rattle.cic.specs.declared.state.Made.{Made}
 use Rattle.cic.specs.declared.questions.Interpolated.{Interpolated}
 use Rattle.cic.specs.declared.questions.Interpolated.the-variants as Interpolated
+use Rattle.cic.specs.declared.steps.Output as answer
 use Rattle.cic.specs.declared.steps.Out.{Out}
 use Rattle.cic.specs.declared.steps.Out.the-variants as Out
 use Rattle.cic.specs.declared.steps.Sample.{Sample}
@@ -34,8 +35,11 @@ interpolatedOf zero y = Interpolated.Value y
 interpolatedOf (suc k) y = Interpolated.Refused (suc k)
 
 -- The decimator's step: one output with its mark, or nothing at all.
+abbrev pub answerOutput : Output ℤ → answer.Output
+answerOutput y = record { value = y .value; settled = y .settled }
+
 unfoldable pub outOf : ℕ → Option (Output ℤ) → Out
-outOf zero (some y) = Out.Given (record { value = y .value; settled = y .settled })
+outOf zero (some y) = Out.Given (answerOutput y)
 outOf zero none = Out.Nothing
 outOf (suc k) y = Out.Refused (suc k)
 

@@ -11,10 +11,12 @@ use Rattle.blocks.specs.declared.Verdict.{Verdict}
 use Rattle.sums.specs.Machine.{Output}
 use Rattle.sums.specs.State.{State, refusal}
 use Rattle.sums.specs.Calls.{stepState, stepGiven}
-use Rattle.cic.specs.Reading.{i32Ops, stateOf, cicOf}
-use Rattle.cic.specs.Answers.{outOf, steppedOf, madeOf}
+use Rattle.cic.specs.Word.{wordOps}
+use Rattle.cic.specs.Reading.{stateOf, cicOf}
+use Rattle.cic.specs.Answers.{answerOutput, outOf, steppedOf, madeOf}
 use Rattle.cic.specs.declared.state.Cic.{Cic}
 use Rattle.cic.specs.declared.state.Made.{Made}
+use Rattle.cic.specs.declared.steps.Output as answer
 use Rattle.cic.specs.declared.steps.Out.{Out}
 use Rattle.cic.specs.declared.steps.Out.the-variants as Out
 use Rattle.cic.specs.declared.steps.Stepped.{Stepped}
@@ -33,12 +35,12 @@ ordered-is s number t m r e w = w ∙ ap (λ (x : Made). toldBy s (x .state) (x 
 pub told-as : (s : Session) (f : Cic) (v w : Verdict) (r : Taken) → v ≡ w → r ≡ toldBy s f w → r ≡ toldBy s f v
 told-as s f v w r e h = h ∙ ap (toldBy s f) (sym e)
 
-sampled-given : (s : Session) (t : State ℤ) (y : ℤ) (b : Bool) (number : ℕ) (g : Option (Output ℤ)) → outOf number g ≡ Out.Given y b
-    → kept (cicOf t) (Reply.Output y b) ≡ sampled s number t g
+sampled-given : (s : Session) (t : State ℤ) (y : answer.Output) (number : ℕ) (g : Option (Output ℤ)) → outOf number g ≡ Out.Given y
+    → kept (cicOf t) (Reply.Output y) ≡ sampled s number t g
 unfolding outOf
-sampled-given s t y b zero (some o) e = let p : o .value ≡ y = cc in let q : o .settled ≡ b = cc in rw (p, q)
-sampled-given s t y b zero none e = cc
-sampled-given s t y b (suc k) g e = cc
+sampled-given s t y zero (some o) e = let p : answerOutput o ≡ y = cc in ap (λ (z : answer.Output). kept (cicOf t) (Reply.Output z)) (sym p)
+sampled-given s t y zero none e = cc
+sampled-given s t y (suc k) g e = cc
 
 sampled-none : (s : Session) (t : State ℤ) (number : ℕ) (g : Option (Output ℤ)) → outOf number g ≡ Out.Nothing
     → kept (cicOf t) Reply.Silent ≡ sampled s number t g
@@ -57,16 +59,16 @@ sampled-refused s t k (suc n) g e = let p : suc n ≡ k = cc in ap (refuse s) (s
 -- a step of the filter, by what it answered
 module _ (s : Session) (x : ℤ) (d : Stepped) (e : d ≡ steppedOf (s .filter) x) where
   abbrev of-step : Taken
-  of-step = sampled s (refusal (stateOf (s .filter))) (stepState i32Ops (stateOf (s .filter)) x) (stepGiven i32Ops (stateOf (s .filter)) x)
+  of-step = sampled s (refusal (stateOf (s .filter))) (stepState wordOps (stateOf (s .filter)) x) (stepGiven wordOps (stateOf (s .filter)) x)
 
-  out-is : (o : Out) → d .out ≡ o → outOf (refusal (stateOf (s .filter))) (stepGiven i32Ops (stateOf (s .filter)) x) ≡ o
+  out-is : (o : Out) → d .out ≡ o → outOf (refusal (stateOf (s .filter))) (stepGiven wordOps (stateOf (s .filter)) x) ≡ o
   out-is o h = sym (ap (λ (r : Stepped). r .out) e) ∙ h
 
-  state-is : (reply : Reply) → kept (d .state) reply ≡ kept (cicOf (stepState i32Ops (stateOf (s .filter)) x)) reply
+  state-is : (reply : Reply) → kept (d .state) reply ≡ kept (cicOf (stepState wordOps (stateOf (s .filter)) x)) reply
   state-is reply = ap (λ (r : Stepped). kept (r .state) reply) e
 
-  pub step-given : (y : ℤ) (b : Bool) → d .out ≡ Out.Given y b → kept (d .state) (Reply.Output y b) ≡ of-step
-  step-given y b h = state-is (Reply.Output y b) ∙ sampled-given s _ y b _ _ (out-is (Out.Given y b) h)
+  pub step-given : (y : answer.Output) → d .out ≡ Out.Given y → kept (d .state) (Reply.Output y) ≡ of-step
+  step-given y h = state-is (Reply.Output y) ∙ sampled-given s _ y _ _ (out-is (Out.Given y) h)
 
   pub step-none : d .out ≡ Out.Nothing → kept (d .state) Reply.Silent ≡ of-step
   step-none h = state-is Reply.Silent ∙ sampled-none s _ _ _ (out-is Out.Nothing h)

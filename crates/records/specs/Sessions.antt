@@ -12,7 +12,9 @@ use Rattle.sums.specs.Calls.{newNumber, newState, rateNumber, rateState, clearS
 use Rattle.blocks.specs.Verdicts.{verdictOf}
 use Rattle.blocks.specs.declared.Verdict.{Verdict}
 use Rattle.blocks.specs.declared.Verdict.the-variants as Verdict
-use Rattle.cic.specs.Reading.{i32Ops, stateOf, cicOf}
+use Rattle.cic.specs.Word.{wordOps}
+use Rattle.cic.specs.Reading.{stateOf, cicOf}
+use Rattle.cic.specs.Answers.{answerOutput}
 use Rattle.cic.specs.declared.state.Cic.{Cic}
 use Rattle.records.specs.Lines.{recordOf}
 use Rattle.records.specs.declared.parse.Record.{Record}
@@ -41,7 +43,7 @@ ordered s number t = toldBy s (cicOf t) (verdictOf number)
 
 -- a step: its number, its state, and one output with its mark or nothing at all
 abbrev pub replied : Option (Output ℤ) → Reply
-replied (some y) = Reply.Output (y .value) (y .settled)
+replied (some y) = Reply.Output (answerOutput y)
 replied none = Reply.Silent
 
 abbrev pub sampled : Session → ℕ → State ℤ → Option (Output ℤ) → Taken
@@ -53,16 +55,16 @@ abbrev pub filterOf : Session → State ℤ
 filterOf s = stateOf (s .filter)
 
 abbrev pub making : Session → ℕ → ℕ → ℕ → Taken
-making s n m rate = ordered s (newNumber n m rate) (newState i32Ops n m rate)
+making s n m rate = ordered s (newNumber n m rate) (newState wordOps n m rate)
 
 abbrev pub rating : Session → ℕ → Taken
-rating s rate = ordered s (rateNumber (filterOf s) rate) (rateState i32Ops (filterOf s) rate)
+rating s rate = ordered s (rateNumber (filterOf s) rate) (rateState wordOps (filterOf s) rate)
 
 abbrev pub clearing : Session → Taken
-clearing s = ordered s (refusal (filterOf s)) (clearState i32Ops (filterOf s))
+clearing s = ordered s (refusal (filterOf s)) (clearState wordOps (filterOf s))
 
 abbrev pub stepping : Session → ℤ → Taken
-stepping s v = sampled s (refusal (filterOf s)) (stepState i32Ops (filterOf s) v) (stepGiven i32Ops (filterOf s) v)
+stepping s v = sampled s (refusal (filterOf s)) (stepState wordOps (filterOf s) v) (stepGiven wordOps (filterOf s) v)
 
 -- 70: malformed line; 71: no `cic` line yet, or a second one; then the filter's own numbers
 unfoldable pub takeOf : Session → Record → Taken

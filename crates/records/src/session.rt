@@ -4,6 +4,7 @@ use crate::parse::parse;
 use blocks::Verdict;
 use cic::state::Cic;
 use cic::steps::Out;
+use cic::steps::Output;
 ghost use mathlib.Core.Path.{_≡_};
 ghost use Rattle.records.specs.Sessions.{refuse, kept, toldBy, making, rating, clearing, stepping, takeOf, lineOf};
 
@@ -16,7 +17,7 @@ pub struct Session {
 // What a line is answered: nothing, an output and whether it is settled, or the number of its refusal.
 pub enum Reply {
     Silent,
-    Output(i32, bool),
+    Output(Output),
     Bad(u32),
 }
 
@@ -92,7 +93,7 @@ fn take_sample(s: Session, x: i32) -> Taken
     let g = t.state;
     let out = t.out;
     match out {
-        Out::Given(y, settled) => with_filter(g, Reply::Output(y, settled)),
+        Out::Given(y) => with_filter(g, Reply::Output(y)),
         Out::Nothing => with_filter(g, Reply::Silent),
         Out::Refused(number) => refused(s, number),
     }
