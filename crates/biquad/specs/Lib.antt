@@ -1,3 +1,5 @@
+-- What a reader must believe: rounded operations, coefficients, the direct forms, every call; and, for what the constants do,
+-- zeros added to a number.
 pub mod Rounded
 pub mod Coefficients
 pub mod Forms

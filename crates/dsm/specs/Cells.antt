@@ -1,4 +1,4 @@
--- For private functions alone: the step's halves on lent cells, and the block's loop; a and c are the accumulators and retained cells after.
+-- For private functions alone: the step's halves on lent cells, and the block's loop; a are the accumulators, c the retained cells after.
 use mathlib.Core.Path.{_≡_}
 use mathlib.Core.Bool.{true}
 use mathlib.Core.List.{List, [], _∷_, _++_}

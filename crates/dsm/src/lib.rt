@@ -56,8 +56,8 @@ fn overflowing_add(a: u32, x: u32) -> Sum
 {
     let sum = a as u64 + x as u64;
     Sum {
-        value: (sum % 4294967296) as u32,
-        carry: (sum / 4294967296) as u32,
+        value: (sum % 0x1_0000_0000) as u32,
+        carry: (sum / 0x1_0000_0000) as u32,
     }
 }
 

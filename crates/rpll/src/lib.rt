@@ -110,7 +110,8 @@ impl RPLL {
 }
 
 impl RPLLConfig {
-    // The number of the first refusal that concerns the configuration, 0 where there is none.
+    // The number of the first refusal that concerns the configuration, 0 where there is none: 60 where dt2 is above 30,
+    // 61 where shift_frequency is outside dt2 + 1 .. 32, 62 where shift_phase is outside dt2 .. dt2 + 31.
     fn refusal(self) -> u32
         ensures { λ r. ⌜ r ≡ configNumber self ⌝ }
     {

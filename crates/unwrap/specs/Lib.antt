@@ -1,2 +1,3 @@
+-- What a reader must believe: phase words, and the scaling.
 pub mod Phases
 pub mod Scales

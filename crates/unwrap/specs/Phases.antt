@@ -48,11 +48,18 @@ unwrappedOf u x = record { state = grown u x; dx = stepOf u x }
 unfoldable pub turnsOf : ℤ → ℤ
 turnsOf y = wrap w32 (floorDiv (y -ℤ phaseOf y) (2 ^ 32))
 
+-- the least word and the greatest: - 2 ^ 31 and 2 ^ 31 - 1
+abbrev pub leastWord : ℤ
+leastWord = negsuc 2147483647
+
+abbrev pub greatestWord : ℤ
+greatestWord = pos 2147483647
+
 -- ClampWrap adds the sign to its own, keeps only the sign of the sum, and gives the least value, the input, or the greatest.
 abbrev pub clampedBy : Wrap → ℤ → ℤ
-clampedBy Negative x = negsuc 2147483647
+clampedBy Negative x = leastWord
 clampedBy None x = x
-clampedBy Positive x = pos 2147483647
+clampedBy Positive x = greatestWord
 
 abbrev pub clampAfter : ClampWrap → ℤ → Wrap
 clampAfter s x = joined (s .clamp) (differenceOf x (s .x0) .wrap)

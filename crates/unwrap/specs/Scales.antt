@@ -5,12 +5,13 @@ use lib.Dec.{ltb, eqb}
 use lib.IntN.{ℤ, pos, negsuc, negℤ, _+ℤ_, _-ℤ_, _*ℤ_}
 use lib.Signed.{leZ, ltZ}
 use Rattle.words.specs.Words.{floorDiv}
+use Rattle.unwrap.specs.Phases.{leastWord}
 use Rattle.unwrap.specs.declared.scale.Scaled.{Scaled}
 use Rattle.unwrap.specs.declared.scale.Scaled.the-variants.{Value, Refused}
 
 -- hi + floor(lo / 2 ^ 31), and the least word where that is below it
 abbrev pub extended : ℤ → ℤ → ℤ
-extended lo hi = cond (ltZ (hi +ℤ floorDiv lo (2 ^ 31)) (negsuc 2147483647)) (negsuc 2147483647) (hi +ℤ floorDiv lo (2 ^ 31))
+extended lo hi = cond (ltZ (hi +ℤ floorDiv lo (2 ^ 31)) leastWord) leastWord (hi +ℤ floorDiv lo (2 ^ 31))
 
 -- shift 1 .. 31: clipped where hi is 2 ^ (shift - 1) or more either way, else hi · 2 ^ (32 - shift) + floor(lo / 2 ^ shift)
 abbrev pub clipped : ℤ → ℤ → ℕ → ℤ

@@ -102,9 +102,6 @@ module _ (w : Width) (a b : ℤ) where
   pub wrap-sub : wrap w (wrap w a -ℤ wrap w b) ≡ wrap w (a -ℤ b)
   wrap-sub = wrap-same (same-sub (wrapped w a) (wrapped w b))
 
-  pub wrap-mul : wrap w (wrap w a *ℤ wrap w b) ≡ wrap w (a *ℤ b)
-  wrap-mul = wrap-same (same-mul (wrapped w a) (wrapped w b))
-
   pub wrap-left : wrap w (wrap w a +ℤ b) ≡ wrap w (a +ℤ b)
   wrap-left = wrap-same (same-add (wrapped w a) (equal refl))
 

@@ -23,7 +23,7 @@ pub fn i64_as_u64(x: i64) -> u64
 pub fn u32_as_i32(u: u32) -> i32
     ensures { λ r. ⌜ r ≡ wrap w32 (pos u) ⌝ }
 {
-    if u < 2147483648 {
+    if u < 0x8000_0000 {
         u as i32
     } else {
         !((!u) as i32)
@@ -34,7 +34,7 @@ pub fn u32_as_i32(u: u32) -> i32
 pub fn u64_as_i64(u: u64) -> i64
     ensures { λ r. ⌜ r ≡ wrap w64 (pos u) ⌝ }
 {
-    if u < 9223372036854775808 {
+    if u < 0x8000_0000_0000_0000 {
         u as i64
     } else {
         !((!u) as i64)
@@ -66,7 +66,7 @@ pub fn i32_as_u64(x: i32) -> u64
 pub fn u64_as_u32(u: u64) -> u32
     ensures { λ r. ⌜ r ≡ word w32 (pos u) ⌝ }
 {
-    (u % 4294967296) as u32
+    (u % 0x1_0000_0000) as u32
 }
 
 // The low word.

@@ -7,19 +7,19 @@ ghost use Rattle.words.specs.Words.{word};
 pub fn add_u32(a: u32, b: u32) -> u32
     ensures { λ r. ⌜ r ≡ word w32 (pos a +ℤ pos b) ⌝ }
 {
-    ((a as u64 + b as u64) % 4294967296) as u32
+    ((a as u64 + b as u64) % 0x1_0000_0000) as u32
 }
 
 pub fn sub_u32(a: u32, b: u32) -> u32
     ensures { λ r. ⌜ r ≡ word w32 (pos a -ℤ pos b) ⌝ }
 {
-    ((a as u64 + 4294967296 - b as u64) % 4294967296) as u32
+    ((a as u64 + 0x1_0000_0000 - b as u64) % 0x1_0000_0000) as u32
 }
 
 pub fn mul_u32(a: u32, b: u32) -> u32
     ensures { λ r. ⌜ r ≡ word w32 (pos a *ℤ pos b) ⌝ }
 {
-    ((a as u64 * b as u64) % 4294967296) as u32
+    ((a as u64 * b as u64) % 0x1_0000_0000) as u32
 }
 
 pub fn add_u64(a: u64, b: u64) -> u64
@@ -38,8 +38,8 @@ pub fn sub_u64(a: u64, b: u64) -> u64
 pub fn mul_u64(a: u64, b: u64) -> u64
     ensures { λ r. ⌜ r ≡ word w64 (pos a *ℤ pos b) ⌝ }
 {
-    let a_low = a % 4294967296;
-    let b_low = b % 4294967296;
-    let cross = add_u64(a_low * (b / 4294967296), (a / 4294967296) * b_low);
+    let a_low = a % 0x1_0000_0000;
+    let b_low = b % 0x1_0000_0000;
+    let cross = add_u64(a_low * (b / 0x1_0000_0000), (a / 0x1_0000_0000) * b_low);
     add_u64(a_low * b_low, cross << 32)
 }
