@@ -24,7 +24,7 @@ use Rattle.playback.specs.Places.{
   fedOf,
   bytesOf,
 }
-use Rattle.playback.specs.Inner.Advances.{Reaches}
+use Rattle.playback.specs.Inner.Advances.{Arrives}
 
 -- the wrote-same place with another line
 abbrev pub lined : Place → List ℕ → Place
@@ -131,11 +131,11 @@ module _ (taken : List ℕ) (b : ℕ) (cs : List ℕ) (p : Place) (l : List ℕ)
       ∙ ap (λ (x : List ℕ). x ++ bytesOf (ended p (endTaken (p .session) l b)) cs) (bytes-end (lined p l) g b k)
 
 -- turns one after the other
-pub runs-none : (p : Place) (bs o : List ℕ) (at : ℕ) → Reaches p bs o at p bs at o
+pub runs-none : (p : Place) (bs o : List ℕ) (at : ℕ) → Arrives p bs o at p bs at o
 runs-none p bs o at = record { place = refl; text = []; bytes = refl; wrote = nothing o at }
 
-pub runs-then : {p q r : Place} {bs cs ds o o₁ o₂ : List ℕ} {at w₁ w₂ : ℕ} → at ≤ length o → Reaches p bs o at q cs w₁ o₁
-    → Reaches q cs o₁ w₁ r ds w₂ o₂ → Reaches p bs o at r ds w₂ o₂
+pub runs-then : {p q r : Place} {bs cs ds o o₁ o₂ : List ℕ} {at w₁ w₂ : ℕ} → at ≤ length o → Arrives p bs o at q cs w₁ o₁
+    → Arrives q cs o₁ w₁ r ds w₂ o₂ → Arrives p bs o at r ds w₂ o₂
 runs-then {p} {q} {r} {bs} {cs} {ds} h x y = record {
   place = x .place ∙ y .place;
   text = x .text ++ y .text;
@@ -144,7 +144,7 @@ runs-then {p} {q} {r} {bs} {cs} {ds} h x y = record {
 }
 
 -- a stopped replay leaves the rest
-pub runs-stopped : (p : Place) (bs o : List ℕ) (at : ℕ) → p .going ≡ false → Reaches p bs o at p [] at o
+pub runs-stopped : (p : Place) (bs o : List ℕ) (at : ℕ) → p .going ≡ false → Arrives p bs o at p [] at o
 runs-stopped p bs o at h = record {
   place = stopped-place p h bs ∙ sym (stopped-place p h []);
   text = [];
@@ -153,7 +153,7 @@ runs-stopped p bs o at h = record {
 }
 
 -- at the end of the input nothing is left
-pub runs-end : (p : Place) (bs o : List ℕ) (at : ℕ) (q : Place) (w : ℕ) (o' : List ℕ) → Reaches p bs o at q [] w o'
+pub runs-end : (p : Place) (bs o : List ℕ) (at : ℕ) (q : Place) (w : ℕ) (o' : List ℕ) → Arrives p bs o at q [] w o'
     → (fedOf p bs ≡ q) × Wrote o at (bytesOf p bs) w o'
 unfolding fedOf bytesOf
 runs-end p bs o at q w o' r = (r .place, wrote-same (sym (r .bytes ∙ append-nil (r .text))) (r .wrote))

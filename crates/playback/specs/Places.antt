@@ -130,8 +130,8 @@ fed r input out = record {
   wrote = written (feedNumber input out) (bytesOf (placeOf r) input);
 }
 
-abbrev pub Feeds : Replay → List ℕ → List ℕ → Fed → List ℕ → Type 0
-Feeds r input out f left =
+abbrev pub PartFed : Replay → List ℕ → List ℕ → Fed → List ℕ → Type 0
+PartFed r input out f left =
     (f ≡ fed r input out) × (left ≡ frontWritten (feedNumber input out) (bytesOf (placeOf r) input) out)
 
 -- An input in parts: what they give out one after the other, and then the end.

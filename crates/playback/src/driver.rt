@@ -15,7 +15,7 @@ ghost use lib.Dec.{ltb};
 ghost use lib.ListN.{length, take, replicate};
 ghost use Rattle.text.specs.Writing.{Wrote};
 ghost use Rattle.playback.specs.Replays.{replay};
-ghost use Rattle.playback.specs.Places.{start, placeOf, replayOf, finishBytes, answerNumber, feedNumber, Writes, Feeds};
+ghost use Rattle.playback.specs.Places.{start, placeOf, replayOf, finishBytes, answerNumber, feedNumber, Writes, PartFed};
 
 // What a replay keeps from one part of its input to the next: its filter, the lines and outputs so far, the first len
 // bytes of `line` that came of the next line, and whether no refusal has stopped it.
@@ -99,7 +99,7 @@ impl Replay {
     // out stays. Refused with 20 where out is shorter than 4 bytes for each of the part's and 292 more; a refused part
     // changes nothing.
     pub fn feed(self, input: &[u8], out: &mut [u8]) -> Fed
-        ensures { λ r. ⌜ Feeds self (now (input .entry)) (now (out .entry)) r (now (out .exit)) ⌝ }
+        ensures { λ r. ⌜ PartFed self (now (input .entry)) (now (out .entry)) r (now (out .exit)) ⌝ }
     {
         if short_of(out.len(), input.len()) {
             let none = Written {

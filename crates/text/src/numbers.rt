@@ -3,6 +3,11 @@ ghost use mathlib.Core.Path.{_≡_};
 ghost use Prim.Native.Nat.{_+_, _*_, _≤_, min};
 ghost use Rattle.text.specs.Numbers.{cap, capped, digitsFrom, turned, leadingOf, numberOf};
 
+// The digits' bytes.
+const ZERO: u64 = b'0' as u64;
+
+const NINE: u64 = b'9' as u64;
+
 // A number's sign and size, where a size above 2^63 is given as 2^63 + 1; or bytes that are no number.
 pub enum Number {
     Plus(u64),
@@ -35,14 +40,14 @@ fn digits(s: &[u8]) -> Number
     let mut v: u64 = 0;
     let mut i: usize = 0;
     while i < s.len() {
-        let b = s[i];
-        if b < b'0' {
+        let b = wide(s[i]);
+        if b < ZERO {
             return Number::Wrong;
         }
-        if b'9' < b {
+        if NINE < b {
             return Number::Wrong;
         }
-        v = grown(v, wide(b - b'0'));
+        v = grown(v, b - ZERO);
         i += 1;
     }
     Number::Plus(v)

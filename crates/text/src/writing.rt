@@ -9,6 +9,9 @@ ghost use lib.ListN.{length};
 ghost use Rattle.text.specs.Numbers.{decimalOf, signedOf};
 ghost use Rattle.text.specs.Writing.{Puts};
 
+// The byte of the digit 0.
+const ZERO: u64 = b'0' as u64;
+
 // Whether n bytes fit at a place of a buffer of len.
 fn has_room(len: usize, at: usize, n: usize) -> bool
     ensures { λ r. ⌜ r ≡ leb (at + n) len ⌝ }
@@ -74,7 +77,7 @@ pub fn put_decimal(out: &mut [u8], at: usize, n: u64) -> usize
     let mut i = end;
     while at < i {
         i -= 1;
-        out[i] = b'0' + (left % 10) as u8;
+        out[i] = (ZERO + left % 10) as u8;
         left = left / 10;
     }
     end

@@ -75,7 +75,7 @@ pub record Collects (before input : List ℕ) (from : ℕ) (l : List ℕ) (n i :
   pub ends : i < length input → lineEnds l (getD input i 0) ≡ true
 
 -- From place p with bs to come, the replay came to place q with cs to come, and what it gave out was put into o.
-pub record Reaches (p : Place) (bs o : List ℕ) (at : ℕ) (q : Place) (cs : List ℕ) (r : ℕ) (o' : List ℕ) : Type 0 where
+pub record Arrives (p : Place) (bs o : List ℕ) (at : ℕ) (q : Place) (cs : List ℕ) (r : ℕ) (o' : List ℕ) : Type 0 where
   pub place : fedOf p bs ≡ fedOf q cs
   pub text : List ℕ
   pub bytes : bytesOf p bs ≡ text ++ bytesOf q cs
@@ -96,7 +96,7 @@ pub record Room (p : Place) (bs o : List ℕ) (at : ℕ) : Type 0 where
 
 -- A turn of the driver: from r, the input from `from` on and the output at a place to t, `next` and r'.
 pub record Advances (r : Replay) (input : List ℕ) (from : ℕ) (o : List ℕ) (at : ℕ) (t : Replay) (next w : ℕ) (o' : List ℕ) : Type 0 where
-  pub runs : Reaches (placeOf r) (drop from input) o at (placeOf t) (drop next input) w o'
+  pub runs : Arrives (placeOf r) (drop from input) o at (placeOf t) (drop next input) w o'
   pub room : Room (placeOf t) (drop next input) o' w
   pub low : from ≤ next
   pub high : next ≤ length input

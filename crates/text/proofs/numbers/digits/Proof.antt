@@ -24,14 +24,16 @@ returns c =
     let turn : tie.At-loop Inv-loop μ-loop = search in
     let begin : tie.Start Inv-loop μ-loop = search in
     let l = turn .loop in
-    sym (l .inv .2 ∙ ap capped (below (begin .args .s .now) (l .i) (l .v) (omega arith) (c .if1 .taken)))
+    sym (l .inv .2 ∙ ap capped (below (begin .args .s .now) (l .i) (l .v) (omega arith)
+    (omega (arith, c .before .wide .ensures))))
 
 returns-2 : tie.Need-returns-2 Inv-loop μ-loop
 returns-2 c =
     let turn : tie.At-loop Inv-loop μ-loop = search in
     let begin : tie.Start Inv-loop μ-loop = search in
     let l = turn .loop in
-    sym (l .inv .2 ∙ ap capped (above (begin .args .s .now) (l .i) (l .v) (omega arith) (c .if2 .taken)))
+    sym (l .inv .2 ∙ ap capped (above (begin .args .s .now) (l .i) (l .v) (omega arith)
+    (omega (arith, c .before .before .wide .ensures))))
 
 loop-again : tie.Need-loop-again Inv-loop μ-loop
 loop-again c =
@@ -39,11 +41,13 @@ loop-again c =
     let begin : tie.Start Inv-loop μ-loop = search in
     let l = turn .loop in
     let s = begin .args .s .now in
+    let w = c .before .before .before .wide in
     let more = l .v * 10 + (getD s (l .i) 0 - 48) in
-    let e : c .grown .result ≡ min more cap = omega (arith, c .before .wide .ensures, c .grown .ensures) in (
+    let e : c .grown .result ≡ min more cap = omega (arith, w .ensures, c .grown .ensures) in (
       omega arith,
       omega (arith, c .grown .ensures),
-      l .inv .2 ∙ ap capped (digit s (l .i) (l .v) (omega arith) (omega arith) (omega arith)) ∙ cuts (drop (l .i + 1) s) more
+      l .inv .2 ∙ ap capped (digit s (l .i) (l .v) (omega arith) (omega (arith, w .ensures)) (omega (arith, w .ensures)))
+          ∙ cuts (drop (l .i + 1) s) more
           ∙ ap (λ (k : ℕ). capped (digitsFrom k (drop (l .i + 1) s))) (sym e),
     )
 
@@ -56,5 +60,5 @@ returns-3 c =
 
 pub digits-spec : {M : Type 1} → statement M
 digits-spec =
-    tie.close (tie.spec Inv-loop μ-loop loop-holds (λ c. search needs) returns returns-2 (λ c κs. search needs)
+    tie.close (tie.spec Inv-loop μ-loop loop-holds (λ c. search needs) (λ c κs. search needs) returns returns-2
     (λ c κs. search needs) (λ c. search needs) (λ c. search needs) loop-again returns-3)
