@@ -11,10 +11,10 @@ fn after_the_plug(filter: Cic, input: &[i32], out: &mut [i32]) -> usize {
     let ready = again.state;
     let r = ready.decimate_block(input, out);
     let wrote = r.wrote;
-    let Wrote::Outputs(written, unsettled) = wrote else {
+    let Wrote::Outputs(written) = wrote else {
         return 0;
     };
-    settled_part(out, written, unsettled).len()
+    settled_part(out, written.count, written.unsettled).len()
 }
 
 fn main() {

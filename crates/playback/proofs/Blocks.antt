@@ -14,16 +14,20 @@ use Rattle.text.specs.Writing.{Wrote}
 use Rattle.text.proofs.Putting.{wrote-same}
 use Rattle.sums.specs.Machine.{Output}
 use Rattle.sums.specs.State.{State, refusal}
-use Rattle.sums.specs.Calls.{unless, stepState, stepGiven}
+use Rattle.blocks.specs.Blocks.{unless}
+use Rattle.sums.specs.Calls.{stepState, stepGiven}
 use Rattle.sums.specs.Runs.{needed, blockNumber, blockState, blockOut, join, values, outputs, after}
 use Rattle.sums.proofs.Steps.{Fit, fitted}
 use Rattle.sums.proofs.Counts.{outputs-length}
 use Rattle.sums.proofs.Blocks.{values-length}
-use Rattle.cic.specs.Reading.{i32Ops, stateOf, cicOf}
-use Rattle.cic.specs.Answers.{wroteOf, decimatedOf}
+use Rattle.cic.specs.Word.{wordOps}
+use Rattle.cic.specs.Reading.{stateOf, cicOf}
+use Rattle.shape.specs.Answers.{wroteOf}
+use Rattle.cic.specs.Answers.{decimatedOf}
 use Rattle.cic.specs.declared.state.Cic.{Cic}
 use Rattle.cic.specs.declared.runs.Decimated.{Decimated}
-use Rattle.cic.specs.declared.runs.Wrote.the-variants as Wrote
+use Rattle.shape.specs.declared.runs.Written.{Written}
+use Rattle.shape.specs.declared.runs.Wrote.the-variants as Wrote
 use Rattle.playback.specs.Places.{Place, countedUp, fedOf, bytesOf, placeOf}
 use Rattle.playback.specs.Inner.Advances.{Gathers, outputLines, Room, Advances, afterBlock}
 use Rattle.records.specs.declared.session.Session.{Session}
@@ -49,20 +53,15 @@ all-ready true false len e = let z : _≡_ {A = ℕ} 0 1 = cc in absurd (omega a
 all-ready false opened len e = let z : _≡_ {A = ℕ} 0 1 = cc in absurd (omega arith)
 
 -- what a block's answer tells
-wrote-number : (number n u k m : ℕ) → wroteOf number n u ≡ Wrote.Outputs k m → number ≡ 0
+wrote-number : (number n u : ℕ) (w : Written) → wroteOf number n u ≡ Wrote.Outputs w → number ≡ 0
 unfolding wroteOf
-wrote-number zero n u k m e = refl
-wrote-number (suc j) n u k m e = cc
+wrote-number zero n u w e = refl
+wrote-number (suc j) n u w e = cc
 
-wrote-count : (number n u k m : ℕ) → wroteOf number n u ≡ Wrote.Outputs k m → k ≡ n
+wrote-is : (number n u : ℕ) (w : Written) → wroteOf number n u ≡ Wrote.Outputs w → w ≡ record { count = n; unsettled = u }
 unfolding wroteOf
-wrote-count zero n u k m e = cc
-wrote-count (suc j) n u k m e = cc
-
-wrote-unsettled : (number n u k m : ℕ) → wroteOf number n u ≡ Wrote.Outputs k m → m ≡ u
-unfolding wroteOf
-wrote-unsettled zero n u k m e = cc
-wrote-unsettled (suc j) n u k m e = cc
+wrote-is zero n u w e = cc
+wrote-is (suc j) n u w e = cc
 
 unless-zero : (k m : ℕ) → unless k k m ≡ 0 → k ≡ 0
 unless-zero zero m e = refl
@@ -76,13 +75,13 @@ join-few : (g : Option (Output ℤ)) (l : List (Output ℤ)) → length (join g 
 join-few (some y) l = omega arith
 join-few none l = omega arith
 
-outputs-few : (s : State ℤ) (xs : List ℤ) → length (outputs i32Ops s xs) ≤ length xs
+outputs-few : (s : State ℤ) (xs : List ℤ) → length (outputs wordOps s xs) ≤ length xs
 unfolding outputs
 outputs-few s [] = omega arith
 outputs-few s (x ∷ xs) = omega (
   arith,
-  join-few (stepGiven i32Ops s x) (outputs i32Ops (stepState i32Ops s x) xs),
-  outputs-few (stepState i32Ops s x) xs,
+  join-few (stepGiven wordOps s x) (outputs wordOps (stepState wordOps s x) xs),
+  outputs-few (stepState wordOps s x) xs,
 )
 
 place-is : (s : Session) (n k len : ℕ) (line : List ℕ) (b : Bool) → s .opened ≡ true → b ≡ true → len ≡ 0
@@ -94,40 +93,46 @@ place-is s n k len line b o e z =
 
 -- the block of the first n samples
 module _ (filter : Cic) (samples given : List ℤ) (n : ℕ) (enough : n ≤ length samples) (long8 : length (filter .integrators) ≡ 8)
-    (long64 : length (filter .combs) ≡ 64) (d : Decimated) (is : d ≡ decimatedOf filter (take n samples) given) (k u : ℕ)
-    (wrote : d .wrote ≡ Wrote.Outputs k u) where
+    (long64 : length (filter .combs) ≡ 64) (d : Decimated) (is : d ≡ decimatedOf filter (take n samples) given) (w : Written)
+    (wrote : d .wrote ≡ Wrote.Outputs w) where
+  abbrev k : ℕ
+  k = w .count
+
+  abbrev u : ℕ
+  u = w .unsettled
+
   told : wroteOf (blockNumber (stateOf filter) (take n samples) given) (needed (length (take n samples)) (filter .countdown)
-      (filter .rate)) (filter .unsettled) ≡ Wrote.Outputs k u
+      (filter .rate)) (filter .unsettled) ≡ Wrote.Outputs w
   told = sym (ap (λ (x : Decimated). x .wrote) is) ∙ wrote
 
   number-is : blockNumber (stateOf filter) (take n samples) given ≡ 0
-  number-is = wrote-number _ _ _ k u told
+  number-is = wrote-number _ _ _ w told
 
   fit : Fit (stateOf filter)
   fit = fitted (stateOf filter) (block-accepted (stateOf filter) (take n samples) given number-is) long8 long64
 
-  count-is : k ≡ length (outputs i32Ops (stateOf filter) (take n samples))
-  count-is = wrote-count _ _ _ k u told ∙ sym (outputs-length i32Ops (stateOf filter) fit (take n samples))
+  count-is : k ≡ length (outputs wordOps (stateOf filter) (take n samples))
+  count-is = ap (λ (x : Written). x .count) (wrote-is _ _ _ w told) ∙ sym (outputs-length wordOps (stateOf filter) fit (take n samples))
 
   pub block-few : k ≤ n
   block-few = omega (arith, count-is, outputs-few (stateOf filter) (take n samples), length-take-le n samples enough)
 
-  state-is : d .state ≡ cicOf (after i32Ops (stateOf filter) (take n samples))
+  state-is : d .state ≡ cicOf (after wordOps (stateOf filter) (take n samples))
   unfolding blockState
   state-is = ap (λ (x : Decimated). x .state) is ∙ rw number-is
 
-  values-are : take k (blockOut i32Ops (stateOf filter) (take n samples) given) ≡ values (outputs i32Ops (stateOf filter) (take n samples))
+  values-are : take k (blockOut wordOps (stateOf filter) (take n samples) given) ≡ values (outputs wordOps (stateOf filter) (take n samples))
   unfolding blockOut
   values-are =
-      let ys = outputs i32Ops (stateOf filter) (take n samples) in
+      let ys = outputs wordOps (stateOf filter) (take n samples) in
       let e : k ≡ length (values ys) = count-is ∙ sym (values-length ys) in
       rw (number-is, e) (take-append-seam (values ys) _)
 
   unsettled-is : u ≡ filter .unsettled
-  unsettled-is = wrote-unsettled _ _ _ k u told
+  unsettled-is = ap (λ (x : Written). x .unsettled) (wrote-is _ _ _ w told)
 
-  text-is : outputLines u (take k (blockOut i32Ops (stateOf filter) (take n samples) given))
-      ≡ outputLines (filter .unsettled) (values (outputs i32Ops (stateOf filter) (take n samples)))
+  text-is : outputLines u (take k (blockOut wordOps (stateOf filter) (take n samples) given))
+      ≡ outputLines (filter .unsettled) (values (outputs wordOps (stateOf filter) (take n samples)))
   text-is = rw (values-are, unsettled-is)
 
   after-is : (a b : ℕ) → _≡_ {A = Place} (record {
@@ -146,8 +151,8 @@ module _ (filter : Cic) (samples given : List ℤ) (n : ℕ) (enough : n ≤ len
         line = [];
         going = true;
       }) state-is
-      ∙ ap (λ (x : ℕ). between (after i32Ops (stateOf filter) (take n samples)) (countedUp a x) (countedUp b k)) m
-      ∙ ap (λ (x : ℕ). between (after i32Ops (stateOf filter) (take n samples)) (countedUp a (length (take n samples)))
+      ∙ ap (λ (x : ℕ). between (after wordOps (stateOf filter) (take n samples)) (countedUp a x) (countedUp b k)) m
+      ∙ ap (λ (x : ℕ). between (after wordOps (stateOf filter) (take n samples)) (countedUp a (length (take n samples)))
       (countedUp b x)) count-is
 
   module _ (r : Replay) (of : r .session .filter ≡ filter) (input o : List ℕ) (from at : ℕ) (opened : r .session .opened ≡ true)
@@ -159,7 +164,7 @@ module _ (filter : Cic) (samples given : List ℤ) (n : ℕ) (enough : n ≤ len
         ∙ ap (λ (f : Cic). between (stateOf f) (r .lines) (r .outputs)) of
 
     pub turn-block : (t : Replay) → placeOf t ≡ afterBlock (placeOf r) (d .state) n k → t .len ≡ r .len → (w : ℕ) (o' : List ℕ)
-        → length o' ≡ length o → Wrote o at (outputLines u (take k (blockOut i32Ops (stateOf filter) (take n samples) given))) w o'
+        → length o' ≡ length o → Wrote o at (outputLines u (take k (blockOut wordOps (stateOf filter) (take n samples) given))) w o'
         → w ≤ at + 16 * k
         → Advances r input from o at t next w o'
     turn-block t e z w o' lo wr near =
@@ -171,10 +176,10 @@ module _ (filter : Cic) (samples given : List ℤ) (n : ℕ) (enough : n ≤ len
             place = ap (λ (x : Place). fedOf x (drop from input)) here
                 ∙ batch-place (g .lines) (stateOf filter) fit (r .lines) (r .outputs) lines outs
                 ∙ ap (λ (x : Place). fedOf x (drop next input)) (sym q);
-            text = outputLines (filter .unsettled) (values (outputs i32Ops (stateOf filter) (take n samples)));
+            text = outputLines (filter .unsettled) (values (outputs wordOps (stateOf filter) (take n samples)));
             bytes = ap (λ (x : Place). bytesOf x (drop from input)) here
                 ∙ batch-bytes (g .lines) (stateOf filter) fit (r .lines) (r .outputs) lines outs
-                ∙ ap (λ (x : Place). outputLines (filter .unsettled) (values (outputs i32Ops (stateOf filter) (take n samples)))
+                ∙ ap (λ (x : Place). outputLines (filter .unsettled) (values (outputs wordOps (stateOf filter) (take n samples)))
                 ++ bytesOf x (drop next input)) (sym q);
             wrote = wrote-same text-is wr;
           };

@@ -18,7 +18,8 @@ use Rattle.cic.specs.declared.state.Cic.{Cic}
 use Rattle.sums.specs.Machine.{Output}
 use Rattle.sums.specs.State.{State, refusal}
 use Rattle.sums.specs.Calls.{newNumber, newState, rateNumber, rateState, clearState}
-use Rattle.cic.specs.Reading.{i32Ops, stateOf, cicOf}
+use Rattle.cic.specs.Word.{wordOps}
+use Rattle.cic.specs.Reading.{stateOf, cicOf}
 use Rattle.blocks.specs.Verdicts.{verdictOf}
 use Rattle.text.specs.Same.{same}
 use Rattle.records.specs.Lines.{nameOf, naturalOf, withNatural, fieldAt, wantedOf, namedRecord, shapedOf, fieldsRecord, recordOf}
@@ -52,7 +53,7 @@ ordered-none s number t = told-none s (cicOf t) (verdictOf number)
 
 given-most : (r : Reply) → givenBy r ≤ 1
 given-most Reply.Silent = omega arith
-given-most (Reply.Output y b) = omega arith
+given-most (Reply.Output y) = omega arith
 given-most (Reply.Bad k) = omega arith
 
 either : (b : Bool) (x y : Taken) → givenBy (x .reply) ≡ 0 → givenBy (y .reply) ≡ 0 → givenBy (cond b x y .reply) ≡ 0
@@ -62,16 +63,16 @@ either false x y h k = k
 take-none : (s : Session) (r : Record) → isSample r ≡ false → givenBy (takeOf s r .reply) ≡ 0
 unfolding takeOf
 take-none s (Open n m rate) e =
-    let t = newState i32Ops n m rate in
+    let t = newState wordOps n m rate in
     either (s .opened) (refuse s 71) (ordered s (newNumber n m rate) t) refl (ordered-none s (newNumber n m rate) t)
 take-none s (Rate rate) e =
     let f = stateOf (s .filter) in
-    either (s .opened) (ordered s (rateNumber f rate) (rateState i32Ops f rate)) (refuse s 71)
-    (ordered-none s (rateNumber f rate) (rateState i32Ops f rate)) refl
+    either (s .opened) (ordered s (rateNumber f rate) (rateState wordOps f rate)) (refuse s 71)
+    (ordered-none s (rateNumber f rate) (rateState wordOps f rate)) refl
 take-none s (Sample v) e = cc
 take-none s Clear e =
     let f = stateOf (s .filter) in
-    either (s .opened) (ordered s (refusal f) (clearState i32Ops f)) (refuse s 71) (ordered-none s (refusal f) (clearState i32Ops f)) refl
+    either (s .opened) (ordered s (refusal f) (clearState wordOps f)) (refuse s 71) (ordered-none s (refusal f) (clearState wordOps f)) refl
 take-none s Malformed e = refl
 
 -- which line is a sample

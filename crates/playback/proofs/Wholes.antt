@@ -105,7 +105,7 @@ module _ (s : Session) (n k : ℕ) (l : List ℕ) (bs : List ℕ) (room : suc n 
           { session = t .session; lines = countedUp n 1; outputs = countedUp k (givenBy r); line = []; going = goesOn r }) bs
           ≡ answered r (suc n) k rest
       by Reply.Silent = rw (lines, same-k) (on k (omega arith))
-      by (Reply.Output y b) = rw (lines, more-k) (ap (λ (x : List ℕ). replyBytes (suc n) (Reply.Output y b) ++ x)
+      by (Reply.Output y) = rw (lines, more-k) (ap (λ (x : List ℕ). replyBytes (suc n) (Reply.Output y) ++ x)
           (on (suc k) (omega arith)))
       by (Reply.Bad number) =
           ap (λ (x : List ℕ). badLine (countedUp n 1) number ++ x) (stopped _ bs refl) ∙ append-nil (badLine (countedUp n 1) number)

@@ -6,7 +6,7 @@ use Prim.Native.Nat.{ℕ, _+_, _-_, _*_, min}
 use lib.Dec.{ltb, eqb}
 use lib.ListN.{length, take, drop, replicate}
 use Rattle.blocks.specs.Verdicts.{verdictOf}
-use Rattle.sums.specs.Calls.{unless}
+use Rattle.blocks.specs.Blocks.{unless}
 use Rattle.text.specs.Letters.{newline}
 use Rattle.records.specs.Sessions.{refuse, lineOf}
 use Rattle.playback.specs.Replays.{outputLine, endLine, badLine, unopened}
@@ -33,17 +33,17 @@ countedUp n by = min (n + by) 18446744073709551615
 -- what an answer writes, how many outputs it gives, and whether the replay goes on
 abbrev pub replyBytes : ℕ → Reply → List ℕ
 replyBytes line Reply.Silent = []
-replyBytes line (Reply.Output value settled) = outputLine value settled
+replyBytes line (Reply.Output y) = outputLine (y .value) (y .settled)
 replyBytes line (Reply.Bad number) = badLine line number
 
 abbrev pub givenBy : Reply → ℕ
 givenBy Reply.Silent = 0
-givenBy (Reply.Output value settled) = 1
+givenBy (Reply.Output y) = 1
 givenBy (Reply.Bad number) = 0
 
 abbrev pub goesOn : Reply → Bool
 goesOn Reply.Silent = true
-goesOn (Reply.Output value settled) = true
+goesOn (Reply.Output y) = true
 goesOn (Reply.Bad number) = false
 
 -- A newline ends the line. Any other byte makes it longer, but where it has 64 bytes already: a line over 64 bytes is refused at its 65th.

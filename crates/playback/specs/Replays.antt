@@ -9,7 +9,8 @@ use Rattle.text.specs.Letters.{byte, bytes, tab, newline}
 use Rattle.text.specs.Numbers.{decimalOf, signedOf}
 use Rattle.text.specs.Parts.{parted}
 use Rattle.sums.specs.State.{blank}
-use Rattle.cic.specs.Reading.{i32Ops, cicOf}
+use Rattle.cic.specs.Word.{wordOps}
+use Rattle.cic.specs.Reading.{cicOf}
 use Rattle.records.specs.Sessions.{lineOf}
 use Rattle.records.specs.declared.session.Session.{Session}
 use Rattle.records.specs.declared.session.Reply.{Reply}
@@ -30,7 +31,7 @@ badLine line number = bytes "bad\t" ++ (decimalOf line ++ (tab ∷ (decimalOf nu
 -- and it stops without `end`. Else the rest follows, told how many outputs there were.
 abbrev pub answered : Reply → ℕ → ℕ → (ℕ → List ℕ) → List ℕ
 answered Reply.Silent line outputs rest = rest outputs
-answered (Reply.Output value settled) line outputs rest = outputLine value settled ++ rest (suc outputs)
+answered (Reply.Output y) line outputs rest = outputLine (y .value) (y .settled) ++ rest (suc outputs)
 answered (Reply.Bad number) line outputs rest = badLine line number
 
 -- Each line is ended by a newline: what follows the last one is an unterminated line, unless it is empty.
@@ -47,7 +48,7 @@ replayFrom s lines outputs (line ∷ next ∷ rest) =
 
 -- no `cic` line yet
 abbrev pub unopened : Session
-unopened = record { opened = false; filter = cicOf (blank i32Ops) }
+unopened = record { opened = false; filter = cicOf (blank wordOps) }
 
 unfoldable pub replay : List ℕ → List ℕ
 replay input = replayFrom unopened 0 0 (parted newline input)

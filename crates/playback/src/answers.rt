@@ -62,7 +62,7 @@ pub(crate) fn put_reply(out: &mut [u8], at: usize, line: u64, reply: Reply) -> u
 {
     match reply {
         Reply::Silent => at,
-        Reply::Output(value, settled) => put_output(out, at, value, settled),
+        Reply::Output(y) => put_output(out, at, y.value, y.settled),
         Reply::Bad(number) => put_bad(out, at, line, number),
     }
 }

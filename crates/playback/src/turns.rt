@@ -52,7 +52,7 @@ fn goes_on(reply: Reply) -> bool
 {
     match reply {
         Reply::Silent => true,
-        Reply::Output(_, _) => true,
+        Reply::Output(_) => true,
         Reply::Bad(_) => false,
     }
 }
@@ -62,7 +62,7 @@ fn given_by(reply: Reply) -> usize
 {
     match reply {
         Reply::Silent => 0,
-        Reply::Output(_, _) => 1,
+        Reply::Output(_) => 1,
         Reply::Bad(_) => 0,
     }
 }
@@ -219,15 +219,15 @@ fn take_samples(
     let filter = session.filter;
     let d = filter.decimate_block(&samples[..count], given);
     let wrote = d.wrote;
-    let cic::runs::Wrote::Outputs(k, unsettled) = wrote else {
+    let cic::runs::Wrote::Outputs(w) = wrote else {
         return same;
     };
-    let w = put_outputs(out, at, given, k, unsettled);
+    let end = put_outputs(out, at, given, w.count, w.unsettled);
     let state = d.state;
     Advanced {
-        replay: after_block(r, state, count, k),
+        replay: after_block(r, state, count, w.count),
         next: g.next,
-        written: w,
+        written: end,
     }
 }
 

@@ -13,7 +13,7 @@ fn decimate_block(input: &[i32], out: &mut [i32]) -> u32 {
     let done = filter.decimate_block(input, out);
     let wrote = done.wrote;
     match wrote {
-        Wrote::Outputs(_, _) => 0,
+        Wrote::Outputs(_) => 0,
         Wrote::Refused(n) => n,
     }
 }

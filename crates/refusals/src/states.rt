@@ -35,7 +35,7 @@ fn step(unsettled: usize) -> u32 {
     let stepped = filter.decimate(1);
     let out = stepped.out;
     match out {
-        Out::Given(_, _) => 0,
+        Out::Given(_) => 0,
         Out::Nothing => 0,
         Out::Refused(n) => n,
     }

@@ -67,9 +67,10 @@ put-outputs-requires c κs =
     let a = s .args in
     let g = m .gather in
     let d = at-decimate-block .decimate-block in
-    let w = c .before .before .before .wrote .given in
+    let at-wrote : tie.After-wrote = search in
+    let w = at-wrote .wrote .given in
     let few = block-few (a .r .session .filter) (g .last .1 .1 .0) (a .given .now) (g .result .count) (enough m) (long8 s)
-    (long64 s) (d .result) (d .ensures .0) (w .0 .0) (w .0 .1 .0) (w .1) in
+    (long64 s) (d .result) (d .ensures .0) (w .0 .0) (w .1) in
     let fits = s .pre .2 .fits (was-ready m .0) in (
       omega (arith, few, g .ensures .few, d .kept .1 .1 .0, s .pre .4),
       omega (arith, few, fits, g .ensures .far, g .ensures .within, length-drop (a .from) (a .input .now)),
@@ -88,11 +89,11 @@ returns-3 c =
     let w = at-wrote .wrote .given in
     let p = at-put-outputs .put-outputs in
     turn-block (a .r .session .filter) (g .last .1 .1 .0) (a .given .now) (g .result .count) (enough m) (long8 s) (long64 s)
-    (d .result) (d .ensures .0) (w .0 .0) (w .0 .1 .0) (w .1)
+    (d .result) (d .ensures .0) (w .0 .0) (w .1)
     (a .r) refl (a .input .now) (a .out .now) (a .from) (a .at) (was-ready m .1) (was-ready m .0) (was-ready m .2) (lines s)
     (outs s) (s .pre .2) (g .result .next) (g .ensures)
     (c .after-block .result) (c .after-block .ensures .0) (c .after-block .ensures .1) (p .result) (p .last .0) (p .kept .0)
-    (wrote-same (ap (λ (l : List ℤ). outputLines (w .0 .1 .0) (take (w .0 .0) l)) (d .ensures .1)) (p .ensures .0)) (p .ensures .1)
+    (wrote-same (ap (λ (l : List ℤ). outputLines (w .0 .0 .unsettled) (take (w .0 .0 .count) l)) (d .ensures .1)) (p .ensures .0)) (p .ensures .1)
 
 pub take-samples-spec : {M : Type 1} → statement M
 take-samples-spec =
