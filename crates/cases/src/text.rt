@@ -1,9 +1,12 @@
-// Stored answers: words of 8 lower-case hex digits, each followed by one byte, so that word i stands at byte 9 i.
+// Stored answers: words of 8 lower-case hex digits, each followed by one byte, so that word i stands at byte 9 i; and
+// what a comparison counts and prints.
+use words::unsigned::add_u64;
 ghost use mathlib.Core.Path.{_≡_};
-ghost use Prim.Native.Nat.{_+_, _≤_};
+ghost use mathlib.Core.Bool.{cond};
+ghost use Prim.Native.Nat.{_+_, _*_, _%_, _^_, _≤_};
 ghost use lib.ListN.{length};
 ghost use lib.Dec.{eqb};
-ghost use Rattle.cases.specs.Texts.{nibbleOf, byteAt, halfAt, wordAt, doubleAt};
+ghost use Rattle.cases.specs.Texts.{nibbleOf, byteAt, halfAt, wordAt, wordsAt, unlikeAll};
 
 // The value of a hex digit; of any other byte 0.
 fn nibble(b: u8) -> u32
@@ -49,14 +52,68 @@ pub fn word(text: &[u8], i: usize) -> u32
     half_at(text, at) * 65536 + half_at(text, at + 4)
 }
 
-// Words i and i + 1 as one number, the high word first; 0 past the end.
-pub fn double(text: &[u8], i: usize) -> u64
-    ensures { λ r. ⌜ r ≡ doubleAt (now (text .entry)) i ⌝ }
+// A line of the text: 40 words from word number first on, 0 past the text's end.
+pub fn line(text: &[u8], first: u32) -> [u32; 40]
+    ensures { λ r. ⌜ r ≡ wordsAt (now (text .entry)) first 40 ⌝ }
 {
-    if text.len() <= i {
+    let mut words = [0u32; 40];
+    for i in 0..40 {
+        words[i] = word(text, first as usize + i);
+    }
+    words
+}
+
+// A word as a count.
+pub fn size(word: u32) -> usize
+    ensures { λ r. ⌜ r ≡ word ⌝ }
+{
+    word as usize
+}
+
+// Two words as one number.
+pub fn double(high: u32, low: u32) -> u64
+    ensures { λ r. ⌜ r ≡ high * 4294967296 + low ⌝ }
+{
+    high as u64 * 4294967296 + low as u64
+}
+
+// 0 where two numbers of two words are the same, else 1.
+pub fn unlike_double(a: u64, b: u64) -> u64
+    ensures { λ r. ⌜ (r ≡ cond (eqb a b) 0 1) × (r ≤ 1) ⌝ }
+{
+    if a == b {
         return 0;
     }
-    word(text, i) as u64 * 4294967296 + word(text, i + 1) as u64
+    1
+}
+
+// 0 where two words are the same, else 1.
+pub fn unlike(a: u32, b: u32) -> u64
+    ensures { λ r. ⌜ (r ≡ cond (eqb a b) 0 1) × (r ≤ 1) ⌝ }
+{
+    unlike_double(a as u64, b as u64)
+}
+
+// The count n, and one more where what was found is not what is said, modulo 2^64.
+pub fn tally(n: u64, found: u32, said: u32) -> u64
+    ensures { λ r. ⌜ r ≡ (n + cond (eqb found said) 0 1) % 2 ^ 64 ⌝ }
+{
+    add_u64(n, unlike(found, said))
+}
+
+// 0 where two slices have the same words, else 1.
+pub fn unlike_words(a: &[u32], b: &[u32]) -> u64
+    ensures { λ r. ⌜ r ≡ unlikeAll (now (a .entry)) (now (b .entry)) ⌝ }
+{
+    if a.len() != b.len() {
+        return 1;
+    }
+    for i in 0..a.len() {
+        if a[i] != b[i] {
+            return 1;
+        }
+    }
+    0
 }
 
 // Prints a line of a comparison: the name, how many cases there were, how many differ. True where none does.

@@ -1,3 +1,4 @@
+-- Both halves are below 65536 (Digits), so that the word fits.
 use native.Mathlib.Omega.{arith}
 use Prim.Native.Nat.{_+_, _*_}
 use borrow.Author.Tests.{lt-ltb, le-ltb}
@@ -11,20 +12,10 @@ returns : tie.Need-returns
 unfolding wordAt
 returns c = rw (le-ltb _ _ (c .if1 .taken))
 
-mul-at : tie.Need-mul-at
-mul-at c = search needs
-
-half-at-requires : tie.Need-half-at-requires
-half-at-requires c κs = search needs
-
 mul-result : tie.Need-mul-result
-mul-result c = rw (c .half-at .ensures) (record { fits = omega (arith, half-small (c .before .before .before .args .text .now) (c .before .before .before .args .i * 9)) })
-
-add-half-at : tie.Need-add-half-at
-add-half-at c = search needs
-
-half-at-requires-2 : tie.Need-half-at-requires-2
-half-at-requires-2 c κs = search needs
+mul-result c =
+    let a = c .before .before .before .args in
+    rw (c .half-at .ensures) (record { fits = omega (arith, half-small (a .text .now) (a .i * 9)) })
 
 add-result : tie.Need-add-result
 add-result c =
@@ -40,13 +31,5 @@ returns-2 c =
 
 pub word-spec : {M : Type 1} → statement M
 word-spec =
-    tie.close
-    (tie.spec
-    returns
-    mul-at
-    half-at-requires
-    mul-result
-    add-half-at
-    half-at-requires-2
-    add-result
-    returns-2)
+    tie.close (tie.spec returns (λ c. search needs) (λ c κs. search needs) mul-result (λ c. search needs)
+    (λ c κs. search needs) add-result returns-2)
