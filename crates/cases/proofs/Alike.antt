@@ -8,7 +8,7 @@ use lib.Dec.{eqb}
 use lib.ListN.{length, getD, drop, drop-of-length-le}
 use lib.Seq.{drop-cons}
 use borrow.Author.Tests.{eq-eqb, ne-eqb}
-use Rattle.cases.specs.Texts.{unlikeAll}
+use Rattle.cases.specs.Lines.{unlikeAll}
 
 pub unlike-lengths : (a b : List ℕ) → (length a ≡ length b → ⊥) → unlikeAll a b ≡ 1
 unfolding unlikeAll

@@ -7,7 +7,7 @@ use native.Mathlib.Omega.{arith}
 use lib.Dec.{ltb}
 use lib.ListN.{getD}
 use borrow.Author.Tests.{ltb-true, ltb-false}
-use Rattle.cases.specs.Texts.{nibbleOf, byteAt, halfAt}
+use Rattle.cases.specs.Lines.{nibbleOf, byteAt, halfAt}
 
 pub nibble-small : (b : ℕ) → nibbleOf b < 16
 nibble-small b = first (ltb b 48) refl

@@ -2,8 +2,8 @@
 use native.Mathlib.Omega.{arith}
 use borrow.Author.Needs.{needs}
 use Rattle.cases.proofs.Digits.{byte-small, half-small}
-use Rattle.cases.proofs.text.half_at.Statement.{statement}
-use Rattle.cases.proofs.text.half_at.Tie as tie
+use Rattle.cases.proofs.lines.half_at.Statement.{statement}
+use Rattle.cases.proofs.lines.half_at.Tie as tie
 
 mul-result : tie.Need-mul-result
 mul-result c =

@@ -3,10 +3,10 @@ use native.Mathlib.Omega.{arith}
 use Prim.Native.Nat.{_+_, _*_}
 use borrow.Author.Tests.{lt-ltb, le-ltb}
 use borrow.Author.Needs.{needs}
-use Rattle.cases.specs.Texts.{wordAt}
+use Rattle.cases.specs.Lines.{wordAt}
 use Rattle.cases.proofs.Digits.{half-small}
-use Rattle.cases.proofs.text.word.Statement.{statement}
-use Rattle.cases.proofs.text.word.Tie as tie
+use Rattle.cases.proofs.lines.word.Statement.{statement}
+use Rattle.cases.proofs.lines.word.Tie as tie
 
 returns : tie.Need-returns
 unfolding wordAt

@@ -6,7 +6,7 @@ ghost use mathlib.Core.Bool.{cond};
 ghost use Prim.Native.Nat.{_+_, _*_, _%_, _^_, _≤_};
 ghost use lib.ListN.{length};
 ghost use lib.Dec.{eqb};
-ghost use Rattle.cases.specs.Texts.{nibbleOf, byteAt, halfAt, wordAt, wordsAt, unlikeAll};
+ghost use Rattle.cases.specs.Lines.{nibbleOf, byteAt, halfAt, wordAt, wordsAt, unlikeAll};
 
 // The value of a hex digit; of any other byte 0.
 fn nibble(b: u8) -> u32

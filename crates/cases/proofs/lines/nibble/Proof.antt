@@ -1,8 +1,8 @@
 -- The tests say which side of each `cond` is taken.
 use borrow.Author.Tests.{lt-ltb, le-ltb}
 use borrow.Author.Needs.{needs}
-use Rattle.cases.proofs.text.nibble.Statement.{statement}
-use Rattle.cases.proofs.text.nibble.Tie as tie
+use Rattle.cases.proofs.lines.nibble.Statement.{statement}
+use Rattle.cases.proofs.lines.nibble.Tie as tie
 
 returns : tie.Need-returns
 returns c = rw (lt-ltb _ _ (c .if1 .taken))

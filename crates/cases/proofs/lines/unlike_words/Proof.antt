@@ -3,11 +3,11 @@ use mathlib.Core.Path.{_≡_, sym, _∙_}
 use Prim.Native.Nat.{_≤_, _-_}
 use native.Mathlib.Omega.{arith}
 use lib.ListN.{length, drop}
-use Rattle.cases.specs.Texts.{unlikeAll}
+use Rattle.cases.specs.Lines.{unlikeAll}
 use Rattle.cases.proofs.Alike.{unlike-lengths, unlike-here, unlike-next, unlike-end}
 use borrow.Author.Needs.{needs}
-use Rattle.cases.proofs.text.unlike_words.Statement.{statement}
-use Rattle.cases.proofs.text.unlike_words.Tie as tie
+use Rattle.cases.proofs.lines.unlike_words.Statement.{statement}
+use Rattle.cases.proofs.lines.unlike_words.Tie as tie
 
 abbrev Inv-loop : tie.InvT-loop
 Inv-loop a b i₀ i-end i =

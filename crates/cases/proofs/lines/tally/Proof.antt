@@ -1,8 +1,8 @@
 -- The sum modulo 2 ^ 64 of what both calls answer.
 use Rattle.words.specs.Words.{word}
 use borrow.Author.Needs.{needs}
-use Rattle.cases.proofs.text.tally.Statement.{statement}
-use Rattle.cases.proofs.text.tally.Tie as tie
+use Rattle.cases.proofs.lines.tally.Statement.{statement}
+use Rattle.cases.proofs.lines.tally.Tie as tie
 
 returns : tie.Need-returns
 unfolding word

@@ -2,8 +2,8 @@
 use native.Mathlib.Omega.{arith}
 use borrow.Author.Tests.{eq-eqb, ne-eqb}
 use borrow.Author.Needs.{needs}
-use Rattle.cases.proofs.text.unlike_double.Statement.{statement}
-use Rattle.cases.proofs.text.unlike_double.Tie as tie
+use Rattle.cases.proofs.lines.unlike_double.Statement.{statement}
+use Rattle.cases.proofs.lines.unlike_double.Tie as tie
 
 returns : tie.Need-returns
 returns c = (rw (eq-eqb _ _ (c .if1 .taken)), omega arith)

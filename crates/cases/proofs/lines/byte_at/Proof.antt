@@ -3,8 +3,8 @@ use native.Mathlib.Omega.{arith}
 use lib.ListN.{getD}
 use borrow.Author.Needs.{needs}
 use Rattle.cases.proofs.Digits.{nibble-small, byte-small}
-use Rattle.cases.proofs.text.byte_at.Statement.{statement}
-use Rattle.cases.proofs.text.byte_at.Tie as tie
+use Rattle.cases.proofs.lines.byte_at.Statement.{statement}
+use Rattle.cases.proofs.lines.byte_at.Tie as tie
 
 mul-result : tie.Need-mul-result
 mul-result c =

@@ -5,10 +5,10 @@ use native.Mathlib.Numerals.{add-one}
 use native.Mathlib.Omega.{arith}
 use lib.ListN.{length, take, length-set}
 use lib.Seq.{take-suc-set, take-all}
-use Rattle.cases.specs.Texts.{wordsAt}
+use Rattle.cases.specs.Lines.{wordsAt}
 use borrow.Author.Needs.{needs}
-use Rattle.cases.proofs.text.line.Statement.{statement}
-use Rattle.cases.proofs.text.line.Tie as tie
+use Rattle.cases.proofs.lines.line.Statement.{statement}
+use Rattle.cases.proofs.lines.line.Tie as tie
 
 abbrev Inv-loop : tie.InvT-loop
 Inv-loop text first words₀ i₀ words i = (i ≤ 40) × ((length words ≡ 40) × (take i words ≡ wordsAt text first i))
