@@ -19,7 +19,8 @@ ghost use Rattle.biquad.specs.Answers.{limitNumber};
 ghost use Rattle.fixed.specs.Forms.{wideOut, wideNext, wideHeld, wideOnward};
 ghost use Rattle.fixed.specs.Forms.{ditherOut, ditherNext, ditherHeld, ditherOnward};
 ghost use Rattle.fixed.specs.Answers.{fractionNumber, clampNumber};
-ghost use Rattle.bench_exports.specs.Fresh.{blockLeft, blockLeftBy, alikeWdf, zeroWide, zeroDither, floatBiquad, floatClamp, wordBiquad, wordClamp};
+ghost use Rattle.bench_exports.specs.Fresh.{blockLeft, blockLeftBy, alikeWdf, zeroWide, zeroDither};
+ghost use Rattle.bench_exports.specs.Fresh.{floatBiquad, floatClamp, wordBiquad, wordClamp};
 
 // A modulator's block.
 #[no_mangle]
