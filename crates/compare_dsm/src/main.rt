@@ -2,17 +2,17 @@
 // crate's output is i8, so that it gives -128 for the 128 of K = 8 (01, 'The modulator'): these are counted, not
 // differing.
 use blocks::Verdict;
+use cases::lines::double;
+use cases::lines::line;
+use cases::lines::report;
+use cases::lines::size;
+use cases::lines::tally;
+use cases::lines::unlike;
+use cases::lines::unlike_words;
 use cases::runs::digest;
 use cases::runs::digest_first;
 use cases::runs::draw;
 use cases::runs::spread;
-use cases::text::double;
-use cases::text::line;
-use cases::text::report;
-use cases::text::size;
-use cases::text::tally;
-use cases::text::unlike;
-use cases::text::unlike_words;
 use dsm::Dsm;
 use dsm::Output;
 use dsm::OutputRange;

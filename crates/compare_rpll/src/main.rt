@@ -1,13 +1,13 @@
 // Runs the proved reciprocal loop over the Rust's stored answers (oracle/README.md, rpll) and prints what differs.
+use cases::lines::double;
+use cases::lines::line;
+use cases::lines::report;
+use cases::lines::unlike;
+use cases::lines::unlike_words;
 use cases::runs::digest;
 use cases::runs::digest_words;
 use cases::runs::draw;
 use cases::runs::spread;
-use cases::text::double;
-use cases::text::line;
-use cases::text::report;
-use cases::text::unlike;
-use cases::text::unlike_words;
 use rpll::Estimate;
 use rpll::Processed;
 use rpll::RPLL;

@@ -1,13 +1,13 @@
 // Runs the proved phase words over the Rust's stored answers (oracle/README.md, unwrap) and prints what differs.
+use cases::lines::double;
+use cases::lines::line;
+use cases::lines::report;
+use cases::lines::unlike;
+use cases::lines::unlike_double;
 use cases::runs::digest;
 use cases::runs::digest_double;
 use cases::runs::draw;
 use cases::runs::spread;
-use cases::text::double;
-use cases::text::line;
-use cases::text::report;
-use cases::text::unlike;
-use cases::text::unlike_double;
 use unwrap::clamp_wrap::ClampWrap;
 use unwrap::scale::Scaled;
 use unwrap::scale::saturating_scale;

@@ -1,15 +1,15 @@
 // Runs the proved adapters and filters over the Rust's stored answers (oracle/README.md, wdf) and prints what
 // differs.
+use cases::lines::double;
+use cases::lines::line;
+use cases::lines::report;
+use cases::lines::size;
+use cases::lines::unlike;
+use cases::lines::unlike_double;
+use cases::lines::unlike_words;
 use cases::runs::digest;
 use cases::runs::digest_first;
 use cases::runs::spread;
-use cases::text::double;
-use cases::text::line;
-use cases::text::report;
-use cases::text::size;
-use cases::text::unlike;
-use cases::text::unlike_double;
-use cases::text::unlike_words;
 use wdf::filter::Out;
 use wdf::filter::Wdf;
 use wdf::tpa::Ports;
