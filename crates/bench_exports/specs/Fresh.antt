@@ -1,8 +1,11 @@
 -- The fresh filters that the exports start from, and the steps that they take one by one.
+use mathlib.Core.List.{List}
 use Prim.Native.Nat.{ℕ}
 use lib.IntN.{ℤ, pos}
 use lib.ListN.{replicate}
 use lib.Ieee.{Float}
+use Rattle.blocks.specs.Scan.{scan}
+use Rattle.blocks.specs.Blocks.{blockNumber, unless}
 use Rattle.sums.specs.Calls.{newState}
 use Rattle.cic.specs.Reading.{i32Ops, cicOf}
 use Rattle.cic.specs.Answers.{steppedOf}
@@ -32,9 +35,17 @@ use Rattle.rpll.specs.declared.Estimate.{Estimate}
 use Rattle.rpll.specs.declared.Estimate.the-variants as Estimate
 use Rattle.rpll.specs.Loops.{processedOf}
 
+-- What a block leaves in the lent slice ys: the outputs, or all as it was where the slices or the filter (k) refuse.
+abbrev pub blockLeft : {S A B : Type 0} → ℕ → (S → A → B) → (S → A → S) → S → List A → List B → List B
+blockLeft k out next s xs ys = unless (blockNumber k xs ys) ys (scan out next s xs)
+
+-- The same of a filter with coefficients c.
+abbrev pub blockLeftBy : {C S A B : Type 0} → (C → ℕ) → (C → S → A → B) → (C → S → A → S) → C → S → List A → List B → List B
+blockLeftBy k out next c s xs ys = blockLeft (k c) (out c) (next c) s xs ys
+
 -- Decimator and interpolator.
-abbrev pub fresh : ℕ → ℕ → ℕ → Cic
-fresh order delay rate = cicOf (newState i32Ops order delay rate)
+abbrev pub freshCic : ℕ → ℕ → ℕ → Cic
+freshCic order delay rate = cicOf (newState i32Ops order delay rate)
 
 unfoldable pub givenIn : Out → ℤ
 givenIn (Out.Given y settled) = y
@@ -48,33 +59,33 @@ abbrev pub stepNext : Cic → ℤ → Cic
 stepNext s x = steppedOf s x .state
 
 -- Sections and biquads.
-abbrev pub alike : ℕ → ℕ → ℤ → Wdf
-alike sections architecture a = made sections architecture (replicate 8 a) .state
+abbrev pub alikeWdf : ℕ → ℕ → ℤ → Wdf
+alikeWdf sections architecture a = made sections architecture (replicate 8 a) .state
 
-abbrev pub floats : Float → Float → Float → Float → Float → Biquad
-floats b0 b1 b2 a1 a2 = record { b0 = b0; b1 = b1; b2 = b2; a1 = a1; a2 = a2 }
+abbrev pub floatBiquad : Float → Float → Float → Float → Float → Biquad
+floatBiquad b0 b1 b2 a1 a2 = record { b0 = b0; b1 = b1; b2 = b2; a1 = a1; a2 = a2 }
 
-abbrev pub limits : Float → Float → Float → Float → Float → Float → Float → Float → BiquadClamp
-limits b0 b1 b2 a1 a2 u min max = record { b0 = b0; b1 = b1; b2 = b2; a1 = a1; a2 = a2; u = u; min = min; max = max }
+abbrev pub floatClamp : Float → Float → Float → Float → Float → Float → Float → Float → BiquadClamp
+floatClamp b0 b1 b2 a1 a2 u min max = record { b0 = b0; b1 = b1; b2 = b2; a1 = a1; a2 = a2; u = u; min = min; max = max }
 
-abbrev pub words : ℤ → ℤ → ℤ → ℤ → ℤ → ℕ → Fixed.Biquad
-words b0 b1 b2 a1 a2 f = record { b0 = b0; b1 = b1; b2 = b2; a1 = a1; a2 = a2; f = f }
+abbrev pub wordBiquad : ℤ → ℤ → ℤ → ℤ → ℤ → ℕ → Fixed.Biquad
+wordBiquad b0 b1 b2 a1 a2 f = record { b0 = b0; b1 = b1; b2 = b2; a1 = a1; a2 = a2; f = f }
 
-abbrev pub within : Fixed.Biquad → ℤ → ℤ → ℤ → FixedClamp.BiquadClamp
-within coeff u min max = record { coeff = coeff; u = u; min = min; max = max }
+abbrev pub wordClamp : Fixed.Biquad → ℤ → ℤ → ℤ → FixedClamp.BiquadClamp
+wordClamp coeff u min max = record { coeff = coeff; u = u; min = min; max = max }
 
-abbrev pub still : DirectForm1Wide
-still = record { x1 = pos 0; x2 = pos 0; y1 = pos 0; y2 = pos 0 }
+abbrev pub zeroWide : DirectForm1Wide
+zeroWide = record { x1 = pos 0; x2 = pos 0; y1 = pos 0; y2 = pos 0 }
 
-abbrev pub quiet : DirectForm1Dither
-quiet = record { x1 = pos 0; x2 = pos 0; y1 = pos 0; y2 = pos 0; e = 0 }
+abbrev pub zeroDither : DirectForm1Dither
+zeroDither = record { x1 = pos 0; x2 = pos 0; y1 = pos 0; y2 = pos 0; e = 0 }
 
 -- Phase words.
-abbrev pub unclamped : ClampWrap
-unclamped = record { x0 = pos 0; clamp = Wrap.None }
+abbrev pub zeroClamp : ClampWrap
+zeroClamp = record { x0 = pos 0; clamp = Wrap.None }
 
-abbrev pub unturned : Unwrapper
-unturned = record { y = pos 0 }
+abbrev pub zeroUnwrapper : Unwrapper
+zeroUnwrapper = record { y = pos 0 }
 
 unfoldable pub valueIn : Scaled → ℤ
 valueIn (Scaled.Value y) = y
@@ -87,8 +98,8 @@ abbrev pub scaleNext : ℤ → ℤ → ℤ
 scaleNext hi lo = hi
 
 -- Loops.
-abbrev pub locking : PLLState
-locking = record { clamp = unclamped; z0 = pos 0; y0 = pos 0; f0 = pos 0; f = pos 0; y = pos 0 }
+abbrev pub zeroPll : PLLState
+zeroPll = record { clamp = zeroClamp; z0 = pos 0; y0 = pos 0; f0 = pos 0; f = pos 0; y = pos 0 }
 
 abbrev pub loopOf : ℤ → ℤ → ℤ → PLL
 loopOf b0 b1 a1 = record { b0 = b0; b1 = b1; a1 = a1 }
@@ -96,8 +107,8 @@ loopOf b0 b1 a1 = record { b0 = b0; b1 = b1; a1 = a1 }
 abbrev pub configured : ℕ → ℕ → ℕ → RPLLConfig
 configured dt2 frequency phase = record { dt2 = dt2; «shift_frequency» = frequency; «shift_phase» = phase }
 
-abbrev pub unlocked : RPLL
-unlocked = record { x = pos 0; ff = 0; f = 0; y = pos 0 }
+abbrev pub zeroRpll : RPLL
+zeroRpll = record { x = pos 0; ff = 0; f = 0; y = pos 0 }
 
 unfoldable pub phaseIn : Estimate → ℤ
 phaseIn (Estimate.Given y f) = y

@@ -3,16 +3,15 @@ use cic::state::Cic;
 use cic::steps::Out;
 ghost use mathlib.Core.Path.{_≡_};
 ghost use lib.ListN.{length};
-ghost use Rattle.blocks.specs.Scan.{scan, ends};
-ghost use Rattle.blocks.specs.Blocks.{lengthsNumber, unless};
+ghost use Rattle.blocks.specs.Scan.{scan};
 ghost use Rattle.sums.specs.Runs.{blockOut, fillOut};
 ghost use Rattle.cic.specs.Reading.{i32Ops, stateOf};
-ghost use Rattle.bench_exports.specs.Fresh.{fresh, givenIn, stepOut, stepNext};
+ghost use Rattle.bench_exports.specs.Fresh.{blockLeft, freshCic, givenIn, stepOut, stepNext};
 
 // A decimator's block.
 #[no_mangle]
 pub extern "C" fn bench_decimate(order: usize, delay: usize, rate: u32, xs: &[i32], ys: &mut [i32])
-    ensures { λ _. ⌜ now (ys .exit) ≡ blockOut i32Ops (stateOf (fresh order delay rate)) (now (xs .entry)) (now (ys .entry)) ⌝ }
+    ensures { λ _. ⌜ now (ys .exit) ≡ blockOut i32Ops (stateOf (freshCic order delay rate)) (now (xs .entry)) (now (ys .entry)) ⌝ }
 {
     let made = Cic::new(order, delay, rate);
     let filter = made.state;
@@ -28,7 +27,7 @@ pub extern "C" fn bench_interpolate(
     xs: &[i32],
     ys: &mut [i32],
 )
-    ensures { λ _. ⌜ now (ys .exit) ≡ fillOut i32Ops (stateOf (fresh order delay rate)) (now (xs .entry)) (now (ys .entry)) ⌝ }
+    ensures { λ _. ⌜ now (ys .exit) ≡ fillOut i32Ops (stateOf (freshCic order delay rate)) (now (xs .entry)) (now (ys .entry)) ⌝ }
 {
     let made = Cic::new(order, delay, rate);
     let filter = made.state;
@@ -67,8 +66,7 @@ fn step_all(s: Cic, xs: &[i32], ys: &mut [i32])
 // The same from a fresh filter; where the slices differ in length nothing is written.
 #[no_mangle]
 pub extern "C" fn bench_steps(order: usize, delay: usize, rate: u32, xs: &[i32], ys: &mut [i32])
-    ensures { λ _. ⌜ now (ys .exit) ≡ unless (lengthsNumber 0 (now (xs .entry)) (now (ys .entry))) (now (ys .entry))
-        (scan stepOut stepNext (fresh order delay rate) (now (xs .entry))) ⌝ }
+    ensures { λ _. ⌜ now (ys .exit) ≡ blockLeft 0 stepOut stepNext (freshCic order delay rate) (now (xs .entry)) (now (ys .entry)) ⌝ }
 {
     if xs.len() != ys.len() {
         return;

@@ -9,7 +9,7 @@ use fixed::wide::DirectForm1Wide;
 use wdf::filter::Wdf;
 ghost use mathlib.Core.Path.{_≡_};
 ghost use Rattle.blocks.specs.Scan.{scan};
-ghost use Rattle.blocks.specs.Blocks.{lengthsNumber, unless};
+ghost use Rattle.blocks.specs.Blocks.{unless};
 ghost use Rattle.dsm.specs.Modulator.{modulatorOut, nextOf};
 ghost use Rattle.dsm.specs.Calls.{modulatorOf};
 ghost use Rattle.dsm.specs.Calls as Modulator;
@@ -19,13 +19,14 @@ ghost use Rattle.biquad.specs.Answers.{limitNumber};
 ghost use Rattle.fixed.specs.Forms.{wideOut, wideNext, wideHeld, wideOnward};
 ghost use Rattle.fixed.specs.Forms.{ditherOut, ditherNext, ditherHeld, ditherOnward};
 ghost use Rattle.fixed.specs.Answers.{fractionNumber, clampNumber};
-ghost use Rattle.bench_exports.specs.Fresh.{alike, still, quiet, floats, limits, words, within};
+ghost use Rattle.bench_exports.specs.Fresh.{blockLeft, blockLeftBy, alikeWdf, zeroWide, zeroDither};
+ghost use Rattle.bench_exports.specs.Fresh.{floatBiquad, floatClamp, wordBiquad, wordClamp};
 
 // A modulator's block.
 #[no_mangle]
 pub extern "C" fn bench_dsm(order: usize, xs: &[u32], ys: &mut [i16])
-    ensures { λ _. ⌜ now (ys .exit) ≡ unless (Modulator.runNumber (modulatorOf order .state) (now (xs .entry)) (now (ys .entry))) (now (ys .entry))
-        (scan modulatorOut nextOf (modulatorOf order .state) (now (xs .entry))) ⌝ }
+    ensures { λ _. ⌜ now (ys .exit) ≡ unless (Modulator.runNumber (modulatorOf order .state) (now (xs .entry)) (now (ys .entry)))
+        (now (ys .entry)) (scan modulatorOut nextOf (modulatorOf order .state) (now (xs .entry))) ⌝ }
 {
     let made = Dsm::new(order);
     let filter = made.state;
@@ -35,8 +36,8 @@ pub extern "C" fn bench_dsm(order: usize, xs: &[u32], ys: &mut [i16])
 // A wave digital filter's block; every section has the coefficient a.
 #[no_mangle]
 pub extern "C" fn bench_wdf(sections: usize, architecture: u32, a: i32, xs: &[i32], ys: &mut [i32])
-    ensures { λ _. ⌜ now (ys .exit) ≡ unless (lengthsNumber (number (alike sections architecture a)) (now (xs .entry)) (now (ys .entry))) (now (ys .entry))
-        (scan answer next (alike sections architecture a) (now (xs .entry))) ⌝ }
+    ensures { λ _. ⌜ now (ys .exit) ≡ blockLeft (number (alikeWdf sections architecture a)) answer next (alikeWdf sections architecture a)
+        (now (xs .entry)) (now (ys .entry)) ⌝ }
 {
     let made = Wdf::new(sections, architecture, [a; 8]);
     let filter = made.state;
@@ -46,8 +47,8 @@ pub extern "C" fn bench_wdf(sections: usize, architecture: u32, a: i32, xs: &[i3
 // Blocks of the biquads, from a state of zeros.
 #[no_mangle]
 pub extern "C" fn bench_df1(b0: f64, b1: f64, b2: f64, a1: f64, a2: f64, xs: &[f64], ys: &mut [f64])
-    ensures { λ _. ⌜ now (ys .exit) ≡ unless (lengthsNumber 0 (now (xs .entry)) (now (ys .entry))) (now (ys .entry))
-        (scan (sum1 (floats b0 b1 b2 a1 a2)) (next1 (floats b0 b1 b2 a1 a2)) zero1 (now (xs .entry))) ⌝ }
+    ensures { λ _. ⌜ now (ys .exit) ≡ blockLeftBy (λ c. 0) sum1 next1 (floatBiquad b0 b1 b2 a1 a2) zero1
+        (now (xs .entry)) (now (ys .entry)) ⌝ }
 {
     DirectForm1::default().block(Biquad { b0, b1, b2, a1, a2 }, xs, ys);
 }
@@ -62,8 +63,8 @@ pub extern "C" fn bench_df2t(
     xs: &[f64],
     ys: &mut [f64],
 )
-    ensures { λ _. ⌜ now (ys .exit) ≡ unless (lengthsNumber 0 (now (xs .entry)) (now (ys .entry))) (now (ys .entry))
-        (scan (sum2 (floats b0 b1 b2 a1 a2)) (next2 (floats b0 b1 b2 a1 a2)) zero2 (now (xs .entry))) ⌝ }
+    ensures { λ _. ⌜ now (ys .exit) ≡ blockLeftBy (λ c. 0) sum2 next2 (floatBiquad b0 b1 b2 a1 a2) zero2
+        (now (xs .entry)) (now (ys .entry)) ⌝ }
 {
     DirectForm2Transposed::default().block(Biquad { b0, b1, b2, a1, a2 }, xs, ys);
 }
@@ -81,9 +82,8 @@ pub extern "C" fn bench_df1_clamp(
     xs: &[f64],
     ys: &mut [f64],
 )
-    ensures { λ _. ⌜ now (ys .exit) ≡ unless (lengthsNumber (limitNumber (limits b0 b1 b2 a1 a2 u min max)) (now (xs .entry)) (now (ys .entry))) (now (ys .entry))
-        (scan (held1 (limits b0 b1 b2 a1 a2 u min max)) (onward1 (limits b0 b1 b2 a1 a2 u min max))
-        zero1 (now (xs .entry))) ⌝ }
+    ensures { λ _. ⌜ now (ys .exit) ≡ blockLeftBy limitNumber held1 onward1 (floatClamp b0 b1 b2 a1 a2 u min max) zero1
+        (now (xs .entry)) (now (ys .entry)) ⌝ }
 {
     DirectForm1::default().block_clamp(
         BiquadClamp {
@@ -114,9 +114,8 @@ pub extern "C" fn bench_df2t_clamp(
     xs: &[f64],
     ys: &mut [f64],
 )
-    ensures { λ _. ⌜ now (ys .exit) ≡ unless (lengthsNumber (limitNumber (limits b0 b1 b2 a1 a2 u min max)) (now (xs .entry)) (now (ys .entry))) (now (ys .entry))
-        (scan (held2 (limits b0 b1 b2 a1 a2 u min max)) (onward2 (limits b0 b1 b2 a1 a2 u min max))
-        zero2 (now (xs .entry))) ⌝ }
+    ensures { λ _. ⌜ now (ys .exit) ≡ blockLeftBy limitNumber held2 onward2 (floatClamp b0 b1 b2 a1 a2 u min max) zero2
+        (now (xs .entry)) (now (ys .entry)) ⌝ }
 {
     DirectForm2Transposed::default().block_clamp(
         BiquadClamp {
@@ -136,7 +135,7 @@ pub extern "C" fn bench_df2t_clamp(
 
 // Coefficients of words, and the same with an offset and limits.
 fn coefficients(b0: i32, b1: i32, b2: i32, a1: i32, a2: i32, f: u32) -> fixed::coefficients::Biquad
-    ensures { λ r. ⌜ r ≡ words b0 b1 b2 a1 a2 f ⌝ }
+    ensures { λ r. ⌜ r ≡ wordBiquad b0 b1 b2 a1 a2 f ⌝ }
 {
     fixed::coefficients::Biquad {
         b0,
@@ -148,13 +147,8 @@ fn coefficients(b0: i32, b1: i32, b2: i32, a1: i32, a2: i32, f: u32) -> fixed::c
     }
 }
 
-fn bounded(
-    coeff: fixed::coefficients::Biquad,
-    u: i32,
-    min: i32,
-    max: i32,
-) -> fixed::coefficients::BiquadClamp
-    ensures { λ r. ⌜ r ≡ within coeff u min max ⌝ }
+fn bounded(coeff: fixed::coefficients::Biquad, u: i32, min: i32, max: i32) -> fixed::coefficients::BiquadClamp
+    ensures { λ r. ⌜ r ≡ wordClamp coeff u min max ⌝ }
 {
     fixed::coefficients::BiquadClamp { coeff, u, min, max }
 }
@@ -170,8 +164,8 @@ pub extern "C" fn bench_wide(
     xs: &[i32],
     ys: &mut [i32],
 )
-    ensures { λ _. ⌜ now (ys .exit) ≡ unless (lengthsNumber (fractionNumber 0 (words b0 b1 b2 a1 a2 f)) (now (xs .entry)) (now (ys .entry))) (now (ys .entry))
-        (scan (wideOut (words b0 b1 b2 a1 a2 f)) (wideNext (words b0 b1 b2 a1 a2 f)) still (now (xs .entry))) ⌝ }
+    ensures { λ _. ⌜ now (ys .exit) ≡ blockLeftBy (fractionNumber 0) wideOut wideNext (wordBiquad b0 b1 b2 a1 a2 f) zeroWide
+        (now (xs .entry)) (now (ys .entry)) ⌝ }
 {
     let state = DirectForm1Wide {
         x1: 0,
@@ -194,8 +188,8 @@ pub extern "C" fn bench_dither(
     xs: &[i32],
     ys: &mut [i32],
 )
-    ensures { λ _. ⌜ now (ys .exit) ≡ unless (lengthsNumber (fractionNumber 1 (words b0 b1 b2 a1 a2 f)) (now (xs .entry)) (now (ys .entry))) (now (ys .entry))
-        (scan (ditherOut (words b0 b1 b2 a1 a2 f)) (ditherNext (words b0 b1 b2 a1 a2 f)) quiet (now (xs .entry))) ⌝ }
+    ensures { λ _. ⌜ now (ys .exit) ≡ blockLeftBy (fractionNumber 1) ditherOut ditherNext (wordBiquad b0 b1 b2 a1 a2 f) zeroDither
+        (now (xs .entry)) (now (ys .entry)) ⌝ }
 {
     let state = DirectForm1Dither {
         x1: 0,
@@ -222,9 +216,8 @@ pub extern "C" fn bench_wide_clamp(
     xs: &[i32],
     ys: &mut [i32],
 )
-    ensures { λ _. ⌜ now (ys .exit) ≡ unless (lengthsNumber (clampNumber 0 (within (words b0 b1 b2 a1 a2 f) u min max)) (now (xs .entry)) (now (ys .entry))) (now (ys .entry))
-        (scan (wideHeld (within (words b0 b1 b2 a1 a2 f) u min max))
-        (wideOnward (within (words b0 b1 b2 a1 a2 f) u min max)) still (now (xs .entry))) ⌝ }
+    ensures { λ _. ⌜ now (ys .exit) ≡ blockLeftBy (clampNumber 0) wideHeld wideOnward
+        (wordClamp (wordBiquad b0 b1 b2 a1 a2 f) u min max) zeroWide (now (xs .entry)) (now (ys .entry)) ⌝ }
 {
     let state = DirectForm1Wide {
         x1: 0,
@@ -251,9 +244,8 @@ pub extern "C" fn bench_dither_clamp(
     xs: &[i32],
     ys: &mut [i32],
 )
-    ensures { λ _. ⌜ now (ys .exit) ≡ unless (lengthsNumber (clampNumber 1 (within (words b0 b1 b2 a1 a2 f) u min max)) (now (xs .entry)) (now (ys .entry))) (now (ys .entry))
-        (scan (ditherHeld (within (words b0 b1 b2 a1 a2 f) u min max))
-        (ditherOnward (within (words b0 b1 b2 a1 a2 f) u min max)) quiet (now (xs .entry))) ⌝ }
+    ensures { λ _. ⌜ now (ys .exit) ≡ blockLeftBy (clampNumber 1) ditherHeld ditherOnward
+        (wordClamp (wordBiquad b0 b1 b2 a1 a2 f) u min max) zeroDither (now (xs .entry)) (now (ys .entry)) ⌝ }
 {
     let state = DirectForm1Dither {
         x1: 0,

@@ -12,16 +12,15 @@ use unwrap::unwrapper::Unwrapper;
 use unwrap::wrapping::Wrap;
 ghost use mathlib.Core.Path.{_≡_};
 ghost use lib.ListN.{length};
-ghost use Rattle.blocks.specs.Scan.{scan, ends};
-ghost use Rattle.blocks.specs.Blocks.{lengthsNumber, unless};
+ghost use Rattle.blocks.specs.Scan.{scan};
 ghost use Rattle.unwrap.specs.Phases.{clampOut, clampNext, stepOf, grown};
 ghost use Rattle.pll.specs.Loops.{trackedPhase, trackedNext};
-ghost use Rattle.bench_exports.specs.Fresh.{unclamped, unturned, locking, loopOf, configured, unlocked};
+ghost use Rattle.bench_exports.specs.Fresh.{blockLeft, blockLeftBy, zeroClamp, zeroUnwrapper, zeroPll, loopOf, configured, zeroRpll};
 ghost use Rattle.bench_exports.specs.Fresh.{phaseIn, loopOut, loopNext, valueIn, scaleOut, scaleNext};
 
 // No input yet, no clamp.
 fn unclamped_wrap() -> ClampWrap
-    ensures { λ r. ⌜ r ≡ unclamped ⌝ }
+    ensures { λ r. ⌜ r ≡ zeroClamp ⌝ }
 {
     ClampWrap {
         x0: 0,
@@ -32,8 +31,7 @@ fn unclamped_wrap() -> ClampWrap
 // A clamp's block.
 #[no_mangle]
 pub extern "C" fn bench_clamp_wrap(xs: &[i32], ys: &mut [i32])
-    ensures { λ _. ⌜ now (ys .exit) ≡ unless (lengthsNumber 0 (now (xs .entry)) (now (ys .entry))) (now (ys .entry))
-        (scan clampOut clampNext unclamped (now (xs .entry))) ⌝ }
+    ensures { λ _. ⌜ now (ys .exit) ≡ blockLeft 0 clampOut clampNext zeroClamp (now (xs .entry)) (now (ys .entry)) ⌝ }
 {
     unclamped_wrap().block(xs, ys);
 }
@@ -41,8 +39,7 @@ pub extern "C" fn bench_clamp_wrap(xs: &[i32], ys: &mut [i32])
 // An unwrapper's block.
 #[no_mangle]
 pub extern "C" fn bench_unwrapper(xs: &[i32], ys: &mut [i32])
-    ensures { λ _. ⌜ now (ys .exit) ≡ unless (lengthsNumber 0 (now (xs .entry)) (now (ys .entry))) (now (ys .entry))
-        (scan stepOf grown unturned (now (xs .entry))) ⌝ }
+    ensures { λ _. ⌜ now (ys .exit) ≡ blockLeft 0 stepOf grown zeroUnwrapper (now (xs .entry)) (now (ys .entry)) ⌝ }
 {
     Unwrapper { y: 0 }.block(xs, ys);
 }
@@ -57,8 +54,8 @@ fn lead_lag(b0: i32, b1: i32, a1: i32) -> PLL
 // A phase-locked loop's block.
 #[no_mangle]
 pub extern "C" fn bench_pll(b0: i32, b1: i32, a1: i32, xs: &[i32], ys: &mut [i32])
-    ensures { λ _. ⌜ now (ys .exit) ≡ unless (lengthsNumber 0 (now (xs .entry)) (now (ys .entry))) (now (ys .entry))
-        (scan (trackedPhase (loopOf b0 b1 a1)) (trackedNext (loopOf b0 b1 a1)) locking (now (xs .entry))) ⌝ }
+    ensures { λ _. ⌜ now (ys .exit) ≡ blockLeftBy (λ p. 0) trackedPhase trackedNext (loopOf b0 b1 a1) zeroPll
+        (now (xs .entry)) (now (ys .entry)) ⌝ }
 {
     let clamp = unclamped_wrap();
     let state = PLLState {
@@ -103,9 +100,8 @@ fn lock_all(c: RPLLConfig, s: RPLL, xs: &[i32], ys: &mut [i32])
 // A reciprocal loop's steps: every number is a timestamp, and the phases are written.
 #[no_mangle]
 pub extern "C" fn bench_rpll(dt2: u8, frequency: u8, lock: u8, xs: &[i32], ys: &mut [i32])
-    ensures { λ _. ⌜ now (ys .exit) ≡ unless (lengthsNumber 0 (now (xs .entry)) (now (ys .entry))) (now (ys .entry))
-        (scan (loopOut (configured dt2 frequency lock)) (loopNext (configured dt2 frequency lock))
-        unlocked (now (xs .entry))) ⌝ }
+    ensures { λ _. ⌜ now (ys .exit) ≡ blockLeftBy (λ c. 0) loopOut loopNext (configured dt2 frequency lock) zeroRpll
+        (now (xs .entry)) (now (ys .entry)) ⌝ }
 {
     if xs.len() != ys.len() {
         return;
@@ -150,8 +146,7 @@ fn scale_all(hi: i32, shift: u32, xs: &[i32], ys: &mut [i32])
 // `saturating_scale` of each number, all with the same hi and shift.
 #[no_mangle]
 pub extern "C" fn bench_scale(hi: i32, shift: u32, xs: &[i32], ys: &mut [i32])
-    ensures { λ _. ⌜ now (ys .exit) ≡ unless (lengthsNumber 0 (now (xs .entry)) (now (ys .entry))) (now (ys .entry))
-        (scan (scaleOut shift) scaleNext hi (now (xs .entry))) ⌝ }
+    ensures { λ _. ⌜ now (ys .exit) ≡ blockLeft 0 (scaleOut shift) scaleNext hi (now (xs .entry)) (now (ys .entry)) ⌝ }
 {
     if xs.len() != ys.len() {
         return;

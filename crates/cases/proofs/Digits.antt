@@ -7,12 +7,13 @@ use native.Mathlib.Omega.{arith}
 use lib.Dec.{ltb}
 use lib.ListN.{getD}
 use borrow.Author.Tests.{ltb-true, ltb-false}
-use Rattle.cases.specs.Texts.{nibbleOf, byteAt, halfAt}
+use Rattle.cases.specs.Lines.{nibbleOf, byteAt, halfAt}
 
 pub nibble-small : (b : ℕ) → nibbleOf b < 16
 nibble-small b = first (ltb b 48) refl
   where
-    fourth : (t : Bool) → ltb b 103 ≡ t → (u : Bool) → ltb b 97 ≡ u → (v : Bool) → ltb b 58 ≡ v → (w : Bool) → ltb b 48 ≡ w → nibbleOf b < 16
+    fourth : (t : Bool) → ltb b 103 ≡ t → (u : Bool) → ltb b 97 ≡ u → (v : Bool) → ltb b 58 ≡ v
+        → (w : Bool) → ltb b 48 ≡ w → nibbleOf b < 16
     fourth t e u f v g true h = rw h (omega arith)
     fourth t e u f true g false h = let l = ltb-true b 58 g in let k = ltb-false b 48 h in rw (h, g) (omega arith)
     fourth t e true f false g false h = rw (h, g, f) (omega arith)

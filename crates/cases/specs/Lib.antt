@@ -1,2 +1,2 @@
-pub mod Texts
+pub mod Lines
 pub mod Runs

@@ -3,7 +3,8 @@ use words::casts::u64_as_u32;
 use words::unsigned::add_u64;
 use words::unsigned::mul_u64;
 ghost use mathlib.Core.Path.{_≡_};
-ghost use Rattle.cases.specs.Runs.{edgeOf, drawn, spreadOf, digestOf, digestTwo};
+ghost use lib.ListN.{take};
+ghost use Rattle.cases.specs.Runs.{edgeOf, drawn, spreadOf, digestOf, digestTwo, digestAll};
 
 const EDGES: [u32; 8] = [
     0,
@@ -16,10 +17,10 @@ const EDGES: [u32; 8] = [
     0xc000_0000,
 ];
 
-// A word and the generator's state after it.
+// The generator's state after a word, and the word.
 pub struct Drawn {
-    pub value: u32,
     pub state: u64,
+    pub value: u32,
 }
 
 // The next word.
@@ -28,8 +29,8 @@ pub fn draw(state: u64) -> Drawn
 {
     let next = add_u64(mul_u64(state, 6364136223846793005), 1442695040888963407);
     Drawn {
-        value: u64_as_u32(next / 4294967296),
         state: next,
+        value: u64_as_u32(next / 4294967296),
     }
 }
 
@@ -49,8 +50,8 @@ pub fn spread(state: u64) -> Drawn
     let after = first.state;
     if u % 4 == 0 {
         return Drawn {
-            value: edge(u),
             state: after,
+            value: edge(u),
         };
     }
     draw(after)
@@ -68,4 +69,25 @@ pub fn digest_double(d: u64, v: u64) -> u64
     ensures { λ r. ⌜ r ≡ digestTwo d v ⌝ }
 {
     digest(digest(d, u64_as_u32(v / 4294967296)), u64_as_u32(v))
+}
+
+// The digest d grown by each word of a slice.
+pub fn digest_words(d: u64, words: &[u32]) -> u64
+    ensures { λ r. ⌜ r ≡ digestAll d (now (words .entry)) ⌝ }
+{
+    let mut e = d;
+    for i in 0..words.len() {
+        e = digest(e, words[i]);
+    }
+    e
+}
+
+// The digest d grown by the first n words of a slice, or by all where it has fewer.
+pub fn digest_first(d: u64, words: &[u32], n: usize) -> u64
+    ensures { λ r. ⌜ r ≡ digestAll d (take n (now (words .entry))) ⌝ }
+{
+    if words.len() <= n {
+        return digest_words(d, words);
+    }
+    digest_words(d, &words[..n])
 }

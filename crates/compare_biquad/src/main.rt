@@ -8,80 +8,78 @@ use biquad::direct_form2_transposed::DirectForm2Transposed;
 use blocks::Verdict;
 use cases::doubles::from_bits;
 use cases::doubles::to_bits;
+use cases::lines::double;
+use cases::lines::line;
+use cases::lines::report;
+use cases::lines::tally;
+use cases::lines::unlike_double;
 use cases::runs::digest_double;
 use cases::runs::draw;
-use cases::text::double;
-use cases::text::report;
-use cases::text::word;
-ghost use Prim.Native.Nat.{_<_, _≤_};
+use words::unsigned::add_u64;
+ghost use Prim.Native.Nat.{_<_};
 
-const LINES: usize = 600;
+const LINES: u32 = 600;
 
-const WIDTH: usize = 37;
+const WIDTH: u32 = 37;
 
-// The double at word number at.
-fn value(text: &[u8], at: usize) -> f64 {
-    from_bits(double(text, at))
-}
-
-// Whether x has the bits at word number at, and any NaN a NaN's.
-fn is(text: &[u8], at: usize, x: f64) -> bool {
-    to_bits(x) == double(text, at)
-}
-
-fn filter(text: &[u8], at: usize) -> BiquadClamp
-    requires { ⌜ at < 65536 ⌝ }
+// The double at word number at of a line.
+fn value(w: [u32; 40], at: usize) -> f64
+    requires { ⌜ at < 39 ⌝ }
 {
+    from_bits(double(w[at], w[at + 1]))
+}
+
+// 0 where x has the bits at word number at, and any NaN a NaN's, else 1.
+fn other(w: [u32; 40], at: usize, x: f64) -> u64
+    requires { ⌜ at < 39 ⌝ }
+{
+    unlike_double(to_bits(x), double(w[at], w[at + 1]))
+}
+
+fn filter(w: [u32; 40]) -> BiquadClamp {
     BiquadClamp {
-        b0: value(text, at + 1),
-        b1: value(text, at + 3),
-        b2: value(text, at + 5),
-        a1: value(text, at + 7),
-        a2: value(text, at + 9),
-        u: value(text, at + 11),
-        min: value(text, at + 13),
-        max: value(text, at + 15),
+        b0: value(w, 1),
+        b1: value(w, 3),
+        b2: value(w, 5),
+        a1: value(w, 7),
+        a2: value(w, 9),
+        u: value(w, 11),
+        min: value(w, 13),
+        max: value(w, 15),
     }
 }
 
-fn form1(text: &[u8], at: usize) -> DirectForm1
-    requires { ⌜ at < 65536 ⌝ }
-{
+fn form1(w: [u32; 40]) -> DirectForm1 {
     DirectForm1 {
-        x1: value(text, at + 17),
-        x2: value(text, at + 19),
-        y1: value(text, at + 21),
-        y2: value(text, at + 23),
+        x1: value(w, 17),
+        x2: value(w, 19),
+        y1: value(w, 21),
+        y2: value(w, 23),
     }
 }
 
-fn form2(text: &[u8], at: usize) -> DirectForm2Transposed
-    requires { ⌜ at < 65536 ⌝ }
-{
+fn form2(w: [u32; 40]) -> DirectForm2Transposed {
     DirectForm2Transposed {
-        s1: value(text, at + 17),
-        s2: value(text, at + 19),
+        s1: value(w, 17),
+        s2: value(w, 19),
     }
 }
 
 // 1 where the output or the state after differs from the line's.
-fn check(text: &[u8], at: usize, y: f64, s: [f64; 4]) -> u64
-    requires { ⌜ at < 65536 ⌝ }
-    ensures { λ r. ⌜ r ≤ 1 ⌝ }
-{
-    if !is(text, at + 27, y) {
+fn answer_differs(w: [u32; 40], y: f64, s: [f64; 4]) -> u64 {
+    if other(w, 27, y) != 0 {
         return 1;
     }
-    if !is(text, at + 29, s[0]) {
+    if other(w, 29, s[0]) != 0 {
         return 1;
     }
-    if !is(text, at + 31, s[1]) {
+    if other(w, 31, s[1]) != 0 {
         return 1;
     }
-    if !is(text, at + 33, s[2]) {
+    if other(w, 33, s[2]) != 0 {
         return 1;
     }
-    if is(text, at + 35, s[3]) { 0 } else { 1 }
+    other(w, 35, s[3])
 }
 
 fn values1(s: DirectForm1) -> [f64; 4] {
@@ -92,48 +90,36 @@ fn values2(s: DirectForm2Transposed) -> [f64; 4] {
     [s.s1, s.s2, 0.0, 0.0]
 }
 
-fn step1(text: &[u8], at: usize) -> u64
-    requires { ⌜ at < 65536 ⌝ }
-    ensures { λ r. ⌜ r ≤ 1 ⌝ }
-{
-    let r = form1(text, at).process(filter(text, at).coeff(), value(text, at + 25));
+fn step1(w: [u32; 40]) -> u64 {
+    let r = form1(w).process(filter(w).coeff(), value(w, 25));
     let s = r.state;
-    check(text, at, r.y, values1(s))
+    answer_differs(w, r.y, values1(s))
 }
 
-fn clamped1(text: &[u8], at: usize) -> u64
-    requires { ⌜ at < 65536 ⌝ }
-    ensures { λ r. ⌜ r ≤ 1 ⌝ }
-{
-    let r = form1(text, at).process_clamp(filter(text, at), value(text, at + 25));
+fn clamped1(w: [u32; 40]) -> u64 {
+    let r = form1(w).process_clamp(filter(w), value(w, 25));
     let s = r.state;
     let out = r.out;
     let Answer::Value(y) = out else {
         return 1;
     };
-    check(text, at, y, values1(s))
+    answer_differs(w, y, values1(s))
 }
 
-fn step2(text: &[u8], at: usize) -> u64
-    requires { ⌜ at < 65536 ⌝ }
-    ensures { λ r. ⌜ r ≤ 1 ⌝ }
-{
-    let r = form2(text, at).process(filter(text, at).coeff(), value(text, at + 25));
+fn step2(w: [u32; 40]) -> u64 {
+    let r = form2(w).process(filter(w).coeff(), value(w, 25));
     let s = r.state;
-    check(text, at, r.y, values2(s))
+    answer_differs(w, r.y, values2(s))
 }
 
-fn clamped2(text: &[u8], at: usize) -> u64
-    requires { ⌜ at < 65536 ⌝ }
-    ensures { λ r. ⌜ r ≤ 1 ⌝ }
-{
-    let r = form2(text, at).process_clamp(filter(text, at), value(text, at + 25));
+fn clamped2(w: [u32; 40]) -> u64 {
+    let r = form2(w).process_clamp(filter(w), value(w, 25));
     let s = r.state;
     let out = r.out;
     let Answer::Value(y) = out else {
         return 1;
     };
-    check(text, at, y, values2(s))
+    answer_differs(w, y, values2(s))
 }
 
 // A number of size 1/8 to 2 from two drawn words.
@@ -155,7 +141,7 @@ fn fill(xs: &mut [f64], state: u64) -> u64 {
     s
 }
 
-fn feed(d: u64, ys: &[f64]) -> u64 {
+fn digest_all(d: u64, ys: &[f64]) -> u64 {
     let mut e = d;
     for i in 0..ys.len() {
         e = digest_double(e, to_bits(ys[i]));
@@ -164,141 +150,130 @@ fn feed(d: u64, ys: &[f64]) -> u64 {
 }
 
 // The inputs of block number i: drawn, or those of an impulse.
-fn inputs(xs: &mut [f64], state: u64, impulse: bool, i: u32) -> u64 {
+fn inputs(xs: &mut [f64; 16], state: u64, impulse: bool, i: u32) -> u64 {
     if !impulse {
         return fill(xs, state);
     }
-    if xs.len() == 0 {
-        return state;
-    }
     if i == 0 {
         xs[0] = 1.0;
-        return state;
     }
-    xs[0] = 0.0;
     state
 }
 
-// The digest of a run of direct form 1 in blocks of 16, from the seed or of an impulse: the outputs, then the state.
-fn run1(c: Biquad, seed: u32, steps: u32, impulse: bool) -> u64 {
-    let mut xs = [0.0; 16];
-    let mut ys = [0.0; 16];
-    let mut s = seed as u64;
-    let mut d: u64 = 0;
-    let mut t = DirectForm1::default();
-    for i in 0..steps / 16 {
-        s = inputs(&mut xs, s, impulse, i);
-        let r = t.block(c, &xs, &mut ys);
-        let next = r.state;
-        t = next;
-        d = feed(d, &ys);
+// A state of each form, the generator, and the digest of the outputs so far.
+struct Running {
+    form1: DirectForm1,
+    form2: DirectForm2Transposed,
+    draws: u64,
+    digest: u64,
+}
+
+fn with_form1(r: Running, form1: DirectForm1, draws: u64, ys: &[f64]) -> Running {
+    let form2 = r.form2;
+    Running {
+        form1,
+        form2,
+        draws,
+        digest: digest_all(r.digest, ys),
     }
-    feed(d, &values1(t))
 }
 
-// The same with clamp.
-fn run_clamped1(c: BiquadClamp, seed: u32, steps: u32, impulse: bool) -> u64 {
-    let mut xs = [0.0; 16];
-    let mut ys = [0.0; 16];
-    let mut s = seed as u64;
-    let mut d: u64 = 0;
-    let mut t = DirectForm1::default();
-    for i in 0..steps / 16 {
-        s = inputs(&mut xs, s, impulse, i);
-        let r = t.block_clamp(c, &xs, &mut ys);
-        let next = r.state;
-        t = next;
-        d = feed(d, &ys);
+fn with_form2(r: Running, form2: DirectForm2Transposed, draws: u64, ys: &[f64]) -> Running {
+    let form1 = r.form1;
+    Running {
+        form1,
+        form2,
+        draws,
+        digest: digest_all(r.digest, ys),
     }
-    feed(d, &values1(t))
 }
 
-// The digest of a run of direct form 2 transposed.
-fn run2(c: Biquad, seed: u32, steps: u32, impulse: bool) -> u64 {
-    let mut xs = [0.0; 16];
+// A block of these inputs.
+fn blocked(r: Running, code: u32, c: BiquadClamp, xs: &[f64; 16], draws: u64) -> Running {
     let mut ys = [0.0; 16];
-    let mut s = seed as u64;
-    let mut d: u64 = 0;
-    let mut t = DirectForm2Transposed::default();
-    for i in 0..steps / 16 {
-        s = inputs(&mut xs, s, impulse, i);
-        let r = t.block(c, &xs, &mut ys);
-        let next = r.state;
-        t = next;
-        d = feed(d, &ys);
-    }
-    feed(d, &values2(t))
-}
-
-// The same with clamp.
-fn run_clamped2(c: BiquadClamp, seed: u32, steps: u32, impulse: bool) -> u64 {
-    let mut xs = [0.0; 16];
-    let mut ys = [0.0; 16];
-    let mut s = seed as u64;
-    let mut d: u64 = 0;
-    let mut t = DirectForm2Transposed::default();
-    for i in 0..steps / 16 {
-        s = inputs(&mut xs, s, impulse, i);
-        let r = t.block_clamp(c, &xs, &mut ys);
-        let next = r.state;
-        t = next;
-        d = feed(d, &ys);
-    }
-    feed(d, &values2(t))
-}
-
-fn run(text: &[u8], at: usize, code: u32) -> u64
-    requires { ⌜ at < 65536 ⌝ }
-    ensures { λ r. ⌜ r ≤ 1 ⌝ }
-{
-    let c = filter(text, at);
-    let seed = word(text, at + 17);
-    let steps = word(text, at + 18);
-    let impulse = 8 < code;
-    let d = match code {
-        5 | 9 => run1(c.coeff(), seed, steps, impulse),
-        6 | 10 => run_clamped1(c, seed, steps, impulse),
-        7 | 11 => run2(c.coeff(), seed, steps, impulse),
-        _ => run_clamped2(c, seed, steps, impulse),
-    };
-    if d == double(text, at + 19) { 0 } else { 1 }
-}
-
-// 1 where the line at word number at differs from what the proved function gives.
-fn differs(text: &[u8], at: usize, code: u32) -> u64
-    requires { ⌜ at < 65536 ⌝ }
-    ensures { λ r. ⌜ r ≤ 1 ⌝ }
-{
+    let s = r.form1;
+    let t = r.form2;
     match code {
-        1 => step1(text, at),
-        2 => clamped1(text, at),
-        3 => step2(text, at),
-        4 => clamped2(text, at),
-        _ => run(text, at, code),
+        5 | 9 => {
+            let after = s.block(c.coeff(), xs, &mut ys).state;
+            with_form1(r, after, draws, &ys)
+        }
+        6 | 10 => {
+            let after = s.block_clamp(c, xs, &mut ys).state;
+            with_form1(r, after, draws, &ys)
+        }
+        7 | 11 => {
+            let after = t.block(c.coeff(), xs, &mut ys).state;
+            with_form2(r, after, draws, &ys)
+        }
+        _ => {
+            let after = t.block_clamp(c, xs, &mut ys).state;
+            with_form2(r, after, draws, &ys)
+        }
+    }
+}
+
+// Block number i, of 16 inputs.
+fn turn(r: Running, code: u32, c: BiquadClamp, i: u32) -> Running {
+    let mut xs = [0.0; 16];
+    let draws = inputs(&mut xs, r.draws, 8 < code, i);
+    blocked(r, code, c, &xs, draws)
+}
+
+// A run from zero, from the seed or of an impulse.
+fn run(code: u32, c: BiquadClamp, seed: u32, blocks: u32) -> Running {
+    let mut r = Running {
+        form1: DirectForm1::default(),
+        form2: DirectForm2Transposed::default(),
+        draws: seed as u64,
+        digest: 0,
+    };
+    for i in 0..blocks {
+        r = turn(r, code, c, i);
+    }
+    r
+}
+
+// The digest of a run: the outputs, then the state.
+fn long_run(w: [u32; 40]) -> u64 {
+    let r = run(w[0], filter(w), w[17], w[18] / 16);
+    let s = r.form1;
+    let t = r.form2;
+    let d = match w[0] {
+        5 | 6 | 9 | 10 => digest_all(r.digest, &values1(s)),
+        _ => digest_all(r.digest, &values2(t)),
+    };
+    unlike_double(d, double(w[19], w[20]))
+}
+
+// 1 where the line differs from what the proved function gives.
+fn differs(w: [u32; 40]) -> u64 {
+    match w[0] {
+        1 => step1(w),
+        2 => clamped1(w),
+        3 => step2(w),
+        4 => clamped2(w),
+        _ => long_run(w),
     }
 }
 
 // How many cases a line stands for: the steps of a run, else one.
-fn weight(text: &[u8], at: usize, code: u32) -> u64
-    requires { ⌜ at < 65536 ⌝ }
-    ensures { λ r. ⌜ r < 4294967296 ⌝ }
-{
-    if code < 5 {
-        1
-    } else {
-        word(text, at + 18) as u64
+fn weight(w: [u32; 40]) -> u64 {
+    if w[0] < 5 {
+        return 1;
     }
+    double(0, w[18])
 }
 
 // All lines with this code.
 fn compare(text: &[u8], code: u32, name: &[u8]) {
     let mut cases: u64 = 0;
     let mut differ: u64 = 0;
-    for line in 0..LINES {
-        let at = line * WIDTH;
-        if word(text, at) == code {
-            cases += weight(text, at, code);
-            differ += differs(text, at, code);
+    for i in 0..LINES {
+        let w = line(text, i * WIDTH);
+        if w[0] == code {
+            cases = add_u64(cases, weight(w));
+            differ = add_u64(differ, differs(w));
         }
     }
     report(name, cases, differ);
@@ -311,37 +286,25 @@ fn limits(min: f64, max: f64) -> BiquadClamp {
     c
 }
 
-// 1 where the step's number is another.
-fn refuses(out: Answer, number: u32) -> u64
-    ensures { λ r. ⌜ r ≤ 1 ⌝ }
-{
+// The number of a step's refusal, 0 for none.
+fn step_number(out: Answer) -> u32 {
     match out {
-        Answer::Value(_) => same(0, number),
-        Answer::Refused(k) => same(k, number),
+        Answer::Value(_) => 0,
+        Answer::Refused(k) => k,
     }
 }
 
-// 1 where the block's number is another.
-fn blocks(verdict: Verdict, number: u32) -> u64
-    ensures { λ r. ⌜ r ≤ 1 ⌝ }
-{
+// The number of a block's refusal, 0 for none.
+fn block_number(verdict: Verdict) -> u32 {
     match verdict {
-        Verdict::Done => same(0, number),
-        Verdict::Refused(k) => same(k, number),
+        Verdict::Done => 0,
+        Verdict::Refused(k) => k,
     }
 }
 
-fn same(a: u32, b: u32) -> u64
-    ensures { λ r. ⌜ r ≤ 1 ⌝ }
-{
-    if a == b { 0 } else { 1 }
-}
-
-// How many of six calls with these limits have another number than this one, or than 31 where the slices differ in
-// length.
-fn refused(min: f64, max: f64, number: u32) -> u64
-    ensures { λ r. ⌜ r ≤ 6 ⌝ }
-{
+// The count n, and one more for each of six calls with these limits that has another number than this one, or than 31
+// where the slices differ in length.
+fn refused(n: u64, min: f64, max: f64, number: u32) -> u64 {
     let c = limits(min, max);
     let s = DirectForm1::default();
     let t = DirectForm2Transposed::default();
@@ -353,23 +316,24 @@ fn refused(min: f64, max: f64, number: u32) -> u64
     let e = t.block_clamp(c, &xs, &mut ys).verdict;
     let f = s.block_clamp(c, &xs[..3], &mut ys).verdict;
     let g = t.block_clamp(c, &xs[..3], &mut ys).verdict;
-    refuses(a, number)
-        + refuses(b, number)
-        + blocks(d, number)
-        + blocks(e, number)
-        + blocks(f, 31)
-        + blocks(g, 31)
+    let steps = tally(tally(n, step_number(a), number), step_number(b), number);
+    let blocks = tally(
+        tally(steps, block_number(d), number),
+        block_number(e),
+        number,
+    );
+    tally(tally(blocks, block_number(f), 31), block_number(g), 31)
 }
 
 // Limits in order, equal, two zeros, crossed, and a NaN on either side.
 fn refusals() -> u64 {
     let nan = 0.0 / 0.0;
-    refused(-1.0, 1.0, 0)
-        + refused(0.5, 0.5, 0)
-        + refused(0.0, -0.0, 0)
-        + refused(1.0, 0.5, 41)
-        + refused(nan, 1.0, 41)
-        + refused(-1.0, nan, 41)
+    let ordered = refused(0, -1.0, 1.0, 0);
+    let equal = refused(ordered, 0.5, 0.5, 0);
+    let zeros = refused(equal, 0.0, -0.0, 0);
+    let crossed = refused(zeros, 1.0, 0.5, 41);
+    let below = refused(crossed, nan, 1.0, 41);
+    refused(below, -1.0, nan, 41)
 }
 
 fn main() {

@@ -6,154 +6,133 @@ use biquad::biquad_clamp::BiquadClamp;
 use biquad::pair::Pair;
 use cases::doubles::from_bits;
 use cases::doubles::to_bits;
-use cases::text::double;
-use cases::text::report;
-use cases::text::word;
+use cases::lines::double;
+use cases::lines::line;
+use cases::lines::report;
+use cases::lines::unlike_double;
+use words::unsigned::add_u64;
 ghost use Prim.Native.Nat.{_<_, _≤_};
 
-const LINES: usize = 1000;
+const LINES: u32 = 1000;
 
-const WIDTH: usize = 23;
+const WIDTH: u32 = 23;
 
-// The double at word number at.
-fn value(text: &[u8], at: usize) -> f64 {
-    from_bits(double(text, at))
+// The double at word number at of a line.
+fn value(w: [u32; 40], at: usize) -> f64
+    requires { ⌜ at < 39 ⌝ }
+{
+    from_bits(double(w[at], w[at + 1]))
 }
 
 // 1 where x has other bits than those at word number at; any NaN is one.
-fn other(text: &[u8], at: usize, x: f64) -> u64
+fn other(w: [u32; 40], at: usize, x: f64) -> u64
+    requires { ⌜ at < 39 ⌝ }
     ensures { λ r. ⌜ r ≤ 1 ⌝ }
 {
-    if to_bits(x) == double(text, at) { 0 } else { 1 }
+    unlike_double(to_bits(x), double(w[at], w[at + 1]))
 }
 
-fn pair(text: &[u8], at: usize) -> Pair
-    requires { ⌜ at < 65536 ⌝ }
+fn pair(w: [u32; 40], at: usize) -> Pair
+    requires { ⌜ at < 36 ⌝ }
 {
-    if word(text, at) == 0 {
-        return Pair::Real(value(text, at + 1), value(text, at + 3));
+    if w[at] == 0 {
+        return Pair::Real(value(w, at + 1), value(w, at + 3));
     }
-    Pair::Complex(value(text, at + 1), value(text, at + 3))
+    Pair::Complex(value(w, at + 1), value(w, at + 3))
 }
 
-fn coefficients(text: &[u8], at: usize) -> Biquad
-    requires { ⌜ at < 65536 ⌝ }
-{
+fn coefficients(w: [u32; 40]) -> Biquad {
     Biquad {
-        b0: value(text, at),
-        b1: value(text, at + 2),
-        b2: value(text, at + 4),
-        a1: value(text, at + 6),
-        a2: value(text, at + 8),
+        b0: value(w, 1),
+        b1: value(w, 3),
+        b2: value(w, 5),
+        a1: value(w, 7),
+        a2: value(w, 9),
     }
 }
 
-// 1 where one of the coefficients has other bits.
-fn others(text: &[u8], at: usize, c: Biquad) -> u64
-    requires { ⌜ at < 65536 ⌝ }
-    ensures { λ r. ⌜ r ≤ 1 ⌝ }
+// How many of the coefficients have other bits than those at word number at.
+fn others(w: [u32; 40], at: usize, c: Biquad) -> u64
+    requires { ⌜ at < 31 ⌝ }
+    ensures { λ r. ⌜ r ≤ 5 ⌝ }
 {
-    let n = other(text, at, c.b0)
-        + other(text, at + 2, c.b1)
-        + other(text, at + 4, c.b2)
-        + other(text, at + 6, c.a1)
-        + other(text, at + 8, c.a2);
-    if n == 0 { 0 } else { 1 }
+    other(w, at, c.b0)
+        + other(w, at + 2, c.b1)
+        + other(w, at + 4, c.b2)
+        + other(w, at + 6, c.a1)
+        + other(w, at + 8, c.a2)
 }
 
-fn polynomial(text: &[u8], at: usize) -> u64
-    requires { ⌜ at < 65000 ⌝ }
-    ensures { λ r. ⌜ r ≤ 1 ⌝ }
-{
-    let c = pair(text, at + 1).coeff();
-    if other(text, at + 6, c.0) == 1 {
-        return 1;
-    }
-    other(text, at + 8, c.1)
+fn polynomial(w: [u32; 40]) -> u64 {
+    let c = pair(w, 1).coeff();
+    other(w, 6, c.0) + other(w, 8, c.1)
 }
 
-fn zpk(text: &[u8], at: usize) -> u64
-    requires { ⌜ at < 65000 ⌝ }
-    ensures { λ r. ⌜ r ≤ 1 ⌝ }
-{
-    let c = Biquad::from_zpk(pair(text, at + 1), pair(text, at + 6), value(text, at + 11));
-    others(text, at + 13, c)
+fn zpk(w: [u32; 40]) -> u64 {
+    let c = Biquad::from_zpk(pair(w, 1), pair(w, 6), value(w, 11));
+    others(w, 13, c)
 }
 
-fn gain(text: &[u8], at: usize) -> u64
-    requires { ⌜ at < 65000 ⌝ }
-    ensures { λ r. ⌜ r ≤ 1 ⌝ }
-{
-    other(text, at + 11, coefficients(text, at + 1).forward_gain())
+fn gain(w: [u32; 40]) -> u64 {
+    other(w, 11, coefficients(w).forward_gain())
 }
 
-fn offset(text: &[u8], at: usize) -> u64
-    requires { ⌜ at < 65000 ⌝ }
-    ensures { λ r. ⌜ r ≤ 1 ⌝ }
-{
-    let mut c = BiquadClamp::from(coefficients(text, at + 1));
-    c.u = value(text, at + 11);
+fn offset(w: [u32; 40]) -> u64 {
+    let mut c = BiquadClamp::from(coefficients(w));
+    c.u = value(w, 11);
     let out = c.input_offset();
     let Answer::Value(v) = out else {
         return 1;
     };
-    other(text, at + 13, v)
+    other(w, 13, v)
 }
 
-fn set_offset(text: &[u8], at: usize) -> u64
-    requires { ⌜ at < 65000 ⌝ }
-    ensures { λ r. ⌜ r ≤ 1 ⌝ }
-{
-    let c = BiquadClamp::from(coefficients(text, at + 1));
-    let d = c.set_input_offset(value(text, at + 11));
-    other(text, at + 13, d.u)
+fn set_offset(w: [u32; 40]) -> u64 {
+    let c = BiquadClamp::from(coefficients(w));
+    let d = c.set_input_offset(value(w, 11));
+    other(w, 13, d.u)
 }
 
-fn constant(text: &[u8], at: usize, c: Biquad) -> u64
-    requires { ⌜ at < 65000 ⌝ }
-    ensures { λ r. ⌜ r ≤ 1 ⌝ }
-{
+fn constant(w: [u32; 40], c: Biquad) -> u64 {
     let open = BiquadClamp::from(c);
-    let n = other(text, at + 11, open.u)
-        + other(text, at + 13, open.min)
-        + other(text, at + 15, open.max)
-        + others(text, at + 1, open.coeff());
-    if n == 0 { 0 } else { 1 }
+    others(w, 1, open.coeff())
+        + other(w, 11, open.u)
+        + other(w, 13, open.min)
+        + other(w, 15, open.max)
 }
 
-fn proportional(text: &[u8], at: usize) -> u64
-    requires { ⌜ at < 65000 ⌝ }
-    ensures { λ r. ⌜ r ≤ 1 ⌝ }
-{
-    others(text, at + 3, Biquad::proportional(value(text, at + 1)))
+fn proportional(w: [u32; 40]) -> u64 {
+    others(w, 3, Biquad::proportional(value(w, 1)))
 }
 
-// 1 where the line at word number at differs from what the proved function gives.
-fn differs(text: &[u8], at: usize, code: u32) -> u64
-    requires { ⌜ at < 65000 ⌝ }
-    ensures { λ r. ⌜ r ≤ 1 ⌝ }
-{
-    match code {
-        1 => polynomial(text, at),
-        2 => zpk(text, at),
-        3 => gain(text, at),
-        4 => offset(text, at),
-        5 => set_offset(text, at),
-        6 => constant(text, at, Biquad::IDENTITY),
-        7 => constant(text, at, Biquad::HOLD),
-        _ => proportional(text, at),
+// How many numbers of the line differ from what the proved function gives.
+fn differing(w: [u32; 40]) -> u64 {
+    match w[0] {
+        1 => polynomial(w),
+        2 => zpk(w),
+        3 => gain(w),
+        4 => offset(w),
+        5 => set_offset(w),
+        6 => constant(w, Biquad::IDENTITY),
+        7 => constant(w, Biquad::HOLD),
+        _ => proportional(w),
     }
+}
+
+// 1 where the line differs.
+fn differs(w: [u32; 40]) -> u64 {
+    if differing(w) == 0 { 0 } else { 1 }
 }
 
 // All lines with this code.
 fn compare(text: &[u8], code: u32, name: &[u8]) {
     let mut cases: u64 = 0;
     let mut differ: u64 = 0;
-    for line in 0..LINES {
-        let at = line * WIDTH;
-        if word(text, at) == code {
-            cases += 1;
-            differ += differs(text, at, code);
+    for i in 0..LINES {
+        let w = line(text, i * WIDTH);
+        if w[0] == code {
+            cases = add_u64(cases, 1);
+            differ = add_u64(differ, differs(w));
         }
     }
     report(name, cases, differ);

@@ -1,11 +1,16 @@
 // Runs the proved decimator and interpolator over the Rust's stored answers (oracle/README.md, cic) and prints what
 // differs: short runs by steps with the whole state after each, long runs by blocks.
 use blocks::Verdict;
+use cases::lines::double;
+use cases::lines::line;
+use cases::lines::report;
+use cases::lines::size;
+use cases::lines::tally;
+use cases::lines::unlike;
+use cases::lines::unlike_double;
 use cases::runs::digest;
+use cases::runs::digest_first;
 use cases::runs::spread;
-use cases::text::double;
-use cases::text::report;
-use cases::text::word;
 use cic::questions::Fitting;
 use cic::questions::Interpolated;
 use cic::questions::Told;
@@ -18,97 +23,103 @@ use cic::steps::Sample;
 use words::casts::i32_as_u32;
 use words::casts::u32_as_i32;
 use words::casts::u64_as_u32;
-ghost use Prim.Native.Nat.{_<_, _≤_};
+use words::unsigned::add_u64;
 
-const LINES: usize = 1800;
+const LINES: u32 = 1800;
 
-const WIDTH: usize = 12;
+const WIDTH: u32 = 12;
 // The inputs of a block in a long run.
 const BLOCK: usize = 250;
 // No later rate.
 const NONE: u32 = 0xffff_ffff;
 
+// ---- what the decimator answers
+
+// The number of a step's refusal, 0 for none.
+fn output_number(out: Out) -> u32 {
+    match out {
+        Out::Given(_, _) => 0,
+        Out::Nothing => 0,
+        Out::Refused(k) => k,
+    }
+}
+
+// The digest grown by 1 and the output, by 0 where there is none, or by the number of a refusal.
+fn digest_output(d: u64, out: Out) -> u64 {
+    match out {
+        Out::Given(y, _) => digest(digest(d, 1), i32_as_u32(y)),
+        Out::Nothing => digest(d, 0),
+        Out::Refused(k) => digest(d, k),
+    }
+}
+
+// The number of a block's refusal, 0 for none.
+fn wrote_number(wrote: Wrote) -> u32 {
+    match wrote {
+        Wrote::Outputs(_, _) => 0,
+        Wrote::Refused(k) => k,
+    }
+}
+
+// ---- runs
+
+// Draws a slice full of words; the generator's state after them.
+fn fill(xs: &mut [i32], first: u64) -> u64 {
+    let mut draws = first;
+    for i in 0..xs.len() {
+        let r = spread(draws);
+        let v = u32_as_i32(r.value);
+        xs[i] = v;
+        draws = r.state;
+    }
+    draws
+}
+
 // A filter, the generator that feeds it, and the digest of what came out.
-struct Run {
+struct Running {
     state: Cic,
     draws: u64,
     digest: u64,
 }
 
-struct Eight {
-    cells: [i32; 8],
-    draws: u64,
-}
-
-struct Many {
-    cells: [i32; 64],
-    draws: u64,
-}
-
-fn draw_eight(first: u64) -> Eight {
-    let mut cells = [0i32; 8];
-    let mut draws = first;
-    for i in 0..8 {
-        let r = spread(draws);
-        let v = u32_as_i32(r.value);
-        cells[i] = v;
-        draws = r.state;
-    }
-    Eight { cells, draws }
-}
-
-fn draw_many(first: u64) -> Many {
-    let mut cells = [0i32; 64];
-    let mut draws = first;
-    for i in 0..64 {
-        let r = spread(draws);
-        let v = u32_as_i32(r.value);
-        cells[i] = v;
-        draws = r.state;
-    }
-    Many { cells, draws }
-}
-
 // The state of a line, resumed from its drawn cells.
-fn started(text: &[u8], at: usize) -> Run
-    requires { ⌜ at < 65536 ⌝ }
-{
-    let order = word(text, at + 1) as usize;
-    let delay = word(text, at + 2) as usize;
-    let ints = draw_eight(word(text, at + 5) as u64);
-    let combs = draw_many(ints.draws);
-    let hold = spread(combs.draws);
-    let a = ints.cells;
-    let b = combs.cells;
+fn started(w: [u32; 40]) -> Running {
+    let mut a = [0i32; 8];
+    let mut b = [0i32; 64];
+    let drawn = fill(&mut a, double(0, w[5]));
+    let hold = spread(fill(&mut b, drawn));
     let made = Cic::resume(
-        order,
-        delay,
-        word(text, at + 3),
+        size(w[1]),
+        size(w[2]),
+        w[3],
         a,
         b,
         u32_as_i32(hold.value),
-        word(text, at + 4),
+        w[4],
     );
     let state = made.state;
-    Run {
+    Running {
         state,
         draws: hold.state,
         digest: 0,
     }
 }
 
-fn feed_eight(d: u64, cells: [i32; 8], n: usize) -> u64 {
-    let mut e = d;
-    for i in 0..8 {
-        let v = cells[i];
-        if i < n {
-            e = digest(e, i32_as_u32(v));
-        }
-    }
-    e
+fn eight_words(a: [i32; 8]) -> [u32; 8] {
+    [
+        i32_as_u32(a[0]),
+        i32_as_u32(a[1]),
+        i32_as_u32(a[2]),
+        i32_as_u32(a[3]),
+        i32_as_u32(a[4]),
+        i32_as_u32(a[5]),
+        i32_as_u32(a[6]),
+        i32_as_u32(a[7]),
+    ]
 }
 
-fn feed_many(d: u64, cells: [i32; 64], n: usize, m: usize) -> u64 {
+// The digest grown by the first m cells of each of the first n lines.
+fn digest_lines(d: u64, cells: [i32; 64], n: usize, m: usize) -> u64 {
     let mut e = d;
     for at in 0..64 {
         let v = cells[at];
@@ -122,49 +133,42 @@ fn feed_many(d: u64, cells: [i32; 64], n: usize, m: usize) -> u64 {
 }
 
 // Countdown, hold, the used integrators, the used cells of each line.
-fn feed_state(d: u64, s: Cic) -> u64 {
+fn digest_state(d: u64, s: Cic) -> u64 {
     let a = s.integrators;
     let b = s.combs;
-    let e = digest(digest(d, s.countdown), i32_as_u32(s.hold));
-    feed_many(feed_eight(e, a, s.order), b, s.order, s.delay)
+    let held = digest(digest(d, s.countdown), i32_as_u32(s.hold));
+    let summed = digest_first(held, &eight_words(a), s.order);
+    digest_lines(summed, b, s.order, s.delay)
 }
 
-fn rated(r: Run, rate: u32) -> Run {
+fn rated(r: Running, rate: u32) -> Running {
     if rate == NONE {
         return r;
     }
     let s = r.state;
     let made = s.set_rate(rate);
     let state = made.state;
-    Run {
+    Running {
         state,
         draws: r.draws,
         digest: r.digest,
     }
 }
 
-fn feed_out(d: u64, out: Out) -> u64 {
-    match out {
-        Out::Given(y, _) => digest(digest(d, 1), i32_as_u32(y)),
-        Out::Nothing => digest(d, 0),
-        Out::Refused(k) => digest(d, k),
-    }
-}
-
-fn step_down(r: Run) -> Run {
+fn decimate_turn(r: Running) -> Running {
     let x = spread(r.draws);
     let s = r.state;
     let t = s.decimate(u32_as_i32(x.value));
     let state = t.state;
     let out = t.out;
-    Run {
+    Running {
         state,
         draws: x.state,
-        digest: feed_state(feed_out(r.digest, out), state),
+        digest: digest_state(digest_output(r.digest, out), state),
     }
 }
 
-fn feed_value(d: u64, out: Interpolated) -> u64 {
+fn digest_value(d: u64, out: Interpolated) -> u64 {
     match out {
         Interpolated::Value(y) => digest(digest(d, 1), i32_as_u32(y)),
         Interpolated::Refused(k) => digest(d, k),
@@ -180,64 +184,29 @@ fn offered(due: bool, x: i32) -> Sample {
     }
 }
 
-fn step_up(r: Run) -> Run {
+fn interpolate_turn(r: Running) -> Running {
     let x = spread(r.draws);
     let s = r.state;
     let t = s.interpolate(offered(s.tick(), u32_as_i32(x.value)));
     let state = t.state;
     let out = t.out;
-    Run {
+    Running {
         state,
         draws: x.state,
-        digest: feed_state(feed_value(r.digest, out), state),
+        digest: digest_state(digest_value(r.digest, out), state),
     }
-}
-
-fn run_steps(first: Run, steps: u32, later: u32, up: bool) -> u64 {
-    let mut r = first;
-    let mut i: u32 = 0;
-    while i < steps {
-        if i == steps / 2 {
-            r = rated(r, later);
-        }
-        if up {
-            r = step_up(r);
-        } else {
-            r = step_down(r);
-        }
-        i += 1;
-    }
-    r.digest
-}
-
-// 250 inputs of a long run.
-struct Inputs {
-    xs: [i32; 250],
-    draws: u64,
-}
-
-fn drawn_inputs(first: u64) -> Inputs {
-    let mut xs = [0i32; 250];
-    let mut draws = first;
-    for i in 0..250 {
-        let r = spread(draws);
-        let v = u32_as_i32(r.value);
-        xs[i] = v;
-        draws = r.state;
-    }
-    Inputs { xs, draws }
 }
 
 // What 250 steps from this countdown feed: 1 and the next output where one falls, else 0.
-fn feed_outputs(d: u64, ys: [i32; 250], countdown: u32, rate: u32) -> u64 {
+fn digest_outputs(d: u64, ys: &[i32; BLOCK], countdown: u32, rate: u32) -> u64 {
     let mut e = d;
     let mut c = countdown;
     let mut k: usize = 0;
     for _ in 0..BLOCK {
         if c == 0 {
-            let y = ys[k];
-            e = digest(digest(e, 1), i32_as_u32(y));
-            k += 1;
+            let next = k % BLOCK;
+            e = digest(digest(e, 1), i32_as_u32(ys[next]));
+            k = next + 1;
             c = rate;
         } else {
             e = digest(e, 0);
@@ -247,90 +216,115 @@ fn feed_outputs(d: u64, ys: [i32; 250], countdown: u32, rate: u32) -> u64 {
     e
 }
 
-fn block_down(r: Run) -> Run {
-    let given = drawn_inputs(r.draws);
-    let xs = given.xs;
-    let mut ys = [0i32; 250];
+fn decimate_block_turn(r: Running) -> Running {
+    let mut xs = [0i32; BLOCK];
+    let mut ys = [0i32; BLOCK];
+    let draws = fill(&mut xs, r.draws);
     let s = r.state;
     let t = s.decimate_block(&xs, &mut ys);
     let state = t.state;
     let wrote = t.wrote;
-    let d = match wrote {
-        Wrote::Outputs(_, _) => feed_outputs(r.digest, ys, s.countdown, s.rate),
-        Wrote::Refused(k) => digest(r.digest, k),
+    let k = wrote_number(wrote);
+    let d = if k == 0 {
+        digest_outputs(r.digest, &ys, s.countdown, s.rate)
+    } else {
+        digest(r.digest, k)
     };
-    Run {
+    Running {
         state,
-        draws: given.draws,
+        draws,
         digest: d,
     }
 }
 
-// The samples that are due among 250 drawn ones, at the front.
-fn due(xs: [i32; 250], countdown: u32, rate: u32) -> [i32; 250] {
-    let mut zs = [0i32; 250];
+// The samples that are due among 250 drawn ones, moved to the front.
+fn due(xs: &mut [i32; BLOCK], countdown: u32, rate: u32) {
     let mut c = countdown;
     let mut k: usize = 0;
-    for i in 0..250 {
+    for i in 0..BLOCK {
         let x = xs[i];
         if c == 0 {
-            zs[k] = x;
-            k += 1;
+            let next = k % BLOCK;
+            xs[next] = x;
+            k = next + 1;
             c = rate;
         } else {
             c -= 1;
         }
     }
-    zs
 }
 
-fn feed_all(d: u64, ys: [i32; 250]) -> u64 {
-    let mut e = d;
-    for i in 0..250 {
-        let y = ys[i];
-        e = digest(digest(e, 1), i32_as_u32(y));
+fn read_number(read: Read) -> u32 {
+    match read {
+        Read::Inputs(_) => 0,
+        Read::Refused(k) => k,
     }
-    e
 }
 
-fn block_up(r: Run) -> Run {
-    let given = drawn_inputs(r.draws);
+// A block on these samples.
+fn interpolate_due(r: Running, xs: &[i32; BLOCK], draws: u64) -> Running {
+    let mut ys = [0i32; BLOCK];
     let s = r.state;
-    let xs = given.xs;
-    let zs = due(xs, s.countdown, s.rate);
-    let mut ys = [0i32; 250];
-    let t = s.interpolate_block(&zs, &mut ys);
+    let t = s.interpolate_block(xs, &mut ys);
     let state = t.state;
     let read = t.read;
-    let d = match read {
-        Read::Inputs(_) => feed_all(r.digest, ys),
-        Read::Refused(k) => digest(r.digest, k),
+    let k = read_number(read);
+    let d = if k == 0 {
+        digest_outputs(r.digest, &ys, 0, 0)
+    } else {
+        digest(r.digest, k)
     };
-    Run {
+    Running {
         state,
-        draws: given.draws,
+        draws,
         digest: d,
     }
 }
 
-fn run_blocks(first: Run, steps: u32, later: u32, up: bool) -> u64 {
-    let blocks = steps / 250;
-    let mut r = first;
-    let mut i: u32 = 0;
-    while i < blocks {
-        if i == blocks / 2 {
-            r = rated(r, later);
-        }
-        if up {
-            r = block_up(r);
-        } else {
-            r = block_down(r);
-        }
-        i += 1;
-    }
-    let state = r.state;
-    feed_state(r.digest, state)
+fn interpolate_block_turn(r: Running) -> Running {
+    let mut xs = [0i32; BLOCK];
+    let draws = fill(&mut xs, r.draws);
+    let s = r.state;
+    due(&mut xs, s.countdown, s.rate);
+    interpolate_due(r, &xs, draws)
 }
+
+fn turn(r: Running, code: u32) -> Running {
+    match code {
+        1 => decimate_turn(r),
+        2 => interpolate_turn(r),
+        3 => decimate_block_turn(r),
+        _ => interpolate_block_turn(r),
+    }
+}
+
+// The rate that is set before turn number i: in the middle the later one.
+fn rate_at(i: u32, turns: u32, later: u32) -> u32 {
+    if i == turns / 2 { later } else { NONE }
+}
+
+fn run(code: u32, first: Running, turns: u32, later: u32) -> Running {
+    let mut r = first;
+    for i in 0..turns {
+        r = turn(rated(r, rate_at(i, turns, later)), code);
+    }
+    r
+}
+
+// A run by steps, whose digests have the whole state after each.
+fn steps_run(w: [u32; 40]) -> u64 {
+    let r = run(w[0], started(w), w[6], w[7]);
+    unlike_double(r.digest, double(w[8], w[9]))
+}
+
+// A run by blocks: the outputs, then the state.
+fn blocks_run(w: [u32; 40]) -> u64 {
+    let r = run(w[0], started(w), w[6] / 250, w[7]);
+    let state = r.state;
+    unlike_double(digest_state(r.digest, state), double(w[8], w[9]))
+}
+
+// ---- questions
 
 fn told(t: Told) -> u64 {
     match t {
@@ -347,133 +341,85 @@ fn value(v: Interpolated) -> u32 {
 }
 
 // The gain modulo 2^32, as the Rust has it; the exact one is refused with 14 above 2^63 - 1 (a difference).
-fn gain_differs(t: Told, wrapped: u32) -> u64
-    ensures { λ r. ⌜ r ≤ 1 ⌝ }
-{
+fn gain_differs(t: Told, wrapped: u32) -> u64 {
     match t {
-        Told::Number(v) => { if u64_as_u32(v) == wrapped { 0 } else { 1 } }
-        Told::Refused(k) => { if k == 14 { 0 } else { 1 } }
+        Told::Number(v) => unlike(u64_as_u32(v), wrapped),
+        Told::Refused(k) => unlike(k, 14),
     }
 }
 
-fn questions(text: &[u8], at: usize) -> u64
-    requires { ⌜ at < 65536 ⌝ }
-    ensures { λ r. ⌜ r ≤ 1 ⌝ }
-{
-    let r = started(text, at);
+fn questions(w: [u32; 40]) -> u64 {
+    let r = started(w);
     let s = r.state;
     let tick = if s.tick() { 1 } else { 0 };
-    if tick != word(text, at + 6) {
+    if tick != w[6] {
         return 1;
     }
-    if i32_as_u32(s.get_decimate()) != word(text, at + 7) {
+    if i32_as_u32(s.get_decimate()) != w[7] {
         return 1;
     }
-    if value(s.get_interpolate()) != word(text, at + 8) {
+    if value(s.get_interpolate()) != w[8] {
         return 1;
     }
-    if told(s.gain_log2()) != word(text, at + 10) as u64 {
+    if told(s.gain_log2()) != double(0, w[10]) {
         return 1;
     }
-    if told(s.response_length()) != word(text, at + 11) as u64 {
+    if told(s.response_length()) != double(0, w[11]) {
         return 1;
     }
-    gain_differs(s.gain(), word(text, at + 9))
+    gain_differs(s.gain(), w[9])
 }
 
-fn settle(r: Run, x: u32) -> u64 {
+fn settle(w: [u32; 40]) -> u64 {
+    let r = started(w);
     let s = r.state;
-    let made = s.settle_interpolate(u32_as_i32(x));
+    let made = s.settle_interpolate(u32_as_i32(w[6]));
     let state = made.state;
-    feed_state(0, state)
+    unlike_double(digest_state(0, state), double(w[7], w[8]))
 }
 
-fn clear(r: Run) -> u64 {
+fn clear(w: [u32; 40]) -> u64 {
+    let r = started(w);
     let s = r.state;
     let made = s.clear();
     let state = made.state;
-    feed_state(0, state)
+    unlike_double(digest_state(0, state), double(w[7], w[8]))
 }
 
-fn ran(text: &[u8], at: usize, code: u32) -> u64
-    requires { ⌜ at < 65536 ⌝ }
-{
-    let r = started(text, at);
-    let steps = word(text, at + 6);
-    let later = word(text, at + 7);
-    match code {
-        1 => run_steps(r, steps, later, false),
-        2 => run_steps(r, steps, later, true),
-        3 => run_blocks(r, steps, later, false),
-        4 => run_blocks(r, steps, later, true),
-        _ => 0,
+// 1 where the line differs from what the proved functions give.
+fn differs(w: [u32; 40]) -> u64 {
+    match w[0] {
+        1 | 2 => steps_run(w),
+        3 | 4 => blocks_run(w),
+        5 => questions(w),
+        6 => settle(w),
+        _ => clear(w),
     }
-}
-
-// 1 where the line at word number at differs from what the proved functions give.
-fn differs(text: &[u8], at: usize, code: u32) -> u64
-    requires { ⌜ at < 65536 ⌝ }
-    ensures { λ r. ⌜ r ≤ 1 ⌝ }
-{
-    if code == 5 {
-        return questions(text, at);
-    }
-    if code == 6 {
-        let d = settle(started(text, at), word(text, at + 6));
-        return unlike(d, double(text, at + 7));
-    }
-    if code == 7 {
-        let d = clear(started(text, at));
-        return unlike(d, double(text, at + 7));
-    }
-    let d = ran(text, at, code);
-    unlike(d, double(text, at + 8))
-}
-
-fn unlike(a: u64, b: u64) -> u64
-    ensures { λ r. ⌜ r ≤ 1 ⌝ }
-{
-    if a == b { 0 } else { 1 }
 }
 
 // How many cases a line stands for: the steps of a run, else one.
-fn weight(text: &[u8], at: usize, code: u32) -> u64
-    requires { ⌜ at < 65536 ⌝ }
-    ensures { λ r. ⌜ r < 4294967296 ⌝ }
-{
-    if code < 5 {
-        word(text, at + 6) as u64
-    } else {
-        1
+fn weight(w: [u32; 40]) -> u64 {
+    if w[0] < 5 {
+        return double(0, w[6]);
     }
+    1
 }
 
 // All lines with this code.
 fn compare(text: &[u8], code: u32, name: &[u8]) {
     let mut cases: u64 = 0;
     let mut differ: u64 = 0;
-    for line in 0..LINES {
-        let at = line * WIDTH;
-        if word(text, at) == code {
-            cases += weight(text, at, code);
-            differ += differs(text, at, code);
+    for i in 0..LINES {
+        let w = line(text, i * WIDTH);
+        if w[0] == code {
+            cases = add_u64(cases, weight(w));
+            differ = add_u64(differ, differs(w));
         }
     }
     report(name, cases, differ);
 }
 
 // ---- refusals: each number at its boundary, and a neighbour that is accepted
-
-// n and one more where what was found isn't what document 01 says.
-fn tally(n: u64, found: u32, said: u32) -> u64 {
-    if found == said {
-        return n;
-    }
-    if n < 1000 {
-        return n + 1;
-    }
-    n
-}
 
 fn number(v: Verdict) -> u32 {
     match v {
@@ -574,17 +520,13 @@ fn asked() -> u64 {
     n
 }
 
-fn stepped(s: Cic) -> u32 {
+fn decimate_number(s: Cic) -> u32 {
     let t = s.decimate(1);
     let out = t.out;
-    match out {
-        Out::Given(_, _) => 0,
-        Out::Nothing => 0,
-        Out::Refused(k) => k,
-    }
+    output_number(out)
 }
 
-fn lifted(s: Cic, x: Sample) -> u32 {
+fn interpolate_number(s: Cic, x: Sample) -> u32 {
     let t = s.interpolate(x);
     let out = t.out;
     match out {
@@ -595,31 +537,41 @@ fn lifted(s: Cic, x: Sample) -> u32 {
 
 fn single_steps() -> u64 {
     let mut n: u64 = 0;
-    n = tally(n, stepped(state(8, 8, 65535, 65535, 64)), 0);
-    n = tally(n, stepped(state(9, 1, 0, 0, 0)), 10);
-    n = tally(n, lifted(state(1, 1, 1, 0, 0), Sample::Given(1)), 0);
-    n = tally(n, lifted(state(1, 1, 1, 1, 0), Sample::Given(1)), 21);
-    n = tally(n, lifted(state(1, 1, 1, 1, 0), Sample::Missing), 0);
-    n = tally(n, lifted(state(1, 1, 1, 0, 0), Sample::Missing), 22);
+    n = tally(n, decimate_number(state(8, 8, 65535, 65535, 64)), 0);
+    n = tally(n, decimate_number(state(9, 1, 0, 0, 0)), 10);
+    n = tally(
+        n,
+        interpolate_number(state(1, 1, 1, 0, 0), Sample::Given(1)),
+        0,
+    );
+    n = tally(
+        n,
+        interpolate_number(state(1, 1, 1, 1, 0), Sample::Given(1)),
+        21,
+    );
+    n = tally(
+        n,
+        interpolate_number(state(1, 1, 1, 1, 0), Sample::Missing),
+        0,
+    );
+    n = tally(
+        n,
+        interpolate_number(state(1, 1, 1, 0, 0), Sample::Missing),
+        22,
+    );
     n
 }
 
-fn down(s: Cic, input: &[i32], out: &mut [i32]) -> u32 {
+fn decimate_block_number(s: Cic, input: &[i32], out: &mut [i32]) -> u32 {
     let r = s.decimate_block(input, out);
     let wrote = r.wrote;
-    match wrote {
-        Wrote::Outputs(_, _) => 0,
-        Wrote::Refused(k) => k,
-    }
+    wrote_number(wrote)
 }
 
-fn up(s: Cic, input: &[i32], out: &mut [i32]) -> u32 {
+fn interpolate_block_number(s: Cic, input: &[i32], out: &mut [i32]) -> u32 {
     let r = s.interpolate_block(input, out);
     let read = r.read;
-    match read {
-        Read::Inputs(_) => 0,
-        Read::Refused(k) => k,
-    }
+    read_number(read)
 }
 
 fn lent_slices() -> u64 {
@@ -627,10 +579,10 @@ fn lent_slices() -> u64 {
     let one = [1i32; 1];
     let mut out = [0i32; 1];
     let mut three = [0i32; 3];
-    let a = down(state(1, 1, 0, 0, 0), &one, &mut out);
-    let b = down(state(1, 1, 0, 0, 0), &two, &mut out);
-    let c = up(state(1, 1, 1, 0, 0), &one, &mut out);
-    let d = up(state(1, 1, 1, 0, 0), &one, &mut three);
+    let a = decimate_block_number(state(1, 1, 0, 0, 0), &one, &mut out);
+    let b = decimate_block_number(state(1, 1, 0, 0, 0), &two, &mut out);
+    let c = interpolate_block_number(state(1, 1, 1, 0, 0), &one, &mut out);
+    let d = interpolate_block_number(state(1, 1, 1, 0, 0), &one, &mut three);
     let mut n: u64 = 0;
     n = tally(n, a, 0);
     n = tally(n, b, 20);

@@ -1,11 +1,15 @@
 // Runs the proved wide and dithered biquads over the Rust's stored answers (oracle/README.md, fixed) and prints
 // what differs.
 use blocks::Verdict;
+use cases::lines::double;
+use cases::lines::line;
+use cases::lines::report;
+use cases::lines::tally;
+use cases::lines::unlike_double;
+use cases::lines::unlike_words;
 use cases::runs::digest;
+use cases::runs::digest_words;
 use cases::runs::spread;
-use cases::text::double;
-use cases::text::report;
-use cases::text::word;
 use fixed::coefficients::Answer;
 use fixed::coefficients::Biquad;
 use fixed::coefficients::BiquadClamp;
@@ -20,20 +24,14 @@ use words::casts::i64_as_u64;
 use words::casts::u32_as_i32;
 use words::casts::u64_as_i64;
 use words::casts::u64_as_u32;
-ghost use Prim.Native.Nat.{_<_, _≤_};
+use words::unsigned::add_u64;
 
-const LINES: usize = 900;
+const LINES: u32 = 900;
 
-const WIDTH: usize = 24;
-
-// The words of a filter and a state, in the order of a line, and the generator after them where they were drawn.
-struct Given {
-    words: [u32; 14],
-    state: u64,
-}
+const WIDTH: u32 = 24;
 
 fn long(high: u32, low: u32) -> i64 {
-    u64_as_i64(high as u64 * 4294967296 + low as u64)
+    u64_as_i64(double(high, low))
 }
 
 fn high(x: i64) -> u32 {
@@ -44,38 +42,40 @@ fn low(x: i64) -> u32 {
     u64_as_u32(i64_as_u64(x))
 }
 
-fn filter_of(w: &[u32; 14], f: u32) -> BiquadClamp {
+// The filter of a line, with f fraction bits.
+fn filter_of(w: [u32; 40], f: u32) -> BiquadClamp {
     BiquadClamp {
         coeff: Biquad {
-            b0: u32_as_i32(w[0]),
-            b1: u32_as_i32(w[1]),
-            b2: u32_as_i32(w[2]),
-            a1: u32_as_i32(w[3]),
-            a2: u32_as_i32(w[4]),
+            b0: u32_as_i32(w[2]),
+            b1: u32_as_i32(w[3]),
+            b2: u32_as_i32(w[4]),
+            a1: u32_as_i32(w[5]),
+            a2: u32_as_i32(w[6]),
             f,
         },
-        u: u32_as_i32(w[5]),
-        min: u32_as_i32(w[6]),
-        max: u32_as_i32(w[7]),
+        u: u32_as_i32(w[7]),
+        min: u32_as_i32(w[8]),
+        max: u32_as_i32(w[9]),
     }
 }
 
-fn wide_of(w: &[u32; 14]) -> DirectForm1Wide {
+// The state of a line.
+fn wide_of(w: [u32; 40]) -> DirectForm1Wide {
     DirectForm1Wide {
-        x1: u32_as_i32(w[8]),
-        x2: u32_as_i32(w[9]),
-        y1: long(w[10], w[11]),
-        y2: long(w[12], w[13]),
+        x1: u32_as_i32(w[10]),
+        x2: u32_as_i32(w[11]),
+        y1: long(w[12], w[13]),
+        y2: long(w[14], w[15]),
     }
 }
 
-fn dither_of(w: &[u32; 14]) -> DirectForm1Dither {
+fn dither_of(w: [u32; 40]) -> DirectForm1Dither {
     DirectForm1Dither {
-        x1: u32_as_i32(w[8]),
-        x2: u32_as_i32(w[9]),
-        y1: u32_as_i32(w[10]),
-        y2: u32_as_i32(w[11]),
-        e: w[12],
+        x1: u32_as_i32(w[10]),
+        x2: u32_as_i32(w[11]),
+        y1: u32_as_i32(w[12]),
+        y2: u32_as_i32(w[13]),
+        e: w[14],
     }
 }
 
@@ -101,37 +101,27 @@ fn dither_words(s: DirectForm1Dither) -> [u32; 6] {
     ]
 }
 
-// The 14 words of the text from word number at on.
-fn stored(text: &[u8], at: usize) -> [u32; 14]
-    requires { ⌜ at < 70000 ⌝ }
-{
-    let mut words = [0u32; 14];
-    let mut i: usize = 0;
-    while i < 14 {
-        words[i] = word(text, at + i);
-        i += 1;
-    }
-    words
+// A line with its filter's and its state's words drawn by spread, the limits in order; the generator's state after.
+struct Given {
+    state: u64,
+    words: [u32; 40],
 }
 
-// 14 words by spread from the seed, the limits in order.
 fn drawn(seed: u32) -> Given {
-    let mut words = [0u32; 14];
+    let mut words = [0u32; 40];
     let mut state = seed as u64;
-    let mut i: usize = 0;
-    while i < 14 {
+    for i in 2..16 {
         let next = spread(state);
         state = next.state;
         let value = next.value;
         words[i] = value;
-        i += 1;
     }
-    if u32_as_i32(words[7]) < u32_as_i32(words[6]) {
-        let upper = words[6];
-        words[6] = words[7];
-        words[7] = upper;
+    if u32_as_i32(words[9]) < u32_as_i32(words[8]) {
+        let upper = words[8];
+        words[8] = words[9];
+        words[9] = upper;
     }
-    Given { words, state }
+    Given { state, words }
 }
 
 fn value(out: Answer) -> u32 {
@@ -192,215 +182,186 @@ fn dither_block(
     s.block(coeff, xs, ys)
 }
 
-// 0 where the 6 words of the text from word number at on are w, else 1.
-fn unlike(text: &[u8], at: usize, w: &[u32; 6]) -> u64
-    requires { ⌜ at < 70000 ⌝ }
-    ensures { λ r. ⌜ r ≤ 1 ⌝ }
-{
-    let mut i: usize = 0;
-    while i < 6 {
-        if word(text, at + i) != w[i] {
-            return 1;
-        }
-        i += 1;
-    }
-    0
-}
-
-fn digest_words(d: u64, w: &[u32; 6]) -> u64 {
-    let mut e = d;
-    let mut i: usize = 0;
-    while i < 6 {
-        e = digest(e, w[i]);
-        i += 1;
-    }
-    e
-}
-
-fn wide_case(text: &[u8], at: usize, clamp: bool) -> u64
-    requires { ⌜ at < 65536 ⌝ }
-    ensures { λ r. ⌜ r ≤ 1 ⌝ }
-{
-    let w = stored(text, at + 2);
-    let c = filter_of(&w, word(text, at + 1));
-    let r = wide_step(c, wide_of(&w), u32_as_i32(word(text, at + 16)), clamp);
+fn wide_case(w: [u32; 40], clamp: bool) -> u64 {
+    let c = filter_of(w, w[1]);
+    let r = wide_step(c, wide_of(w), u32_as_i32(w[16]), clamp);
+    let after = r.state;
     let out = r.out;
-    if value(out) != word(text, at + 17) {
+    if value(out) != w[17] {
         return 1;
     }
-    let after = r.state;
-    let v = wide_words(after);
-    unlike(text, at + 18, &v)
+    unlike_words(&wide_words(after), &w[18..24])
 }
 
-fn dither_case(text: &[u8], at: usize, clamp: bool) -> u64
-    requires { ⌜ at < 65536 ⌝ }
-    ensures { λ r. ⌜ r ≤ 1 ⌝ }
-{
-    let w = stored(text, at + 2);
-    let c = filter_of(&w, word(text, at + 1));
-    let r = dither_step(c, dither_of(&w), u32_as_i32(word(text, at + 16)), clamp);
+fn dither_case(w: [u32; 40], clamp: bool) -> u64 {
+    let c = filter_of(w, w[1]);
+    let r = dither_step(c, dither_of(w), u32_as_i32(w[16]), clamp);
+    let after = r.state;
     let out = r.out;
-    if value(out) != word(text, at + 17) {
+    if value(out) != w[17] {
         return 1;
     }
-    let after = r.state;
-    let v = dither_words(after);
-    unlike(text, at + 18, &v)
+    unlike_words(&dither_words(after), &w[18..24])
 }
 
-// A run of steps, everything drawn.
-fn wide_run(f: u32, seed: u32, steps: u32, clamp: bool) -> u64 {
-    let start = drawn(seed);
-    let w = start.words;
-    let c = filter_of(&w, f);
-    let mut g = start.state;
-    let mut d: u64 = 0;
-    let mut s = wide_of(&w);
-    let mut i: u32 = 0;
-    while i < steps {
-        let x = spread(g);
-        g = x.state;
-        let r = wide_step(c, s, u32_as_i32(x.value), clamp);
-        let out = r.out;
-        let after = r.state;
-        s = after;
-        d = digest(d, value(out));
-        i += 1;
-    }
-    let v = wide_words(s);
-    digest_words(d, &v)
+// A state of each kind, the generator, and the digest of the outputs so far.
+struct Running {
+    wide: DirectForm1Wide,
+    dither: DirectForm1Dither,
+    draws: u64,
+    digest: u64,
 }
 
-fn dither_run(f: u32, seed: u32, steps: u32, clamp: bool) -> u64 {
-    let start = drawn(seed);
-    let w = start.words;
-    let c = filter_of(&w, f);
-    let mut g = start.state;
-    let mut d: u64 = 0;
-    let mut s = dither_of(&w);
-    let mut i: u32 = 0;
-    while i < steps {
-        let x = spread(g);
-        g = x.state;
-        let r = dither_step(c, s, u32_as_i32(x.value), clamp);
-        let out = r.out;
-        let after = r.state;
-        s = after;
-        d = digest(d, value(out));
-        i += 1;
+// Both states from a line's words.
+fn started(w: [u32; 40], draws: u64) -> Running {
+    Running {
+        wide: wide_of(w),
+        dither: dither_of(w),
+        draws,
+        digest: 0,
     }
-    let v = dither_words(s);
-    digest_words(d, &v)
+}
+
+fn wide_turn(r: Running, c: BiquadClamp, clamp: bool) -> Running {
+    let x = spread(r.draws);
+    let s = r.wide;
+    let t = wide_step(c, s, u32_as_i32(x.value), clamp);
+    let wide = t.state;
+    let out = t.out;
+    let dither = r.dither;
+    Running {
+        wide,
+        dither,
+        draws: x.state,
+        digest: digest(r.digest, value(out)),
+    }
+}
+
+fn dither_turn(r: Running, c: BiquadClamp, clamp: bool) -> Running {
+    let x = spread(r.draws);
+    let s = r.dither;
+    let t = dither_step(c, s, u32_as_i32(x.value), clamp);
+    let dither = t.state;
+    let out = t.out;
+    let wide = r.wide;
+    Running {
+        wide,
+        dither,
+        draws: x.state,
+        digest: digest(r.digest, value(out)),
+    }
 }
 
 // Fills xs by spread and gives the generator after it.
 fn fill(xs: &mut [i32; 1000], state: u64) -> u64 {
     let mut g = state;
-    let mut i: usize = 0;
-    while i < 1000 {
+    for i in 0..1000 {
         let x = spread(g);
         g = x.state;
         xs[i] = u32_as_i32(x.value);
-        i += 1;
     }
     g
 }
 
 fn digest_all(d: u64, ys: &[i32; 1000]) -> u64 {
     let mut e = d;
-    let mut i: usize = 0;
-    while i < 1000 {
+    for i in 0..1000 {
         e = digest(e, i32_as_u32(ys[i]));
-        i += 1;
     }
     e
 }
 
-// A tame run from zero, in blocks of 1000.
-fn wide_tame(c: BiquadClamp, seed: u32, steps: u32, clamp: bool) -> u64 {
+// A block of 1000 inputs.
+fn wide_block_turn(r: Running, c: BiquadClamp, clamp: bool) -> Running {
     let mut xs = [0i32; 1000];
     let mut ys = [0i32; 1000];
-    let mut g = seed as u64;
-    let mut d: u64 = 0;
-    let mut s = wide_of(&[0u32; 14]);
-    let mut i: u32 = 0;
-    while i < steps / 1000 {
-        g = fill(&mut xs, g);
-        let r = wide_block(c, s, &xs, &mut ys, clamp);
-        let after = r.state;
-        s = after;
-        d = digest_all(d, &ys);
-        i += 1;
+    let draws = fill(&mut xs, r.draws);
+    let s = r.wide;
+    let t = wide_block(c, s, &xs, &mut ys, clamp);
+    let wide = t.state;
+    let dither = r.dither;
+    Running {
+        wide,
+        dither,
+        draws,
+        digest: digest_all(r.digest, &ys),
     }
-    let v = wide_words(s);
-    digest_words(d, &v)
 }
 
-fn dither_tame(c: BiquadClamp, seed: u32, steps: u32, clamp: bool) -> u64 {
+fn dither_block_turn(r: Running, c: BiquadClamp, clamp: bool) -> Running {
     let mut xs = [0i32; 1000];
     let mut ys = [0i32; 1000];
-    let mut g = seed as u64;
-    let mut d: u64 = 0;
-    let mut s = dither_of(&[0u32; 14]);
-    let mut i: u32 = 0;
-    while i < steps / 1000 {
-        g = fill(&mut xs, g);
-        let r = dither_block(c, s, &xs, &mut ys, clamp);
-        let after = r.state;
-        s = after;
-        d = digest_all(d, &ys);
-        i += 1;
+    let draws = fill(&mut xs, r.draws);
+    let s = r.dither;
+    let t = dither_block(c, s, &xs, &mut ys, clamp);
+    let dither = t.state;
+    let wide = r.wide;
+    Running {
+        wide,
+        dither,
+        draws,
+        digest: digest_all(r.digest, &ys),
     }
-    let v = dither_words(s);
-    digest_words(d, &v)
 }
 
-fn run(text: &[u8], at: usize, code: u32) -> u64
-    requires { ⌜ at < 65536 ⌝ }
-    ensures { λ r. ⌜ r ≤ 1 ⌝ }
-{
-    let f = word(text, at + 1);
-    let seed = word(text, at + 2);
-    let steps = word(text, at + 3);
-    let d = match code {
-        5 => wide_run(f, seed, steps, false),
-        6 => wide_run(f, seed, steps, true),
-        7 => dither_run(f, seed, steps, false),
-        _ => dither_run(f, seed, steps, true),
-    };
-    if d == double(text, at + 4) { 0 } else { 1 }
-}
-
-fn tame(text: &[u8], at: usize, code: u32) -> u64
-    requires { ⌜ at < 65536 ⌝ }
-    ensures { λ r. ⌜ r ≤ 1 ⌝ }
-{
-    let w = stored(text, at + 2);
-    let c = filter_of(&w, word(text, at + 1));
-    let seed = word(text, at + 10);
-    let steps = word(text, at + 11);
-    let d = match code {
-        9 => wide_tame(c, seed, steps, false),
-        10 => wide_tame(c, seed, steps, true),
-        11 => dither_tame(c, seed, steps, false),
-        _ => dither_tame(c, seed, steps, true),
-    };
-    if d == double(text, at + 12) { 0 } else { 1 }
-}
-
-// 1 where the line at word number at differs from what the proved function gives.
-fn differs(text: &[u8], at: usize, code: u32) -> u64
-    requires { ⌜ at < 65536 ⌝ }
-    ensures { λ r. ⌜ r ≤ 1 ⌝ }
-{
+// A turn of a run with this code: a step, or from 9 on a block.
+fn turn(r: Running, code: u32, c: BiquadClamp) -> Running {
+    let clamp = code % 2 == 0;
     match code {
-        1 => wide_case(text, at, false),
-        2 => wide_case(text, at, true),
-        3 => dither_case(text, at, false),
-        4 => dither_case(text, at, true),
-        5..=8 => run(text, at, code),
-        _ => tame(text, at, code),
+        5 | 6 => wide_turn(r, c, clamp),
+        7 | 8 => dither_turn(r, c, clamp),
+        9 | 10 => wide_block_turn(r, c, clamp),
+        _ => dither_block_turn(r, c, clamp),
+    }
+}
+
+fn run(code: u32, c: BiquadClamp, first: Running, turns: u32) -> Running {
+    let mut r = first;
+    for _ in 0..turns {
+        r = turn(r, code, c);
+    }
+    r
+}
+
+// The digest of a run with this code: the outputs, then the state.
+fn digest_run(code: u32, r: Running) -> u64 {
+    let wide = r.wide;
+    let dither = r.dither;
+    match code {
+        5 | 6 | 9 | 10 => digest_words(r.digest, &wide_words(wide)),
+        _ => digest_words(r.digest, &dither_words(dither)),
+    }
+}
+
+// A run of steps, everything drawn.
+fn drawn_run(w: [u32; 40]) -> u64 {
+    let given = drawn(w[2]);
+    let words = given.words;
+    let r = run(
+        w[0],
+        filter_of(words, w[1]),
+        started(words, given.state),
+        w[3],
+    );
+    unlike_double(digest_run(w[0], r), double(w[4], w[5]))
+}
+
+// A tame run from zero, in blocks of 1000.
+fn tame_run(w: [u32; 40]) -> u64 {
+    let first = started([0; 40], double(0, w[10]));
+    let r = run(w[0], filter_of(w, w[1]), first, w[11] / 1000);
+    unlike_double(digest_run(w[0], r), double(w[12], w[13]))
+}
+
+// 1 where the line differs from what the proved function gives.
+fn differs(w: [u32; 40]) -> u64 {
+    match w[0] {
+        1 => wide_case(w, false),
+        2 => wide_case(w, true),
+        3 => dither_case(w, false),
+        4 => dither_case(w, true),
+        5..=8 => drawn_run(w),
+        _ => tame_run(w),
     }
 }
 
@@ -423,99 +384,86 @@ fn silent(f: u32, min: i32, max: i32) -> BiquadClamp {
 
 // The number of a refused step of it from zero; 0, its output, where it is accepted.
 fn wide_number(f: u32, min: i32, max: i32) -> u32 {
-    let r = wide_step(silent(f, min, max), wide_of(&[0u32; 14]), 0, true);
+    let r = wide_step(silent(f, min, max), wide_of([0; 40]), 0, true);
     let out = r.out;
     value(out)
 }
 
 fn dither_number(f: u32, min: i32, max: i32) -> u32 {
-    let r = dither_step(silent(f, min, max), dither_of(&[0u32; 14]), 0, true);
+    let r = dither_step(silent(f, min, max), dither_of([0; 40]), 0, true);
     let out = r.out;
     value(out)
 }
 
-// The number of a refused block of n inputs and two outputs; 0 where it is accepted.
-fn wide_block_number(f: u32, min: i32, max: i32, n: usize) -> u32
-    requires { ⌜ n ≤ 4 ⌝ }
-{
-    let xs = [0i32; 4];
+// The number of a refused block of these inputs and two outputs; 0 where it is accepted.
+fn wide_block_number(f: u32, min: i32, max: i32, xs: &[i32]) -> u32 {
     let mut ys = [0i32; 2];
-    let s = wide_of(&[0u32; 14]);
-    let r = s.block_clamp(silent(f, min, max), &xs[..n], &mut ys);
+    let s = wide_of([0; 40]);
+    let r = s.block_clamp(silent(f, min, max), xs, &mut ys);
     let v = r.verdict;
     number(v)
 }
 
-fn dither_block_number(f: u32, min: i32, max: i32, n: usize) -> u32
-    requires { ⌜ n ≤ 4 ⌝ }
-{
-    let xs = [0i32; 4];
+fn dither_block_number(f: u32, min: i32, max: i32, xs: &[i32]) -> u32 {
     let mut ys = [0i32; 2];
-    let s = dither_of(&[0u32; 14]);
-    let r = s.block_clamp(silent(f, min, max), &xs[..n], &mut ys);
+    let s = dither_of([0; 40]);
+    let r = s.block_clamp(silent(f, min, max), xs, &mut ys);
     let v = r.verdict;
     number(v)
-}
-
-fn same(a: u32, b: u32) -> u64
-    ensures { λ r. ⌜ r ≤ 1 ⌝ }
-{
-    if a == b { 0 } else { 1 }
 }
 
 // Steps: 40 at the bounds and before 41; equal limits are in order. Of 10 cases, how many differ from document 01.
-fn step_refusals() -> u64
-    ensures { λ r. ⌜ r ≤ 10 ⌝ }
-{
-    same(wide_number(0, -1, 1), 0)
-        + same(wide_number(31, 0, 0), 0)
-        + same(wide_number(32, -1, 1), 40)
-        + same(wide_number(32, 1, -1), 40)
-        + same(wide_number(31, 1, -1), 41)
-        + same(dither_number(0, -1, 1), 40)
-        + same(dither_number(1, -1, 1), 0)
-        + same(dither_number(31, -1, 1), 0)
-        + same(dither_number(32, 1, -1), 40)
-        + same(dither_number(1, 1, -1), 41)
+fn step_refusals() -> u64 {
+    let mut n: u64 = 0;
+    n = tally(n, wide_number(0, -1, 1), 0);
+    n = tally(n, wide_number(31, 0, 0), 0);
+    n = tally(n, wide_number(32, -1, 1), 40);
+    n = tally(n, wide_number(32, 1, -1), 40);
+    n = tally(n, wide_number(31, 1, -1), 41);
+    n = tally(n, dither_number(0, -1, 1), 40);
+    n = tally(n, dither_number(1, -1, 1), 0);
+    n = tally(n, dither_number(31, -1, 1), 0);
+    n = tally(n, dither_number(32, 1, -1), 40);
+    n = tally(n, dither_number(1, 1, -1), 41);
+    n
 }
 
 // Blocks: 31 before 40 before 41. Of 8 cases, how many differ from document 01.
-fn block_refusals() -> u64
-    ensures { λ r. ⌜ r ≤ 8 ⌝ }
-{
-    same(wide_block_number(32, 1, -1, 3), 31)
-        + same(wide_block_number(32, 1, -1, 2), 40)
-        + same(wide_block_number(0, 1, -1, 2), 41)
-        + same(wide_block_number(0, -1, 1, 2), 0)
-        + same(dither_block_number(0, 1, -1, 3), 31)
-        + same(dither_block_number(0, 1, -1, 2), 40)
-        + same(dither_block_number(1, 1, -1, 2), 41)
-        + same(dither_block_number(1, -1, 1, 2), 0)
+fn block_refusals() -> u64 {
+    let two = [0i32; 2];
+    let three = [0i32; 3];
+    let mut n: u64 = 0;
+    n = tally(n, wide_block_number(32, 1, -1, &three), 31);
+    n = tally(n, wide_block_number(32, 1, -1, &two), 40);
+    n = tally(n, wide_block_number(0, 1, -1, &two), 41);
+    n = tally(n, wide_block_number(0, -1, 1, &two), 0);
+    n = tally(n, dither_block_number(0, 1, -1, &three), 31);
+    n = tally(n, dither_block_number(0, 1, -1, &two), 40);
+    n = tally(n, dither_block_number(1, 1, -1, &two), 41);
+    n = tally(n, dither_block_number(1, -1, 1, &two), 0);
+    n
 }
 
 // How many cases a line stands for: the steps of a run, else one.
-fn weight(text: &[u8], at: usize, code: u32) -> u64
-    requires { ⌜ at < 65536 ⌝ }
-    ensures { λ r. ⌜ r < 4294967296 ⌝ }
-{
-    if code < 5 {
+fn weight(w: [u32; 40]) -> u64 {
+    if w[0] < 5 {
         return 1;
     }
-    if code < 9 {
-        return word(text, at + 3) as u64;
+    if w[0] < 9 {
+        return double(0, w[3]);
     }
-    word(text, at + 11) as u64
+    double(0, w[11])
 }
 
 // All lines with this code.
 fn compare(text: &[u8], code: u32, name: &[u8]) {
     let mut cases: u64 = 0;
     let mut differ: u64 = 0;
-    for line in 0..LINES {
-        let at = line * WIDTH;
-        if word(text, at) == code {
-            cases += weight(text, at, code);
-            differ += differs(text, at, code);
+    for i in 0..LINES {
+        let w = line(text, i * WIDTH);
+        if w[0] == code {
+            cases = add_u64(cases, weight(w));
+            differ = add_u64(differ, differs(w));
         }
     }
     report(name, cases, differ);

@@ -1,12 +1,15 @@
 // Runs the proved loop over the Rust's stored answers (oracle/README.md, pll) and prints what differs.
 use blocks::Verdict;
+use cases::lines::double;
+use cases::lines::line;
+use cases::lines::report;
+use cases::lines::tally;
+use cases::lines::unlike;
+use cases::lines::unlike_words;
 use cases::runs::digest;
-use cases::runs::digest_double;
+use cases::runs::digest_words;
 use cases::runs::draw;
 use cases::runs::spread;
-use cases::text::double;
-use cases::text::report;
-use cases::text::word;
 use pll::PLL;
 use pll::PLLState;
 use pll::Tracked;
@@ -16,20 +19,17 @@ use words::casts::i32_as_u32;
 use words::casts::i64_as_u64;
 use words::casts::u32_as_i32;
 use words::casts::u64_as_i64;
+use words::casts::u64_as_u32;
 use words::unsigned::add_u32;
-ghost use Prim.Native.Nat.{_<_, _≤_};
+use words::unsigned::add_u64;
+use words::unsigned::mul_u32;
+ghost use Prim.Native.Nat.{_≤_};
 
-const LINES: usize = 900;
+const LINES: u32 = 900;
 
-const WIDTH: usize = 24;
+const WIDTH: u32 = 24;
 
 const BLOCK: usize = 1000;
-
-fn same(a: u32, b: u32) -> u64
-    ensures { λ r. ⌜ r ≤ 1 ⌝ }
-{
-    if a == b { 0 } else { 1 }
-}
 
 // The word of a clamp's sign, as the stored answers have it.
 fn sign(w: Wrap) -> u32 {
@@ -50,30 +50,30 @@ fn wrap_of(sign: u32) -> Wrap {
     Wrap::Negative
 }
 
-fn coefficients(text: &[u8], at: usize) -> PLL
-    requires { ⌜ at < 131072 ⌝ }
+// The coefficients at word number at of a line.
+fn coefficients(w: [u32; 40], at: usize) -> PLL
+    requires { ⌜ at ≤ 37 ⌝ }
 {
     PLL {
-        b0: u32_as_i32(word(text, at)),
-        b1: u32_as_i32(word(text, at + 1)),
-        a1: u32_as_i32(word(text, at + 2)),
+        b0: u32_as_i32(w[at]),
+        b1: u32_as_i32(w[at + 1]),
+        a1: u32_as_i32(w[at + 2]),
     }
 }
 
-fn state_at(text: &[u8], at: usize) -> PLLState
-    requires { ⌜ at < 131072 ⌝ }
-{
+// The state before a line's step.
+fn state_before(w: [u32; 40]) -> PLLState {
     let clamp = ClampWrap {
-        x0: u32_as_i32(word(text, at)),
-        clamp: wrap_of(word(text, at + 1)),
+        x0: u32_as_i32(w[4]),
+        clamp: wrap_of(w[5]),
     };
     PLLState {
         clamp,
-        z0: u32_as_i32(word(text, at + 2)),
-        y0: u32_as_i32(word(text, at + 3)),
-        f0: u64_as_i64(double(text, at + 4)),
-        f: u64_as_i64(double(text, at + 6)),
-        y: u32_as_i32(word(text, at + 8)),
+        z0: u32_as_i32(w[6]),
+        y0: u32_as_i32(w[7]),
+        f0: u64_as_i64(double(w[8], w[9])),
+        f: u64_as_i64(double(w[10], w[11])),
+        y: u32_as_i32(w[12]),
     }
 }
 
@@ -92,136 +92,88 @@ fn zero() -> PLLState {
     }
 }
 
-// 1 where the states differ.
-fn states_differ(a: PLLState, b: PLLState) -> u64
-    ensures { λ r. ⌜ r ≤ 1 ⌝ }
-{
-    let ours = a.clamp;
-    let theirs = b.clamp;
-    if ours.x0 != theirs.x0 {
-        return 1;
-    }
-    let our_sign = ours.clamp;
-    let their_sign = theirs.clamp;
-    if sign(our_sign) != sign(their_sign) {
-        return 1;
-    }
-    if a.z0 != b.z0 {
-        return 1;
-    }
-    if a.y0 != b.y0 {
-        return 1;
-    }
-    if a.f0 != b.f0 {
-        return 1;
-    }
-    if a.f != b.f {
-        return 1;
-    }
-    if a.y != b.y {
-        return 1;
-    }
-    0
+fn high(x: i64) -> u32 {
+    u64_as_u32(i64_as_u64(x) / 4294967296)
 }
 
-// The digest d grown by the nine words of a state.
-fn digest_state(d: u64, s: PLLState) -> u64 {
+fn low(x: i64) -> u32 {
+    u64_as_u32(i64_as_u64(x))
+}
+
+// The nine words of a state, in the order of a line.
+fn words_of(s: PLLState) -> [u32; 9] {
     let c = s.clamp;
     let clamp = c.clamp;
-    let after_clamp = digest(digest(d, i32_as_u32(c.x0)), sign(clamp));
-    let after_zero = digest(digest(after_clamp, i32_as_u32(s.z0)), i32_as_u32(s.y0));
-    let after_pole = digest_double(digest_double(after_zero, i64_as_u64(s.f0)), i64_as_u64(s.f));
-    digest(after_pole, i32_as_u32(s.y))
+    [
+        i32_as_u32(c.x0),
+        sign(clamp),
+        i32_as_u32(s.z0),
+        i32_as_u32(s.y0),
+        high(s.f0),
+        low(s.f0),
+        high(s.f),
+        low(s.f),
+        i32_as_u32(s.y),
+    ]
 }
 
-// The digest d grown by a step's phase and the frequency after it.
-fn digest_step(d: u64, y: i32, s: PLLState) -> u64 {
-    digest(digest(d, i32_as_u32(y)), i32_as_u32(s.frequency()))
-}
-
-// 1 where a phase or the state after it differs.
-fn tracked_differs(r: Tracked, y: i32, after: PLLState) -> u64
-    ensures { λ r. ⌜ r ≤ 1 ⌝ }
-{
-    if r.y != y {
+// 1 where a phase or the state after it is not the line's.
+fn tracked_differs(w: [u32; 40], r: Tracked) -> u64 {
+    if i32_as_u32(r.y) != w[14] {
         return 1;
     }
-    let state = r.state;
-    states_differ(state, after)
+    let after = r.state;
+    unlike_words(&words_of(after), &w[15..24])
 }
 
-fn step(text: &[u8], at: usize) -> u64
-    requires { ⌜ at < 65536 ⌝ }
-    ensures { λ r. ⌜ r ≤ 1 ⌝ }
-{
-    let x = u32_as_i32(word(text, at + 13));
-    let y = u32_as_i32(word(text, at + 14));
-    let p = coefficients(text, at + 1);
-    let before = state_at(text, at + 4);
-    let after = state_at(text, at + 15);
-    let r = p.process(before, x);
-    tracked_differs(r, y, after)
+fn step(w: [u32; 40]) -> u64 {
+    let p = coefficients(w, 1);
+    tracked_differs(w, p.process(state_before(w), u32_as_i32(w[13])))
 }
 
-fn predict(text: &[u8], at: usize) -> u64
-    requires { ⌜ at < 65536 ⌝ }
-    ensures { λ r. ⌜ r ≤ 1 ⌝ }
-{
-    let y = u32_as_i32(word(text, at + 14));
-    let before = state_at(text, at + 4);
-    let after = state_at(text, at + 15);
-    tracked_differs(before.predict(), y, after)
+fn predict(w: [u32; 40]) -> u64 {
+    tracked_differs(w, state_before(w).predict())
 }
 
-fn readers(text: &[u8], at: usize) -> u64
-    requires { ⌜ at < 65536 ⌝ }
-    ensures { λ r. ⌜ r ≤ 1 ⌝ }
-{
-    let phase = word(text, at + 14);
-    let frequency = word(text, at + 15);
-    let s = state_at(text, at + 4);
-    if i32_as_u32(s.phase()) != phase {
+fn readers(w: [u32; 40]) -> u64 {
+    let s = state_before(w);
+    if i32_as_u32(s.phase()) != w[14] {
         return 1;
     }
-    same(i32_as_u32(s.frequency()), frequency)
+    unlike(i32_as_u32(s.frequency()), w[15])
 }
 
-// A run from zero on spread inputs.
-fn run(p: PLL, seed: u32, steps: u32) -> u64 {
-    let mut g = seed as u64;
-    let mut d: u64 = 0;
-    let mut s = zero();
-    let mut i: u32 = 0;
-    while i < steps {
-        let x = spread(g);
-        g = x.state;
-        let r = p.process(s, u32_as_i32(x.value));
-        let next = r.state;
-        s = next;
-        d = digest_step(d, r.y, s);
-        i += 1;
-    }
-    digest_state(d, s)
-}
-
-// A phase, the state after it, and the generator's.
-struct Drawn {
-    y: i32,
+// A loop that runs, the generator that feeds it, and the digest of its phases and frequencies.
+struct Running {
     state: PLLState,
-    generator: u64,
+    draws: u64,
+    digest: u64,
+}
+
+// After a step: its phase and the frequency after it are digested.
+fn tracked(r: Running, t: Tracked, draws: u64) -> Running {
+    let state = t.state;
+    let phase = digest(r.digest, i32_as_u32(t.y));
+    Running {
+        state,
+        draws,
+        digest: digest(phase, i32_as_u32(state.frequency())),
+    }
+}
+
+// A step on a spread input.
+fn spread_turn(r: Running, p: PLL) -> Running {
+    let x = spread(r.draws);
+    let s = r.state;
+    tracked(r, p.process(s, u32_as_i32(x.value)), x.state)
 }
 
 // A prediction one time in four, else a step with coefficients and input drawn.
-fn any_step(s: PLLState, g: u64) -> Drawn {
-    let u = draw(g);
+fn drawn_turn(r: Running) -> Running {
+    let u = draw(r.draws);
+    let s = r.state;
     if u.value % 4 == 0 {
-        let r = s.predict();
-        let after = r.state;
-        return Drawn {
-            y: r.y,
-            state: after,
-            generator: u.state,
-        };
+        return tracked(r, s.predict(), u.state);
     }
     let b0 = spread(u.state);
     let b1 = spread(b0.state);
@@ -232,105 +184,79 @@ fn any_step(s: PLLState, g: u64) -> Drawn {
         b1: u32_as_i32(b1.value),
         a1: u32_as_i32(a1.value),
     };
-    let r = p.process(s, u32_as_i32(x.value));
-    let after = r.state;
-    Drawn {
-        y: r.y,
-        state: after,
-        generator: x.state,
+    tracked(r, p.process(s, u32_as_i32(x.value)), x.state)
+}
+
+// A step on x.
+fn steady_turn(r: Running, p: PLL, x: u32) -> Running {
+    let s = r.state;
+    tracked(r, p.process(s, u32_as_i32(x)), r.draws)
+}
+
+// Step number i of a line's run: on spread inputs, with everything drawn, or on a steady input.
+fn turn(r: Running, w: [u32; 40], i: u32) -> Running {
+    match w[0] {
+        4 => spread_turn(r, coefficients(w, 3)),
+        5 => drawn_turn(r),
+        _ => steady_turn(r, coefficients(w, 3), add_u32(w[1], mul_u32(i, w[8]))),
     }
 }
 
-// A run from zero with predictions, the coefficients drawn at every step.
-fn run_drawn(seed: u32, steps: u32) -> u64 {
-    let mut g = seed as u64;
-    let mut d: u64 = 0;
-    let mut s = zero();
-    let mut i: u32 = 0;
-    while i < steps {
-        let r = any_step(s, g);
-        g = r.generator;
-        let next = r.state;
-        s = next;
-        d = digest_step(d, r.y, s);
-        i += 1;
+// A line's run from zero.
+fn run(w: [u32; 40], steps: u32) -> Running {
+    let mut r = Running {
+        state: zero(),
+        draws: double(0, w[1]),
+        digest: 0,
+    };
+    for i in 0..steps {
+        r = turn(r, w, i);
     }
-    digest_state(d, s)
+    r
 }
 
-// A digest and the last frequency.
-struct Locked {
-    digest: u64,
-    frequency: u32,
-}
-
-// A run from zero on a steady input.
-fn run_lock(p: PLL, start: u32, steps: u32, increment: u32) -> Locked {
-    let mut x = start;
-    let mut d: u64 = 0;
-    let mut s = zero();
-    let mut i: u32 = 0;
-    while i < steps {
-        let r = p.process(s, u32_as_i32(x));
-        let next = r.state;
-        s = next;
-        d = digest_step(d, r.y, s);
-        x = add_u32(x, increment);
-        i += 1;
-    }
-    Locked {
-        digest: digest_state(d, s),
-        frequency: i32_as_u32(s.frequency()),
-    }
-}
-
-// 1 where the run differs, or its last frequency is not minus the input's.
-fn lock(text: &[u8], at: usize) -> u64
-    requires { ⌜ at < 65536 ⌝ }
-    ensures { λ r. ⌜ r ≤ 1 ⌝ }
-{
-    let increment = word(text, at + 8);
-    let p = coefficients(text, at + 3);
-    let r = run_lock(p, word(text, at + 1), word(text, at + 2), increment);
-    if r.digest != double(text, at + 6) {
+// 1 where a run's digest differs, or where a steady one's last frequency is not the line's or not minus the input's.
+fn long_run(w: [u32; 40]) -> u64 {
+    let r = run(w, w[2]);
+    let s = r.state;
+    if digest_words(r.digest, &words_of(s)) != double(w[6], w[7]) {
         return 1;
     }
-    if add_u32(r.frequency, increment) != 0 {
+    if w[0] < 6 {
+        return 0;
+    }
+    let frequency = i32_as_u32(s.frequency());
+    if add_u32(frequency, w[8]) != 0 {
         return 1;
     }
-    same(r.frequency, word(text, at + 9))
+    unlike(frequency, w[9])
 }
 
 // Spread inputs.
-fn fill(xs: &mut [i32], seed: u32) {
+fn fill(xs: &mut [i32; BLOCK], seed: u32) {
     let mut g = seed as u64;
-    let mut i: usize = 0;
-    while i < xs.len() {
+    for i in 0..BLOCK {
         let x = spread(g);
         g = x.state;
         xs[i] = u32_as_i32(x.value);
-        i += 1;
     }
 }
 
 // How many of the phases ys are not those of steps from zero.
-fn steps_differ(p: PLL, xs: &[i32], ys: &[i32]) -> u64 {
-    if xs.len() != ys.len() {
-        return 1;
-    }
+fn steps_differ(p: PLL, xs: &[i32; BLOCK], ys: &[i32; BLOCK]) -> u64 {
     let mut differ: u64 = 0;
     let mut s = zero();
-    let mut i: usize = 0;
-    while i < xs.len() {
+    for i in 0..BLOCK {
         let r = p.process(s, xs[i]);
         let next = r.state;
         s = next;
-        if r.y != ys[i] {
-            differ += 1;
-        }
-        i += 1;
+        differ = tally(differ, i32_as_u32(r.y), i32_as_u32(ys[i]));
     }
     differ
+}
+
+fn block(p: PLL, xs: &[i32; BLOCK], ys: &mut [i32; BLOCK]) {
+    p.block(zero(), xs, ys);
 }
 
 // How many phases of a block from zero are not those of its steps.
@@ -338,7 +264,7 @@ fn block_differs(p: PLL) -> u64 {
     let mut xs = [0i32; BLOCK];
     let mut ys = [0i32; BLOCK];
     fill(&mut xs, 7);
-    p.block(zero(), &xs, &mut ys);
+    block(p, &xs, &mut ys);
     steps_differ(p, &xs, &ys)
 }
 
@@ -350,49 +276,37 @@ fn unlike_differs(p: PLL) -> u64 {
     let verdict = r.verdict;
     match verdict {
         Verdict::Done => 1,
-        Verdict::Refused(k) => same(k, 31),
+        Verdict::Refused(k) => unlike(k, 31),
     }
 }
 
-// 1 where the line at word number at differs from what the proved function gives.
-fn differs(text: &[u8], at: usize, code: u32) -> u64
-    requires { ⌜ at < 65536 ⌝ }
-    ensures { λ r. ⌜ r ≤ 1 ⌝ }
-{
-    let seed = word(text, at + 1);
-    let steps = word(text, at + 2);
-    let d = match code {
-        1 => return step(text, at),
-        2 => return predict(text, at),
-        3 => return readers(text, at),
-        4 => run(coefficients(text, at + 3), seed, steps),
-        5 => run_drawn(seed, steps),
-        _ => return lock(text, at),
-    };
-    if d == double(text, at + 6) { 0 } else { 1 }
+// 1 where the line differs from what the proved function gives.
+fn differs(w: [u32; 40]) -> u64 {
+    match w[0] {
+        1 => step(w),
+        2 => predict(w),
+        3 => readers(w),
+        _ => long_run(w),
+    }
 }
 
 // How many cases a line stands for: the steps of a run, else one.
-fn weight(text: &[u8], at: usize, code: u32) -> u64
-    requires { ⌜ at < 65536 ⌝ }
-    ensures { λ r. ⌜ r < 4294967296 ⌝ }
-{
-    if code < 4 {
-        1
-    } else {
-        word(text, at + 2) as u64
+fn weight(w: [u32; 40]) -> u64 {
+    if w[0] < 4 {
+        return 1;
     }
+    double(0, w[2])
 }
 
 // All lines with this code.
 fn compare(text: &[u8], code: u32, name: &[u8]) {
     let mut cases: u64 = 0;
     let mut differ: u64 = 0;
-    for line in 0..LINES {
-        let at = line * WIDTH;
-        if word(text, at) == code {
-            cases += weight(text, at, code);
-            differ += differs(text, at, code);
+    for i in 0..LINES {
+        let w = line(text, i * WIDTH);
+        if w[0] == code {
+            cases = add_u64(cases, weight(w));
+            differ = add_u64(differ, differs(w));
         }
     }
     report(name, cases, differ);

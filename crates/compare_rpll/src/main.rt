@@ -1,10 +1,13 @@
 // Runs the proved reciprocal loop over the Rust's stored answers (oracle/README.md, rpll) and prints what differs.
+use cases::lines::double;
+use cases::lines::line;
+use cases::lines::report;
+use cases::lines::unlike;
+use cases::lines::unlike_words;
 use cases::runs::digest;
+use cases::runs::digest_words;
 use cases::runs::draw;
 use cases::runs::spread;
-use cases::text::double;
-use cases::text::report;
-use cases::text::word;
 use rpll::Estimate;
 use rpll::Processed;
 use rpll::RPLL;
@@ -14,20 +17,15 @@ use words::casts::i32_as_u32;
 use words::casts::u32_as_i32;
 use words::shifts::shl_u32;
 use words::unsigned::add_u32;
+use words::unsigned::add_u64;
+use words::unsigned::mul_u32;
 use words::unsigned::sub_u32;
-ghost use Prim.Native.Nat.{_<_, _≤_};
 
-const LINES: usize = 1300;
+const LINES: u32 = 1300;
 
-const WIDTH: usize = 16;
+const WIDTH: u32 = 16;
 
 const CONFIGURATIONS: u32 = 16777216;
-
-fn same(a: u32, b: u32) -> u64
-    ensures { λ r. ⌜ r ≤ 1 ⌝ }
-{
-    if a == b { 0 } else { 1 }
-}
 
 fn configured(dt2: u32, shift_frequency: u32, shift_phase: u32) -> RPLLConfig {
     RPLLConfig {
@@ -37,20 +35,17 @@ fn configured(dt2: u32, shift_frequency: u32, shift_phase: u32) -> RPLLConfig {
     }
 }
 
-fn configuration(text: &[u8], at: usize) -> RPLLConfig
-    requires { ⌜ at < 131072 ⌝ }
-{
-    configured(word(text, at), word(text, at + 1), word(text, at + 2))
+fn configuration(w: [u32; 40]) -> RPLLConfig {
+    configured(w[1], w[2], w[3])
 }
 
-fn state_at(text: &[u8], at: usize) -> RPLL
-    requires { ⌜ at < 131072 ⌝ }
-{
+// The state before a line's step.
+fn state_before(w: [u32; 40]) -> RPLL {
     RPLL {
-        x: u32_as_i32(word(text, at)),
-        ff: word(text, at + 1),
-        f: word(text, at + 2),
-        y: u32_as_i32(word(text, at + 3)),
+        x: u32_as_i32(w[4]),
+        ff: w[5],
+        f: w[6],
+        y: u32_as_i32(w[7]),
     }
 }
 
@@ -63,35 +58,9 @@ fn zero() -> RPLL {
     }
 }
 
-// 1 where the states differ.
-fn states_differ(a: RPLL, b: RPLL) -> u64
-    ensures { λ r. ⌜ r ≤ 1 ⌝ }
-{
-    if a.x != b.x {
-        return 1;
-    }
-    if a.ff != b.ff {
-        return 1;
-    }
-    if a.frequency() != b.frequency() {
-        return 1;
-    }
-    if a.phase() != b.phase() {
-        return 1;
-    }
-    0
-}
-
-fn estimate_differs(e: Estimate, phase: u32, frequency: u32) -> u64
-    ensures { λ r. ⌜ r ≤ 1 ⌝ }
-{
-    let Estimate::Given(y, f) = e else {
-        return 1;
-    };
-    if i32_as_u32(y) != phase {
-        return 1;
-    }
-    same(i32_as_u32(f), frequency)
+// The four words of a state, in the order of a line.
+fn words_of(s: RPLL) -> [u32; 4] {
+    [i32_as_u32(s.x), s.ff, s.frequency(), i32_as_u32(s.phase())]
 }
 
 // The digest d grown by phase and frequency, or by the number of a refusal.
@@ -102,11 +71,6 @@ fn digest_estimate(d: u64, e: Estimate) -> u64 {
     }
 }
 
-fn digest_state(d: u64, s: RPLL) -> u64 {
-    let timed = digest(digest(d, i32_as_u32(s.x)), s.ff);
-    digest(digest(timed, s.f), i32_as_u32(s.y))
-}
-
 fn timestamp(given: bool, x: u32) -> Timestamp {
     if given {
         return Timestamp::At(u32_as_i32(x));
@@ -114,78 +78,53 @@ fn timestamp(given: bool, x: u32) -> Timestamp {
     Timestamp::Missing
 }
 
-fn step(text: &[u8], at: usize) -> u64
-    requires { ⌜ at < 65536 ⌝ }
-    ensures { λ r. ⌜ r ≤ 1 ⌝ }
-{
-    let x = timestamp(word(text, at + 8) != 0, word(text, at + 9));
-    let phase = word(text, at + 10);
-    let frequency = word(text, at + 11);
-    let c = configuration(text, at + 1);
-    let before = state_at(text, at + 4);
-    let after = state_at(text, at + 12);
-    let r = c.process(before, x);
+fn step(w: [u32; 40]) -> u64 {
+    let x = timestamp(w[8] != 0, w[9]);
+    let r = configuration(w).process(state_before(w), x);
+    let state = r.state;
     let estimate = r.estimate;
-    if estimate_differs(estimate, phase, frequency) != 0 {
+    let Estimate::Given(y, f) = estimate else {
+        return 1;
+    };
+    if i32_as_u32(y) != w[10] {
         return 1;
     }
-    let state = r.state;
-    states_differ(state, after)
+    if i32_as_u32(f) != w[11] {
+        return 1;
+    }
+    unlike_words(&words_of(state), &w[12..16])
 }
 
-// A step, and the generator's state after it.
-struct Turned {
-    estimate: Estimate,
+// A loop that runs, the generator that feeds it, the next timestamp of a steady reference, and the digest so far.
+struct Running {
     state: RPLL,
-    generator: u64,
+    draws: u64,
+    next: u32,
+    digest: u64,
+}
+
+// After a step.
+fn processed(r: Running, t: Processed, draws: u64, next: u32) -> Running {
+    let state = t.state;
+    let estimate = t.estimate;
+    Running {
+        state,
+        draws,
+        next,
+        digest: digest_estimate(r.digest, estimate),
+    }
 }
 
 // A step with a timestamp where the draw is odd, else without.
-fn turn(c: RPLLConfig, s: RPLL, g: u64) -> Turned {
-    let u = draw(g);
+fn drawn_turn(r: Running, c: RPLLConfig) -> Running {
+    let u = draw(r.draws);
+    let s = r.state;
     if u.value % 2 == 0 {
-        let r = c.process(s, Timestamp::Missing);
-        let estimate = r.estimate;
-        let state = r.state;
-        return Turned {
-            estimate,
-            state,
-            generator: u.state,
-        };
+        return processed(r, c.process(s, Timestamp::Missing), u.state, r.next);
     }
     let x = spread(u.state);
-    let r = c.process(s, Timestamp::At(u32_as_i32(x.value)));
-    let estimate = r.estimate;
-    let state = r.state;
-    Turned {
-        estimate,
-        state,
-        generator: x.state,
-    }
-}
-
-// A run from zero.
-fn run(c: RPLLConfig, seed: u32, steps: u32) -> u64 {
-    let mut g = seed as u64;
-    let mut d: u64 = 0;
-    let mut s = zero();
-    let mut i: u32 = 0;
-    while i < steps {
-        let r = turn(c, s, g);
-        g = r.generator;
-        let estimate = r.estimate;
-        d = digest_estimate(d, estimate);
-        let next = r.state;
-        s = next;
-        i += 1;
-    }
-    digest_state(d, s)
-}
-
-// A digest and the last frequency.
-struct Locked {
-    digest: u64,
-    frequency: u32,
+    let t = c.process(s, Timestamp::At(u32_as_i32(x.value)));
+    processed(r, t, x.state, r.next)
 }
 
 // The timestamp after now, where one was due before it.
@@ -193,141 +132,131 @@ fn after(due: bool, next: u32, period: u32) -> u32 {
     if due { add_u32(next, period) } else { next }
 }
 
-// A run from zero on the timestamps of a steady reference.
-fn run_lock(c: RPLLConfig, first: u32, steps: u32, period: u32) -> Locked {
-    let length = shl_u32(1, c.dt2 as u32);
-    let mut now: u32 = 0;
-    let mut next = first;
-    let mut d: u64 = 0;
-    let mut s = zero();
-    let mut i: u32 = 0;
-    while i < steps {
-        now = add_u32(now, length);
-        let due = sub_u32(now, next) < 0x8000_0000;
-        let r = c.process(s, timestamp(due, next));
-        next = after(due, next, period);
-        let estimate = r.estimate;
-        d = digest_estimate(d, estimate);
-        let state = r.state;
-        s = state;
-        i += 1;
-    }
-    Locked {
-        digest: digest_state(d, s),
-        frequency: s.frequency(),
-    }
+// A step on the timestamps of a steady reference.
+fn steady_turn(r: Running, c: RPLLConfig, now: u32, period: u32) -> Running {
+    let due = sub_u32(now, r.next) < 0x8000_0000;
+    let s = r.state;
+    let t = c.process(s, timestamp(due, r.next));
+    processed(r, t, r.draws, after(due, r.next, period))
 }
 
-// 1 where the run differs, or its last frequency is 200 or more off the reference's.
-fn lock(text: &[u8], at: usize) -> u64
-    requires { ⌜ at < 65536 ⌝ }
-    ensures { λ r. ⌜ r ≤ 1 ⌝ }
-{
-    let last = word(text, at + 9);
-    let steady = word(text, at + 10);
-    let c = configuration(text, at + 1);
-    let r = run_lock(
-        c,
-        word(text, at + 4),
-        word(text, at + 5),
-        word(text, at + 8),
-    );
-    if r.digest != double(text, at + 6) {
-        return 1;
-    }
-    if 398 < add_u32(sub_u32(r.frequency, steady), 199) {
-        return 1;
-    }
-    same(r.frequency, last)
+// The length of a step.
+fn interval(c: RPLLConfig) -> u32 {
+    shl_u32(1, c.dt2 as u32)
 }
 
-// 1 where the line at word number at differs from what the proved function gives.
-fn differs(text: &[u8], at: usize, code: u32) -> u64
-    requires { ⌜ at < 65536 ⌝ }
-    ensures { λ r. ⌜ r ≤ 1 ⌝ }
-{
-    if code == 1 {
-        return step(text, at);
+// Step number i of a line's run.
+fn turn(r: Running, w: [u32; 40], i: u32) -> Running {
+    let c = configuration(w);
+    if w[0] == 3 {
+        return steady_turn(r, c, mul_u32(add_u32(i, 1), interval(c)), w[8]);
     }
-    if code == 3 {
-        return lock(text, at);
+    drawn_turn(r, c)
+}
+
+// A line's run from zero.
+fn run(w: [u32; 40], steps: u32) -> Running {
+    let mut r = Running {
+        state: zero(),
+        draws: double(0, w[4]),
+        next: w[4],
+        digest: 0,
+    };
+    for i in 0..steps {
+        r = turn(r, w, i);
     }
-    let d = run(
-        configuration(text, at + 1),
-        word(text, at + 4),
-        word(text, at + 5),
-    );
-    if d == double(text, at + 6) { 0 } else { 1 }
+    r
+}
+
+// 1 where a run's digest differs, or where a steady one's last frequency is not the line's or 200 or more off the
+// reference's.
+fn long_run(w: [u32; 40]) -> u64 {
+    let r = run(w, w[5]);
+    let s = r.state;
+    if digest_words(r.digest, &words_of(s)) != double(w[6], w[7]) {
+        return 1;
+    }
+    if w[0] == 2 {
+        return 0;
+    }
+    if 398 < add_u32(sub_u32(s.frequency(), w[10]), 199) {
+        return 1;
+    }
+    unlike(s.frequency(), w[9])
+}
+
+// 1 where the line differs from what the proved function gives.
+fn differs(w: [u32; 40]) -> u64 {
+    if w[0] == 1 {
+        return step(w);
+    }
+    long_run(w)
 }
 
 // How many cases a line stands for: the steps of a run, else one.
-fn weight(text: &[u8], at: usize, code: u32) -> u64
-    requires { ⌜ at < 65536 ⌝ }
-    ensures { λ r. ⌜ r < 4294967296 ⌝ }
-{
-    if code == 1 {
-        1
-    } else {
-        word(text, at + 5) as u64
+fn weight(w: [u32; 40]) -> u64 {
+    if w[0] == 1 {
+        return 1;
     }
+    double(0, w[5])
 }
 
 // All lines with this code.
 fn compare(text: &[u8], code: u32, name: &[u8]) {
     let mut cases: u64 = 0;
     let mut differ: u64 = 0;
-    for line in 0..LINES {
-        let at = line * WIDTH;
-        if word(text, at) == code {
-            cases += weight(text, at, code);
-            differ += differs(text, at, code);
+    for i in 0..LINES {
+        let w = line(text, i * WIDTH);
+        if w[0] == code {
+            cases = add_u64(cases, weight(w));
+            differ = add_u64(differ, differs(w));
         }
     }
     report(name, cases, differ);
 }
 
 // 01's number for a configuration, 0 where it has none.
-fn rule(dt2: u32, shift_frequency: u32, shift_phase: u32) -> u32
-    requires { ⌜ dt2 < 256 ⌝ }
-{
+fn rule(dt2: u32, shift_frequency: u32, shift_phase: u32) -> u32 {
     if dt2 > 30 {
-        60
-    } else if shift_frequency <= dt2 || shift_frequency > 32 {
-        61
-    } else if shift_phase < dt2 || shift_phase > dt2 + 31 {
-        62
-    } else {
-        0
+        return 60;
     }
+    if shift_frequency <= dt2 || shift_frequency > 32 {
+        return 61;
+    }
+    if shift_phase < dt2 || shift_phase > dt2 + 31 {
+        return 62;
+    }
+    0
 }
 
 // 1 where the call's number is another, or a refused call changed the state.
-fn number_differs(r: Processed, s: RPLL, number: u32) -> u64
-    ensures { λ r. ⌜ r ≤ 1 ⌝ }
-{
-    let estimate = r.estimate;
+fn number_differs(r: Processed, s: RPLL, number: u32) -> u64 {
     let state = r.state;
+    let estimate = r.estimate;
     let Estimate::Refused(k) = estimate else {
-        return same(0, number);
+        return unlike(0, number);
     };
     if k != number {
         return 1;
     }
-    states_differ(s, state)
+    unlike_words(&words_of(s), &words_of(state))
+}
+
+// 1 where configuration number i is not refused as 01 has it.
+fn configuration_differs(s: RPLL, i: u32) -> u64 {
+    let dt2 = i / 65536;
+    let shift_frequency = i / 256 % 256;
+    let shift_phase = i % 256;
+    let c = configured(dt2, shift_frequency, shift_phase);
+    let r = c.process(s, Timestamp::At(5));
+    number_differs(r, s, rule(dt2, shift_frequency, shift_phase))
 }
 
 // How many configurations are not refused as 01 has it.
 fn refusals_differ(s: RPLL) -> u64 {
     let mut differ: u64 = 0;
-    let mut i: u32 = 0;
-    while i < CONFIGURATIONS {
-        let dt2 = i / 65536;
-        let shift_frequency = i / 256 % 256;
-        let shift_phase = i % 256;
-        let c = configured(dt2, shift_frequency, shift_phase);
-        let r = c.process(s, Timestamp::At(5));
-        differ += number_differs(r, s, rule(dt2, shift_frequency, shift_phase));
-        i += 1;
+    for i in 0..CONFIGURATIONS {
+        differ = add_u64(differ, configuration_differs(s, i));
     }
     differ
 }

@@ -1,11 +1,13 @@
 // Runs the proved phase words over the Rust's stored answers (oracle/README.md, unwrap) and prints what differs.
+use cases::lines::double;
+use cases::lines::line;
+use cases::lines::report;
+use cases::lines::unlike;
+use cases::lines::unlike_double;
 use cases::runs::digest;
 use cases::runs::digest_double;
 use cases::runs::draw;
 use cases::runs::spread;
-use cases::text::double;
-use cases::text::report;
-use cases::text::word;
 use unwrap::clamp_wrap::ClampWrap;
 use unwrap::scale::Scaled;
 use unwrap::scale::saturating_scale;
@@ -18,17 +20,12 @@ use words::casts::u32_as_i32;
 use words::casts::u64_as_i64;
 use words::shifts::shr_i32;
 use words::unsigned::add_u32;
-ghost use Prim.Native.Nat.{_<_, _≤_};
+use words::unsigned::add_u64;
+ghost use Prim.Native.Nat.{_≤_};
 
-const LINES: usize = 2800;
+const LINES: u32 = 2800;
 
-const WIDTH: usize = 7;
-
-fn same(a: u32, b: u32) -> u64
-    ensures { λ r. ⌜ r ≤ 1 ⌝ }
-{
-    if a == b { 0 } else { 1 }
-}
+const WIDTH: u32 = 7;
 
 // The word of a wrap's sign, as the stored answers have it.
 fn sign(w: Wrap) -> u32 {
@@ -56,121 +53,121 @@ fn scaled(lo: u32, hi: u32, shift: u32) -> u32 {
     }
 }
 
-fn difference(text: &[u8], at: usize) -> u64
-    requires { ⌜ at < 65536 ⌝ }
-    ensures { λ r. ⌜ r ≤ 1 ⌝ }
-{
-    let d = overflowing_sub(
-        u32_as_i32(word(text, at + 1)),
-        u32_as_i32(word(text, at + 2)),
-    );
-    let w = d.wrap;
-    if i32_as_u32(d.delta) != word(text, at + 3) {
+fn difference(w: [u32; 40]) -> u64 {
+    let d = overflowing_sub(u32_as_i32(w[1]), u32_as_i32(w[2]));
+    let wrap = d.wrap;
+    if i32_as_u32(d.delta) != w[3] {
         return 1;
     }
-    same(sign(w), word(text, at + 4))
+    unlike(sign(wrap), w[4])
 }
 
-fn wrap_sum(text: &[u8], at: usize) -> u64
-    requires { ⌜ at < 65536 ⌝ }
-    ensures { λ r. ⌜ r ≤ 1 ⌝ }
-{
-    let a = wrap_of(word(text, at + 1));
-    let b = wrap_of(word(text, at + 2));
-    same(sign(a.add(b)), word(text, at + 3))
+fn wrap_sum(w: [u32; 40]) -> u64 {
+    let a = wrap_of(w[1]);
+    let b = wrap_of(w[2]);
+    unlike(sign(a.add(b)), w[3])
 }
 
-fn scale(text: &[u8], at: usize) -> u64
-    requires { ⌜ at < 65536 ⌝ }
-    ensures { λ r. ⌜ r ≤ 1 ⌝ }
-{
-    let v = scaled(word(text, at + 1), word(text, at + 2), word(text, at + 3));
-    same(v, word(text, at + 4))
+fn scale(w: [u32; 40]) -> u64 {
+    let v = scaled(w[1], w[2], w[3]);
+    unlike(v, w[4])
 }
 
-fn unwrap_step(text: &[u8], at: usize) -> u64
-    requires { ⌜ at < 65536 ⌝ }
-    ensures { λ r. ⌜ r ≤ 1 ⌝ }
-{
+fn unwrap_step(w: [u32; 40]) -> u64 {
     let u = Unwrapper {
-        y: u64_as_i64(double(text, at + 1)),
+        y: u64_as_i64(double(w[1], w[2])),
     };
-    let r = u.process(u32_as_i32(word(text, at + 3)));
+    let r = u.process(u32_as_i32(w[3]));
     let after = r.state;
-    if i32_as_u32(r.dx) != word(text, at + 4) {
+    if i32_as_u32(r.dx) != w[4] {
         return 1;
     }
-    if i64_as_u64(after.y) != double(text, at + 5) {
+    if i64_as_u64(after.y) != double(w[5], w[6]) {
         return 1;
     }
     0
 }
 
-fn turns(text: &[u8], at: usize) -> u64
-    requires { ⌜ at < 65536 ⌝ }
-    ensures { λ r. ⌜ r ≤ 1 ⌝ }
-{
+fn turns(w: [u32; 40]) -> u64 {
     let u = Unwrapper {
-        y: u64_as_i64(double(text, at + 1)),
+        y: u64_as_i64(double(w[1], w[2])),
     };
-    if i32_as_u32(u.wraps()) != word(text, at + 3) {
+    if i32_as_u32(u.wraps()) != w[3] {
         return 1;
     }
-    same(i32_as_u32(u.phase()), word(text, at + 4))
+    unlike(i32_as_u32(u.phase()), w[4])
 }
 
-fn clamp_step(text: &[u8], at: usize) -> u64
-    requires { ⌜ at < 65536 ⌝ }
-    ensures { λ r. ⌜ r ≤ 1 ⌝ }
-{
+fn clamp_step(w: [u32; 40]) -> u64 {
     let c = ClampWrap {
-        x0: u32_as_i32(word(text, at + 1)),
-        clamp: wrap_of(word(text, at + 2)),
+        x0: u32_as_i32(w[1]),
+        clamp: wrap_of(w[2]),
     };
-    let r = c.process(u32_as_i32(word(text, at + 3)));
+    let r = c.process(u32_as_i32(w[3]));
     let after = r.state;
     let clamp = after.clamp;
-    if i32_as_u32(r.y) != word(text, at + 4) {
+    if i32_as_u32(r.y) != w[4] {
         return 1;
     }
-    if i32_as_u32(after.x0) != word(text, at + 5) {
+    if i32_as_u32(after.x0) != w[5] {
         return 1;
     }
-    same(sign(clamp), word(text, at + 6))
+    unlike(sign(clamp), w[6])
 }
 
-// A run of overflowing_sub.
-fn run_difference(seed: u32, steps: u32) -> u64 {
-    let mut s = seed as u64;
-    let mut d: u64 = 0;
-    let mut i: u32 = 0;
-    while i < steps {
-        let y = spread(s);
-        let x = spread(y.state);
-        s = x.state;
-        let r = overflowing_sub(u32_as_i32(y.value), u32_as_i32(x.value));
-        let w = r.wrap;
-        d = digest(digest(d, i32_as_u32(r.delta)), sign(w));
-        i += 1;
-    }
-    d
+// What a run steps, the generator that feeds it, and what it answers: its digest so far, or a count.
+struct Running {
+    unwrapper: Unwrapper,
+    clamp: ClampWrap,
+    draws: u64,
+    answer: u64,
 }
 
-// A run of saturating_scale; near: hi is first shifted to where the clip begins.
-fn run_scale(seed: u32, steps: u32, near: bool) -> u64 {
-    let mut s = seed as u64;
-    let mut d: u64 = 0;
-    let mut i: u32 = 0;
-    while i < steps {
-        let lo = spread(s);
-        let hi = spread(lo.state);
-        let k = draw(hi.state);
-        s = k.state;
-        let shift = 1 + k.value % 32;
-        d = digest(d, scaled(lo.value, placed(hi.value, shift, near), shift));
-        i += 1;
+// From y, and from a clamp of zero.
+fn started(seed: u32, y: u64) -> Running {
+    Running {
+        unwrapper: Unwrapper { y: u64_as_i64(y) },
+        clamp: ClampWrap {
+            x0: 0,
+            clamp: Wrap::None,
+        },
+        draws: seed as u64,
+        answer: 0,
     }
-    d
+}
+
+// The same states, with this answer.
+fn answered(r: Running, draws: u64, answer: u64) -> Running {
+    let unwrapper = r.unwrapper;
+    let clamp = r.clamp;
+    Running {
+        unwrapper,
+        clamp,
+        draws,
+        answer,
+    }
+}
+
+fn difference_turn(r: Running) -> Running {
+    let y = spread(r.draws);
+    let x = spread(y.state);
+    let o = overflowing_sub(u32_as_i32(y.value), u32_as_i32(x.value));
+    let wrap = o.wrap;
+    answered(
+        r,
+        x.state,
+        digest(digest(r.answer, i32_as_u32(o.delta)), sign(wrap)),
+    )
+}
+
+// Near: hi is first shifted to where the clip begins.
+fn scale_turn(r: Running, near: bool) -> Running {
+    let lo = spread(r.draws);
+    let hi = spread(lo.state);
+    let k = draw(hi.state);
+    let shift = 1 + k.value % 32;
+    let v = scaled(lo.value, placed(hi.value, shift, near), shift);
+    answered(r, k.state, digest(r.answer, v))
 }
 
 fn placed(hi: u32, shift: u32, near: bool) -> u32
@@ -182,90 +179,35 @@ fn placed(hi: u32, shift: u32, near: bool) -> u32
     hi
 }
 
-// A run of the unwrapper from y.
-fn run_unwrap(seed: u32, steps: u32, y: u64) -> u64 {
-    let mut s = seed as u64;
-    let mut d: u64 = 0;
-    let mut u = Unwrapper { y: u64_as_i64(y) };
-    let mut i: u32 = 0;
-    while i < steps {
-        let x = spread(s);
-        s = x.state;
-        let r = u.process(u32_as_i32(x.value));
-        let after = r.state;
-        u = after;
-        d = digest(
-            digest(digest(d, i32_as_u32(r.dx)), i32_as_u32(u.wraps())),
-            i32_as_u32(u.phase()),
-        );
-        i += 1;
-    }
-    digest_double(d, i64_as_u64(u.y))
-}
-
-// A run of the clamp from zero.
-fn run_clamp(seed: u32, steps: u32) -> u64 {
-    let mut s = seed as u64;
-    let mut d: u64 = 0;
-    let mut c = ClampWrap {
-        x0: 0,
-        clamp: Wrap::None,
-    };
-    let mut i: u32 = 0;
-    while i < steps {
-        let x = spread(s);
-        s = x.state;
-        let r = c.process(u32_as_i32(x.value));
-        let after = r.state;
-        c = after;
-        d = digest(d, i32_as_u32(r.y));
-        i += 1;
-    }
-    let clamp = c.clamp;
-    digest(digest(d, i32_as_u32(c.x0)), sign(clamp))
-}
-
-fn run(text: &[u8], at: usize, code: u32) -> u64
-    requires { ⌜ at < 65536 ⌝ }
-    ensures { λ r. ⌜ r ≤ 1 ⌝ }
-{
-    let seed = word(text, at + 1);
-    let steps = word(text, at + 2);
-    let d = match code {
-        7 => run_difference(seed, steps),
-        8 => run_scale(seed, steps, false),
-        9 => run_scale(seed, steps, true),
-        10 => run_unwrap(seed, steps, double(text, at + 3)),
-        _ => run_clamp(seed, steps),
-    };
-    if d == double(text, at + 5) { 0 } else { 1 }
-}
-
-// 1 where the line at word number at differs from what the proved function gives.
-fn differs(text: &[u8], at: usize, code: u32) -> u64
-    requires { ⌜ at < 65536 ⌝ }
-    ensures { λ r. ⌜ r ≤ 1 ⌝ }
-{
-    match code {
-        1 => difference(text, at),
-        2 => wrap_sum(text, at),
-        3 => scale(text, at),
-        4 => unwrap_step(text, at),
-        5 => turns(text, at),
-        6 => clamp_step(text, at),
-        _ => run(text, at, code),
+fn unwrap_turn(r: Running) -> Running {
+    let x = spread(r.draws);
+    let u = r.unwrapper;
+    let t = u.process(u32_as_i32(x.value));
+    let after = t.state;
+    let turned = digest(
+        digest(r.answer, i32_as_u32(t.dx)),
+        i32_as_u32(after.wraps()),
+    );
+    let clamp = r.clamp;
+    Running {
+        unwrapper: after,
+        clamp,
+        draws: x.state,
+        answer: digest(turned, i32_as_u32(after.phase())),
     }
 }
 
-// How many cases a line stands for: the steps of a run, else one.
-fn weight(text: &[u8], at: usize, code: u32) -> u64
-    requires { ⌜ at < 65536 ⌝ }
-    ensures { λ r. ⌜ r < 4294967296 ⌝ }
-{
-    if code < 7 {
-        1
-    } else {
-        word(text, at + 2) as u64
+fn clamp_turn(r: Running) -> Running {
+    let x = spread(r.draws);
+    let c = r.clamp;
+    let t = c.process(u32_as_i32(x.value));
+    let after = t.state;
+    let unwrapper = r.unwrapper;
+    Running {
+        unwrapper,
+        clamp: after,
+        draws: x.state,
+        answer: digest(r.answer, i32_as_u32(t.y)),
     }
 }
 
@@ -278,9 +220,7 @@ fn monotone_shift(u: u32) -> u32
 }
 
 // 1 where the scaled value steps back from hi, lo to the next larger pair.
-fn steps_back(lo: u32, hi: u32, shift: u32) -> u64
-    ensures { λ r. ⌜ r ≤ 1 ⌝ }
-{
+fn steps_back(lo: u32, hi: u32, shift: u32) -> u64 {
     if lo == 0x7fff_ffff {
         if hi == 0x7fff_ffff {
             return 0;
@@ -293,38 +233,84 @@ fn steps_back(lo: u32, hi: u32, shift: u32) -> u64
     before(scaled(add_u32(lo, 1), hi, shift), scaled(lo, hi, shift))
 }
 
-fn before(a: u32, b: u32) -> u64
-    ensures { λ r. ⌜ r ≤ 1 ⌝ }
-{
+fn before(a: u32, b: u32) -> u64 {
     if u32_as_i32(a) < u32_as_i32(b) { 1 } else { 0 }
 }
 
-// How often a run of neighbours, half of them at the clip, steps back.
-fn run_monotone(seed: u32, steps: u32) -> u64 {
-    let mut s = seed as u64;
-    let mut back: u64 = 0;
-    let mut i: u32 = 0;
-    while i < steps {
-        let lo = spread(s);
-        let hi = spread(lo.state);
-        let k = draw(hi.state);
-        s = k.state;
-        let shift = monotone_shift(k.value);
-        back += steps_back(lo.value, placed(hi.value, shift, i % 2 == 0), shift);
-        i += 1;
+// Counts where neighbours, near the clip or not, step back.
+fn monotone_turn(r: Running, near: bool) -> Running {
+    let lo = spread(r.draws);
+    let hi = spread(lo.state);
+    let k = draw(hi.state);
+    let shift = monotone_shift(k.value);
+    let back = steps_back(lo.value, placed(hi.value, shift, near), shift);
+    answered(r, k.state, add_u64(r.answer, back))
+}
+
+// Turn number i of a run with this code.
+fn turn(r: Running, code: u32, i: u32) -> Running {
+    match code {
+        7 => difference_turn(r),
+        8 => scale_turn(r, false),
+        9 => scale_turn(r, true),
+        10 => unwrap_turn(r),
+        11 => clamp_turn(r),
+        _ => monotone_turn(r, i % 2 == 0),
     }
-    back
+}
+
+fn run(code: u32, first: Running, steps: u32) -> Running {
+    let mut r = first;
+    for i in 0..steps {
+        r = turn(r, code, i);
+    }
+    r
+}
+
+// The run of a line: what it answers, and the state after it.
+fn long_run(w: [u32; 40]) -> u64 {
+    let r = run(w[0], started(w[1], double(w[3], w[4])), w[2]);
+    let u = r.unwrapper;
+    let c = r.clamp;
+    let clamp = c.clamp;
+    let d = match w[0] {
+        10 => digest_double(r.answer, i64_as_u64(u.y)),
+        11 => digest(digest(r.answer, i32_as_u32(c.x0)), sign(clamp)),
+        _ => r.answer,
+    };
+    unlike_double(d, double(w[5], w[6]))
+}
+
+// 1 where the line differs from what the proved function gives.
+fn differs(w: [u32; 40]) -> u64 {
+    match w[0] {
+        1 => difference(w),
+        2 => wrap_sum(w),
+        3 => scale(w),
+        4 => unwrap_step(w),
+        5 => turns(w),
+        6 => clamp_step(w),
+        _ => long_run(w),
+    }
+}
+
+// How many cases a line stands for: the steps of a run, else one.
+fn weight(w: [u32; 40]) -> u64 {
+    if w[0] < 7 {
+        return 1;
+    }
+    double(0, w[2])
 }
 
 // All lines with this code.
 fn compare(text: &[u8], code: u32, name: &[u8]) {
     let mut cases: u64 = 0;
     let mut differ: u64 = 0;
-    for line in 0..LINES {
-        let at = line * WIDTH;
-        if word(text, at) == code {
-            cases += weight(text, at, code);
-            differ += differs(text, at, code);
+    for i in 0..LINES {
+        let w = line(text, i * WIDTH);
+        if w[0] == code {
+            cases = add_u64(cases, weight(w));
+            differ = add_u64(differ, differs(w));
         }
     }
     report(name, cases, differ);
@@ -348,6 +334,6 @@ fn main() {
     report(
         b"saturating_scale monotone at shifts 1 to 16 and 32, run",
         1000000,
-        run_monotone(17, 1000000),
+        run(12, started(17, 0), 1000000).answer,
     );
 }

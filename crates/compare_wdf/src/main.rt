@@ -1,21 +1,27 @@
 // Runs the proved adapters and filters over the Rust's stored answers (oracle/README.md, wdf) and prints what
 // differs.
+use cases::lines::double;
+use cases::lines::line;
+use cases::lines::report;
+use cases::lines::size;
+use cases::lines::unlike;
+use cases::lines::unlike_double;
+use cases::lines::unlike_words;
 use cases::runs::digest;
+use cases::runs::digest_first;
 use cases::runs::spread;
-use cases::text::double;
-use cases::text::report;
-use cases::text::word;
 use wdf::filter::Out;
 use wdf::filter::Wdf;
 use wdf::tpa::Ports;
 use wdf::tpa::Tpa;
 use words::casts::i32_as_u32;
 use words::casts::u32_as_i32;
-ghost use Prim.Native.Nat.{_<_, _≤_};
+use words::unsigned::add_u64;
+ghost use Prim.Native.Nat.{_≤_};
 
-const LINES: usize = 700;
+const LINES: u32 = 700;
 
-const WIDTH: usize = 29;
+const WIDTH: u32 = 29;
 
 const CORNERS: [u32; 10] = [
     0,
@@ -37,86 +43,46 @@ fn adapted(nibble: u32, x0: u32, x1: u32, a: u32) -> Ports {
 }
 
 // The digest grown by both outputs.
-fn fed(d: u64, p: Ports) -> u64 {
+fn digest_ports(d: u64, p: Ports) -> u64 {
     digest(digest(d, i32_as_u32(p.0)), i32_as_u32(p.1))
 }
 
-fn adapter(text: &[u8], at: usize) -> u64
-    requires { ⌜ at < 65536 ⌝ }
-    ensures { λ r. ⌜ r ≤ 1 ⌝ }
-{
-    let p = adapted(
-        word(text, at + 1),
-        word(text, at + 2),
-        word(text, at + 3),
-        word(text, at + 4),
-    );
-    if i32_as_u32(p.0) != word(text, at + 5) {
+fn adapter(w: [u32; 40]) -> u64 {
+    let p = adapted(w[1], w[2], w[3], w[4]);
+    if i32_as_u32(p.0) != w[5] {
         return 1;
     }
-    if i32_as_u32(p.1) != word(text, at + 6) {
-        return 1;
-    }
-    0
+    unlike(i32_as_u32(p.1), w[6])
 }
 
-// All coefficients at the corners, for one pair of inputs.
-fn corner_row(d: u64, nibble: u32, x0: u32, x1: u32) -> u64 {
-    let mut r = d;
-    for k in 0..10 {
-        r = fed(r, adapted(nibble, x0, x1, CORNERS[k]));
-    }
-    r
-}
-
-// All triples of corners.
-fn run_corners(nibble: u32) -> u64 {
-    let mut d: u64 = 0;
-    for i in 0..100 {
-        d = corner_row(d, nibble, CORNERS[i / 10], CORNERS[i % 10]);
-    }
-    d
-}
-
-// A run of an adapter.
-fn run_adapter(nibble: u32, seed: u32, steps: u32) -> u64 {
-    let mut s = seed as u64;
-    let mut d: u64 = 0;
-    let mut i: u32 = 0;
-    while i < steps {
-        let x0 = spread(s);
-        let x1 = spread(x0.state);
-        let a = spread(x1.state);
-        s = a.state;
-        d = fed(d, adapted(nibble, x0.value, x1.value, a.value));
-        i += 1;
-    }
-    d
-}
-
-// Eight words of the text.
-fn eight(text: &[u8], at: usize) -> [i32; 8]
-    requires { ⌜ at < 65600 ⌝ }
+// Eight words of a line, from number at on.
+fn eight(w: [u32; 40], at: usize) -> [i32; 8]
+    requires { ⌜ at ≤ 32 ⌝ }
 {
-    let mut r = [0i32; 8];
-    for i in 0..8 {
-        let v = u32_as_i32(word(text, at + i));
-        r[i] = v;
-    }
-    r
+    [
+        u32_as_i32(w[at]),
+        u32_as_i32(w[at + 1]),
+        u32_as_i32(w[at + 2]),
+        u32_as_i32(w[at + 3]),
+        u32_as_i32(w[at + 4]),
+        u32_as_i32(w[at + 5]),
+        u32_as_i32(w[at + 6]),
+        u32_as_i32(w[at + 7]),
+    ]
 }
 
-// How many of eight words of the text differ from cells.
-fn others(text: &[u8], at: usize, cells: &[i32; 8]) -> u64
-    requires { ⌜ at < 65600 ⌝ }
-{
-    let mut n: u64 = 0;
-    for i in 0..8 {
-        if i32_as_u32(cells[i]) != word(text, at + i) {
-            n += 1;
-        }
-    }
-    n
+fn cells(f: Wdf) -> [u32; 8] {
+    let z = f.z;
+    [
+        i32_as_u32(z[0]),
+        i32_as_u32(z[1]),
+        i32_as_u32(z[2]),
+        i32_as_u32(z[3]),
+        i32_as_u32(z[4]),
+        i32_as_u32(z[5]),
+        i32_as_u32(z[6]),
+        i32_as_u32(z[7]),
+    ]
 }
 
 // What a step gives out, as a word: its output, or the number of its refusal.
@@ -127,71 +93,24 @@ fn given(out: Out) -> u32 {
     }
 }
 
-fn step(text: &[u8], at: usize) -> u64
-    requires { ⌜ at < 65536 ⌝ }
-    ensures { λ r. ⌜ r ≤ 1 ⌝ }
-{
+fn step(w: [u32; 40]) -> u64 {
     let f = Wdf {
-        sections: word(text, at + 1) as usize,
-        architecture: word(text, at + 2),
-        a: eight(text, at + 3),
-        z: eight(text, at + 11),
+        sections: size(w[1]),
+        architecture: w[2],
+        a: eight(w, 3),
+        z: eight(w, 11),
     };
-    let r = f.process(u32_as_i32(word(text, at + 19)));
-    let out = r.out;
-    if given(out) != word(text, at + 20) {
-        return 1;
-    }
+    let r = f.process(u32_as_i32(w[19]));
     let after = r.state;
-    let z = after.z;
-    if others(text, at + 21, &z) != 0 {
+    let out = r.out;
+    if given(out) != w[20] {
         return 1;
     }
-    0
-}
-
-// Eight drawn words, and the generator's state after them.
-pub struct Filled {
-    pub cells: [i32; 8],
-    pub state: u64,
-}
-
-fn fill(state: u64) -> Filled {
-    let mut s = state;
-    let mut cells = [0i32; 8];
-    for i in 0..8 {
-        let x = spread(s);
-        let v = u32_as_i32(x.value);
-        cells[i] = v;
-        s = x.state;
-    }
-    Filled { cells, state: s }
-}
-
-// The digest grown by the numbers of a slice.
-fn fed_all(d: u64, ys: &[i32]) -> u64 {
-    let mut r = d;
-    for i in 0..ys.len() {
-        let y = ys[i];
-        r = digest(r, i32_as_u32(y));
-    }
-    r
-}
-
-// The digest grown by the first n cells.
-fn fed_cells(d: u64, cells: &[i32; 8], n: usize) -> u64 {
-    let mut r = d;
-    for i in 0..8 {
-        let y = cells[i];
-        if i < n {
-            r = digest(r, i32_as_u32(y));
-        }
-    }
-    r
+    unlike_words(&cells(after), &w[21..29])
 }
 
 // Draws a slice full of inputs; the generator's state after them.
-fn inputs(xs: &mut [i32], state: u64) -> u64 {
+fn fill(xs: &mut [i32], state: u64) -> u64 {
     let mut s = state;
     for i in 0..xs.len() {
         let x = spread(s);
@@ -202,148 +121,169 @@ fn inputs(xs: &mut [i32], state: u64) -> u64 {
     s
 }
 
-// A filter that runs: the generator's state and the digest so far.
-pub struct Running {
-    pub filter: Wdf,
-    pub state: u64,
-    pub digest: u64,
+// The digest grown by the numbers of a slice.
+fn digest_all(d: u64, ys: &[i32]) -> u64 {
+    let mut e = d;
+    for i in 0..ys.len() {
+        let y = ys[i];
+        e = digest(e, i32_as_u32(y));
+    }
+    e
 }
 
-// A block of 500 inputs.
-fn block_on(r: Running) -> Running {
-    let mut xs = [0i32; 500];
-    let mut ys = [0i32; 500];
-    let s = inputs(&mut xs, r.state);
-    let f = r.filter;
-    let done = f.block(&xs, &mut ys);
-    let d = fed_all(r.digest, &ys);
-    let after = done.state;
-    Running {
-        filter: after,
-        state: s,
-        digest: d,
-    }
+// A filter that runs, the generator that feeds it, and the digest so far.
+struct Running {
+    state: Wdf,
+    draws: u64,
+    digest: u64,
 }
 
 // A filter with drawn coefficients and cells.
-fn drawn(sections: usize, architecture: u32, seed: u32) -> Running {
-    let first = fill(seed as u64);
-    let second = fill(first.state);
-    let a = first.cells;
-    let z = second.cells;
-    let f = Wdf {
+fn started(sections: usize, architecture: u32, seed: u32) -> Running {
+    let mut a = [0i32; 8];
+    let mut z = [0i32; 8];
+    let second = fill(&mut a, seed as u64);
+    let draws = fill(&mut z, second);
+    let state = Wdf {
         sections,
         architecture,
         a,
         z,
     };
     Running {
-        filter: f,
-        state: second.state,
+        state,
+        draws,
         digest: 0,
     }
 }
 
-// One input.
-fn step_on(r: Running) -> Running {
-    let x = spread(r.state);
-    let f = r.filter;
-    let done = f.process(u32_as_i32(x.value));
-    let out = done.out;
-    let after = done.state;
+// The same filter, with this digest.
+fn digested(r: Running, draws: u64, digest: u64) -> Running {
+    let state = r.state;
     Running {
-        filter: after,
-        state: x.state,
+        state,
+        draws,
+        digest,
+    }
+}
+
+// Triple number i of the corners.
+fn corner_turn(r: Running, nibble: u32, i: u32) -> Running {
+    let x0 = (i / 100 % 10) as usize;
+    let x1 = (i / 10 % 10) as usize;
+    let a = (i % 10) as usize;
+    let p = adapted(nibble, CORNERS[x0], CORNERS[x1], CORNERS[a]);
+    digested(r, r.draws, digest_ports(r.digest, p))
+}
+
+fn adapter_turn(r: Running, nibble: u32) -> Running {
+    let x0 = spread(r.draws);
+    let x1 = spread(x0.state);
+    let a = spread(x1.state);
+    let p = adapted(nibble, x0.value, x1.value, a.value);
+    digested(r, a.state, digest_ports(r.digest, p))
+}
+
+fn step_turn(r: Running) -> Running {
+    let x = spread(r.draws);
+    let f = r.state;
+    let done = f.process(u32_as_i32(x.value));
+    let state = done.state;
+    let out = done.out;
+    Running {
+        state,
+        draws: x.state,
         digest: digest(r.digest, given(out)),
     }
 }
 
-// A run of a filter by steps.
-fn run_steps(sections: usize, architecture: u32, seed: u32, steps: u32) -> u64 {
-    let mut r = drawn(sections, architecture, seed);
-    let mut i: u32 = 0;
-    while i < steps {
-        r = step_on(r);
-        i += 1;
+// A block of 500 inputs.
+fn block_turn(r: Running) -> Running {
+    let mut xs = [0i32; 500];
+    let mut ys = [0i32; 500];
+    let draws = fill(&mut xs, r.draws);
+    let f = r.state;
+    let done = f.block(&xs, &mut ys);
+    let state = done.state;
+    Running {
+        state,
+        draws,
+        digest: digest_all(r.digest, &ys),
     }
-    let f = r.filter;
-    let cells = f.z;
-    fed_cells(r.digest, &cells, sections)
 }
 
-// A run of a filter by blocks.
-fn run_blocks(sections: usize, architecture: u32, seed: u32, steps: u32) -> u64 {
-    let mut r = drawn(sections, architecture, seed);
-    let mut i: u32 = 0;
-    while i < steps / 500 {
-        r = block_on(r);
-        i += 1;
+// What a turn of a run does; an adapter's has its nibble.
+enum Turn {
+    Corner(u32),
+    Adapter(u32),
+    Step,
+    Block,
+}
+
+fn turned(r: Running, turn: Turn, i: u32) -> Running {
+    match turn {
+        Turn::Corner(nibble) => corner_turn(r, nibble, i),
+        Turn::Adapter(nibble) => adapter_turn(r, nibble),
+        Turn::Step => step_turn(r),
+        Turn::Block => block_turn(r),
     }
-    let f = r.filter;
-    let cells = f.z;
-    fed_cells(r.digest, &cells, sections)
 }
 
-fn same(a: u64, b: u64) -> u64
-    ensures { λ r. ⌜ r ≤ 1 ⌝ }
-{
-    if a == b { 0 } else { 1 }
-}
-
-fn run_filter(text: &[u8], at: usize, by_blocks: bool) -> u64
-    requires { ⌜ at < 65536 ⌝ }
-    ensures { λ r. ⌜ r ≤ 1 ⌝ }
-{
-    let sections = word(text, at + 1) as usize;
-    let architecture = word(text, at + 2);
-    let seed = word(text, at + 3);
-    let steps = word(text, at + 4);
-    let answer = double(text, at + 5);
-    if by_blocks {
-        return same(run_blocks(sections, architecture, seed, steps), answer);
+fn run(turn: Turn, first: Running, turns: u32) -> Running {
+    let mut r = first;
+    for i in 0..turns {
+        r = turned(r, turn, i);
     }
-    same(run_steps(sections, architecture, seed, steps), answer)
+    r
 }
 
-// 1 where the line at word number at differs from what the proved function gives.
-fn differs(text: &[u8], at: usize, code: u32, by_blocks: bool) -> u64
-    requires { ⌜ at < 65536 ⌝ }
-    ensures { λ r. ⌜ r ≤ 1 ⌝ }
-{
-    match code {
-        1 => adapter(text, at),
-        2 => step(text, at),
-        3 => same(run_corners(word(text, at + 1)), double(text, at + 2)),
-        4 => same(
-            run_adapter(word(text, at + 1), word(text, at + 2), word(text, at + 3)),
-            double(text, at + 4),
-        ),
-        _ => run_filter(text, at, by_blocks),
+fn adapter_run(turn: Turn, seed: u32, turns: u32, answer: u64) -> u64 {
+    let mut first = started(0, 0, 0);
+    first.draws = seed as u64;
+    let r = run(turn, first, turns);
+    unlike_double(r.digest, answer)
+}
+
+// A run of a filter: its outputs, then its cells.
+fn filter_run(w: [u32; 40], turn: Turn, turns: u32) -> u64 {
+    let sections = size(w[1]);
+    let r = run(turn, started(sections, w[2], w[3]), turns);
+    let f = r.state;
+    let d = digest_first(r.digest, &cells(f), sections);
+    unlike_double(d, double(w[5], w[6]))
+}
+
+// 1 where the line differs from what the proved function gives; a filter's run by steps (5) or by blocks (6).
+fn differs(w: [u32; 40], kind: u32) -> u64 {
+    match kind {
+        1 => adapter(w),
+        2 => step(w),
+        3 => adapter_run(Turn::Corner(w[1]), 0, 1000, double(w[2], w[3])),
+        4 => adapter_run(Turn::Adapter(w[1]), w[2], w[3], double(w[4], w[5])),
+        5 => filter_run(w, Turn::Step, w[4]),
+        _ => filter_run(w, Turn::Block, w[4] / 500),
     }
 }
 
 // How many cases a line stands for: the triples of corners, the steps of a run, else one.
-fn weight(text: &[u8], at: usize, code: u32) -> u64
-    requires { ⌜ at < 65536 ⌝ }
-    ensures { λ r. ⌜ r < 4294967296 ⌝ }
-{
-    match code {
+fn weight(w: [u32; 40]) -> u64 {
+    match w[0] {
         1 | 2 => 1,
         3 => 1000,
-        4 => word(text, at + 3) as u64,
-        _ => word(text, at + 4) as u64,
+        4 => double(0, w[3]),
+        _ => double(0, w[4]),
     }
 }
 
-// All lines with this code.
-fn compare(text: &[u8], code: u32, by_blocks: bool, name: &[u8]) {
+// All lines with this code, by calls of this kind.
+fn compare(text: &[u8], code: u32, kind: u32, name: &[u8]) {
     let mut cases: u64 = 0;
     let mut differ: u64 = 0;
-    for line in 0..LINES {
-        let at = line * WIDTH;
-        if word(text, at) == code {
-            cases += weight(text, at, code);
-            differ += differs(text, at, code, by_blocks);
+    for i in 0..LINES {
+        let w = line(text, i * WIDTH);
+        if w[0] == code {
+            cases = add_u64(cases, weight(w));
+            differ = add_u64(differ, differs(w, kind));
         }
     }
     report(name, cases, differ);
@@ -353,10 +293,10 @@ fn main() {
     let mut space = [0u8; 200000];
     let n = io::read_full(0, &mut space);
     let text = &space[..n];
-    compare(text, 1, false, b"Tpa::adapt");
-    compare(text, 2, false, b"Wdf step");
-    compare(text, 3, false, b"Tpa::adapt at the corners");
-    compare(text, 4, false, b"Tpa::adapt, runs");
-    compare(text, 5, false, b"Wdf, runs by steps");
-    compare(text, 5, true, b"Wdf, runs by blocks");
+    compare(text, 1, 1, b"Tpa::adapt");
+    compare(text, 2, 2, b"Wdf step");
+    compare(text, 3, 3, b"Tpa::adapt at the corners");
+    compare(text, 4, 4, b"Tpa::adapt, runs");
+    compare(text, 5, 5, b"Wdf, runs by steps");
+    compare(text, 5, 6, b"Wdf, runs by blocks");
 }

@@ -1,3 +1,4 @@
+-- What fits 16 bits fits 32.
 use native.Mathlib.Omega.{arith}
 use mir.Syntax.{w16}
 use mir.ValLaws.{toZ-ofZ}
@@ -8,11 +9,5 @@ use Rattle.compare_dsm.proofs.word_of.Tie as tie
 cast-i32-as-u32 : tie.Need-cast-i32-as-u32
 cast-i32-as-u32 c = let h = c .fits .y .sfits in rw (toZ-ofZ w16 (c .args .y) (c .fits .y)) (record { sfits = omega arith })
 
-i32-as-u32-requires : tie.Need-i32-as-u32-requires
-i32-as-u32-requires c κs = search needs
-
-returns : tie.Need-returns
-returns c = search needs
-
 pub word-of-spec : {M : Type 1} → statement M
-word-of-spec = tie.close (tie.spec cast-i32-as-u32 i32-as-u32-requires returns)
+word-of-spec = tie.close (tie.spec cast-i32-as-u32 (λ c κs. search needs) (λ c. search needs))

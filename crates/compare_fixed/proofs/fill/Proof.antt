@@ -1,3 +1,4 @@
+-- A thousand turns, each at its place.
 use Prim.Native.Nat.{_≤_, _-_}
 use borrow.Author.Needs.{needs}
 use Rattle.compare_fixed.proofs.fill.Statement.{statement}
@@ -9,45 +10,8 @@ Inv-loop xs₀ state g₀ i₀ xs g i = i ≤ 1000
 abbrev μ-loop : tie.MeasureT-loop
 μ-loop xs₀ state g₀ i₀ xs g i = 1000 - i
 
-loop-holds : tie.Need-loop-holds Inv-loop μ-loop
-loop-holds c = search needs
-
-spread-requires : tie.Need-spread-requires Inv-loop μ-loop
-spread-requires c κs = search needs
-
-u32-as-i32-requires : tie.Need-u32-as-i32-requires Inv-loop μ-loop
-u32-as-i32-requires c κs = search needs
-
-mul-t8 : tie.Need-mul-t8 Inv-loop μ-loop
-mul-t8 c = search needs
-
-element-set-from-xs : tie.Need-element-set-from-xs Inv-loop μ-loop
-element-set-from-xs c = search needs
-
-add-i : tie.Need-add-i Inv-loop μ-loop
-add-i c = search needs
-
-loop-less : tie.Need-loop-less Inv-loop μ-loop
-loop-less c = search needs
-
-loop-again : tie.Need-loop-again Inv-loop μ-loop
-loop-again c = search needs
-
-returns : tie.Need-returns Inv-loop μ-loop
-returns c = search needs
-
 pub fill-spec : {M : Type 1} → statement M
 fill-spec =
     tie.close
-    (tie.spec
-    Inv-loop
-    μ-loop
-    loop-holds
-    spread-requires
-    u32-as-i32-requires
-    mul-t8
-    element-set-from-xs
-    add-i
-    loop-less
-    loop-again
-    returns)
+    (tie.spec Inv-loop μ-loop (λ c. search needs) (λ c κs. search needs) (λ c κs. search needs) (λ c. search needs)
+    (λ c. search needs) (λ c. search needs) (λ c. search needs) (λ c. search needs) (λ c. search needs))

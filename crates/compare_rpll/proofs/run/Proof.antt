@@ -1,53 +1,18 @@
+-- As many turns as there are steps.
 use Prim.Native.Nat.{_≤_, _-_}
 use borrow.Author.Needs.{needs}
 use Rattle.compare_rpll.proofs.run.Statement.{statement}
 use Rattle.compare_rpll.proofs.run.Tie as tie
 
 abbrev Inv-loop : tie.InvT-loop
-Inv-loop c seed steps g₀ d₀ s₀ i₀ g d s i = i ≤ steps
+Inv-loop steps w r₀ i₀ r i = i ≤ steps
 
 abbrev μ-loop : tie.MeasureT-loop
-μ-loop c seed steps g₀ d₀ s₀ i₀ g d s i = steps - i
-
-zero-requires : tie.Need-zero-requires Inv-loop μ-loop
-zero-requires c κs = search needs
-
-loop-holds : tie.Need-loop-holds Inv-loop μ-loop
-loop-holds c = search needs
-
-turn-requires : tie.Need-turn-requires Inv-loop μ-loop
-turn-requires c κs = search needs
-
-digest-estimate-requires : tie.Need-digest-estimate-requires Inv-loop μ-loop
-digest-estimate-requires c κs = search needs
-
-add-i : tie.Need-add-i Inv-loop μ-loop
-add-i c = search needs
-
-loop-less : tie.Need-loop-less Inv-loop μ-loop
-loop-less c = search needs
-
-loop-again : tie.Need-loop-again Inv-loop μ-loop
-loop-again c = search needs
-
-digest-state-requires : tie.Need-digest-state-requires Inv-loop μ-loop
-digest-state-requires c κs = search needs
-
-returns : tie.Need-returns Inv-loop μ-loop
-returns c = search needs
+μ-loop steps w r₀ i₀ r i = steps - i
 
 pub run-spec : {M : Type 1} → statement M
 run-spec =
     tie.close
-    (tie.spec
-    Inv-loop
-    μ-loop
-    zero-requires
-    loop-holds
-    turn-requires
-    digest-estimate-requires
-    add-i
-    loop-less
-    loop-again
-    digest-state-requires
-    returns)
+    (tie.spec Inv-loop μ-loop (λ c κs. search needs) (λ c. search needs) (λ c κs. search needs) (λ c. search needs)
+    (λ c. search needs) (λ c κs. search needs) (λ c. search needs) (λ c. search needs) (λ c. search needs)
+    (λ c. search needs))

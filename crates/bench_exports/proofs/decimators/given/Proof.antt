@@ -1,18 +1,10 @@
+-- Each variant's number.
 use mir.Syntax.{w32}
 use mir.ValLaws.{toZ-ofZ}
 use Rattle.bench_exports.specs.Fresh.{givenIn}
 use borrow.Author.Needs.{needs}
 use Rattle.bench_exports.proofs.decimators.given.Statement.{statement}
 use Rattle.bench_exports.proofs.decimators.given.Tie as tie
-
-enum-known-out : tie.Need-enum-known-out
-enum-known-out c = search needs
-
-enum-told : tie.Need-enum-told
-enum-told c = search needs
-
-enum-told-2 : tie.Need-enum-told-2
-enum-told-2 c = search needs
 
 returns : tie.Need-returns
 unfolding givenIn
@@ -27,4 +19,5 @@ unfolding givenIn
 returns-3 c = rw (c .enum-told2 .given .1)
 
 pub given-spec : {M : Type 1} → statement M
-given-spec = tie.close (tie.spec enum-known-out enum-told enum-told-2 returns returns-2 returns-3)
+given-spec =
+    tie.close (tie.spec (λ c. search needs) (λ c. search needs) (λ c. search needs) returns returns-2 returns-3)

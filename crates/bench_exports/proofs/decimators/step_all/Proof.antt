@@ -1,3 +1,4 @@
+-- Each turn is a step of the block (blocks' Turns).
 use borrow.Author.Needs.{needs}
 use mathlib.Core.Path.{_≡_, sym}
 use Prim.Native.Nat.{_-_}
@@ -21,33 +22,12 @@ abbrev μ-loop : tie.MeasureT-loop
 loop-holds : tie.Need-loop-holds Inv-loop μ-loop
 loop-holds c = start _ _ _ _ _ (sym (c .pre))
 
-mul-decimate : tie.Need-mul-decimate Inv-loop μ-loop
-mul-decimate c = search needs
-
-shared-slice-copy-out-decimate : tie.Need-shared-slice-copy-out-decimate Inv-loop μ-loop
-shared-slice-copy-out-decimate c = search needs
-
-decimate-requires : tie.Need-decimate-requires Inv-loop μ-loop
-decimate-requires c κs = search needs
-
-given-requires : tie.Need-given-requires Inv-loop μ-loop
-given-requires c κs = search needs
-
-mul-y : tie.Need-mul-y Inv-loop μ-loop
-mul-y c = search needs
-
-slice-set-from-y : tie.Need-slice-set-from-y Inv-loop μ-loop
-slice-set-from-y c = search needs
-
-add-i : tie.Need-add-i Inv-loop μ-loop
-add-i c = search needs
-
-loop-less : tie.Need-loop-less Inv-loop μ-loop
-loop-less c = search needs
-
 loop-again : tie.Need-loop-again Inv-loop μ-loop
 loop-again c =
-    let d = c .before .before in let l = c .before .before .before .before .before .loop in let a = c .before .before .before .before .before .before .args in
+    let d = c .before .before in
+    let at = d .before .before .before in
+    let l = at .loop in
+    let a = at .before .args in
     let x = getD (a .xs .now) (l .i) (pos 0) in
     let e : d .decimate .result ≡ steppedOf (l .t) x = rw (read w32 x (d .before .decimate-arg .given)) at (d .decimate .ensures) in
     rw (read w32 (c .before .given .result) (c .before .given .ok), c .before .given .ensures, e)
@@ -61,19 +41,6 @@ returns c = done _ _ _ _ _ _ _ (c .loop-test .left) (c .before .loop .inv) .1
 
 pub step-all-spec : {M : Type 1} → statement M
 step-all-spec =
-    tie.close
-    (tie.spec
-    Inv-loop
-    μ-loop
-    loop-holds
-    mul-decimate
-    shared-slice-copy-out-decimate
-    decimate-requires
-    given-requires
-    mul-y
-    slice-set-from-y
-    add-i
-    loop-less
-    loop-again
-    same-length
-    returns)
+    tie.close (tie.spec Inv-loop μ-loop loop-holds (λ c. search needs) (λ c. search needs) (λ c κs. search needs)
+    (λ c κs. search needs) (λ c. search needs) (λ c. search needs) (λ c. search needs) (λ c. search needs) loop-again
+    same-length returns)

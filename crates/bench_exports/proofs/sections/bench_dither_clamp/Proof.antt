@@ -1,36 +1,23 @@
+-- The call's promise, with the coefficients and the limits that were asked for.
+use mathlib.Core.Path.{_∙_}
+use borrow.Author.Needs.{needs}
 use Rattle.fixed.specs.Forms.{ditherHeld, ditherOnward}
 use Rattle.fixed.specs.Answers.{clampNumber}
-use Rattle.bench_exports.proofs.Handing.{handed}
-use mathlib.Core.Path.{_≡_}
-use Rattle.bench_exports.specs.Fresh.{words, within, quiet}
-use mir.Syntax.{w32}
-use mir.ValLaws.{toZ-ofZ}
-use borrow.Author.Needs.{needs}
+use Rattle.bench_exports.specs.Fresh.{zeroDither}
+use Rattle.bench_exports.proofs.Handing.{handed, biquad-sent, clamp-sent}
 use Rattle.bench_exports.proofs.sections.bench_dither_clamp.Statement.{statement}
 use Rattle.bench_exports.proofs.sections.bench_dither_clamp.Tie as tie
 
-coefficients-requires : tie.Need-coefficients-requires
-coefficients-requires c κs = search needs
-
-bounded-requires : tie.Need-bounded-requires
-bounded-requires c κs = search needs
-
-block-clamp-requires : tie.Need-block-clamp-requires
-block-clamp-requires c κs = search needs
-
-same-length : tie.Need-same-length
-same-length c = search needs
-
 returns : tie.Need-returns
 returns c =
-    let s = c .before .before .before .before .before in let a = s .args in
-    let e : c .before .before .before .before .coefficients .result ≡ words (a .b0) (a .b1) (a .b2) (a .a1) (a .a2) (a .f) =
-    rw (toZ-ofZ w32 (a .b0) (s .fits .b0), toZ-ofZ w32 (a .b1) (s .fits .b1), toZ-ofZ w32 (a .b2) (s .fits .b2), toZ-ofZ w32 (a .a1) (s .fits .a1), toZ-ofZ w32 (a .a2) (s .fits .a2)) at (c .before .before .before .before .coefficients .ensures) in
-    let l : c .before .before .before .bounded .result ≡ within (words (a .b0) (a .b1) (a .b2) (a .a1) (a .a2) (a .f)) (a .u) (a .min) (a .max) =
-    rw (e, toZ-ofZ w32 (a .u) (s .fits .u), toZ-ofZ w32 (a .min) (s .fits .min), toZ-ofZ w32 (a .max) (s .fits .max)) at (c .before .before .before .bounded .ensures) in
-    handed (clampNumber 1) ditherHeld ditherOnward (a .xs .now) (a .ys .now) _ _ quiet _ _ _ l (c .before .block-clamp .ensures)
+    let limited = c .before .before .before in
+    let made = limited .before in
+    let a = made .before .args in
+    let g = made .before .fits in
+    let e = made .coefficients .ensures ∙ biquad-sent (a .f) (g .b0) (g .b1) (g .b2) (g .a1) (g .a2) in
+    let l = (rw e at (limited .bounded .ensures)) ∙ clamp-sent (g .u) (g .min) (g .max) _ in
+    handed (clampNumber 1) ditherHeld ditherOnward (a .xs .now) (a .ys .now) _ _ zeroDither _ _ _ l (c .before .block-clamp .ensures)
 
 pub bench-dither-clamp-spec : {M : Type 1} → statement M
 bench-dither-clamp-spec =
-    tie.close
-    (tie.spec coefficients-requires bounded-requires block-clamp-requires same-length returns)
+    tie.close (tie.spec (λ c κs. search needs) (λ c κs. search needs) (λ c κs. search needs) (λ c. search needs) returns)

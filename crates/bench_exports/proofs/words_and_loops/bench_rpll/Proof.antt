@@ -1,3 +1,4 @@
+-- Lengths that differ leave the slice; else the steps' promise.
 use borrow.Author.Tests.{eq-eqb, ne-eqb}
 use borrow.Author.Needs.{needs}
 use Rattle.bench_exports.proofs.words_and_loops.bench_rpll.Statement.{statement}
@@ -6,15 +7,9 @@ use Rattle.bench_exports.proofs.words_and_loops.bench_rpll.Tie as tie
 returns : tie.Need-returns
 returns c = rw (ne-eqb _ _ (c .if1 .taken))
 
-lock-all-requires : tie.Need-lock-all-requires
-lock-all-requires c κs = search needs
-
-same-length : tie.Need-same-length
-same-length c = search needs
-
 returns-2 : tie.Need-returns-2
 returns-2 c =
     rw (eq-eqb _ _ (c .before .before .before .if1 .left)) (c .before .lock-all .ensures)
 
 pub bench-rpll-spec : {M : Type 1} → statement M
-bench-rpll-spec = tie.close (tie.spec returns lock-all-requires same-length returns-2)
+bench-rpll-spec = tie.close (tie.spec returns (λ c κs. search needs) (λ c. search needs) returns-2)

@@ -1,3 +1,4 @@
+-- Each turn is a step of the block (blocks' Turns).
 use borrow.Author.Needs.{needs}
 use mathlib.Core.Path.{_≡_, sym}
 use Prim.Native.Nat.{_-_}
@@ -22,37 +23,17 @@ abbrev μ-loop : tie.MeasureT-loop
 loop-holds : tie.Need-loop-holds Inv-loop μ-loop
 loop-holds c = start _ _ _ _ _ (sym (c .pre))
 
-mul-x : tie.Need-mul-x Inv-loop μ-loop
-mul-x c = search needs
-
-shared-slice-copy-out-x : tie.Need-shared-slice-copy-out-x Inv-loop μ-loop
-shared-slice-copy-out-x c = search needs
-
-process-requires : tie.Need-process-requires Inv-loop μ-loop
-process-requires c κs = search needs
-
-phase-requires : tie.Need-phase-requires Inv-loop μ-loop
-phase-requires c κs = search needs
-
-mul-y : tie.Need-mul-y Inv-loop μ-loop
-mul-y c = search needs
-
-slice-set-from-y : tie.Need-slice-set-from-y Inv-loop μ-loop
-slice-set-from-y c = search needs
-
-add-i : tie.Need-add-i Inv-loop μ-loop
-add-i c = search needs
-
-loop-less : tie.Need-loop-less Inv-loop μ-loop
-loop-less c = search needs
-
 loop-again : tie.Need-loop-again Inv-loop μ-loop
 loop-again c =
-    let d = c .before .before in let l = c .before .before .before .before .before .loop in let a = c .before .before .before .before .before .before .args in
+    let d = c .before .before in
+    let at = d .before .before .before in
+    let l = at .loop in
+    let a = at .before .args in
     let x = getD (a .xs .now) (l .i) (pos 0) in
     let e : d .process .result ≡ processedOf (a .c) (l .t) (At x) = rw (read w32 x (d .before .x .given)) at (d .process .ensures) in
     rw (read w32 (c .before .phase .result) (c .before .phase .ok), c .before .phase .ensures, e)
-    (turn (loopOut (a .c)) (loopNext (a .c)) (a .s) (a .xs .now) (l .ys) (l .t) (l .i) (pos 0) (d .before .before .loop-test .taken) (l .inv))
+    (turn (loopOut (a .c)) (loopNext (a .c)) (a .s) (a .xs .now) (l .ys) (l .t) (l .i) (pos 0)
+    (d .before .before .loop-test .taken) (l .inv))
 
 same-length : tie.Need-same-length Inv-loop μ-loop
 same-length c = omega arith
@@ -62,19 +43,6 @@ returns c = done _ _ _ _ _ _ _ (c .loop-test .left) (c .before .loop .inv) .1
 
 pub lock-all-spec : {M : Type 1} → statement M
 lock-all-spec =
-    tie.close
-    (tie.spec
-    Inv-loop
-    μ-loop
-    loop-holds
-    mul-x
-    shared-slice-copy-out-x
-    process-requires
-    phase-requires
-    mul-y
-    slice-set-from-y
-    add-i
-    loop-less
-    loop-again
-    same-length
-    returns)
+    tie.close (tie.spec Inv-loop μ-loop loop-holds (λ c. search needs) (λ c. search needs) (λ c κs. search needs)
+    (λ c κs. search needs) (λ c. search needs) (λ c. search needs) (λ c. search needs) (λ c. search needs) loop-again
+    same-length returns)

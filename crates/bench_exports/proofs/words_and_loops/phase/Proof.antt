@@ -1,15 +1,10 @@
+-- Each variant's number.
 use mir.Syntax.{w32}
 use mir.ValLaws.{toZ-ofZ}
 use Rattle.bench_exports.specs.Fresh.{phaseIn}
 use borrow.Author.Needs.{needs}
 use Rattle.bench_exports.proofs.words_and_loops.phase.Statement.{statement}
 use Rattle.bench_exports.proofs.words_and_loops.phase.Tie as tie
-
-enum-known-e : tie.Need-enum-known-e
-enum-known-e c = search needs
-
-enum-told : tie.Need-enum-told
-enum-told c = search needs
 
 returns : tie.Need-returns
 unfolding phaseIn
@@ -20,4 +15,4 @@ unfolding phaseIn
 returns-2 c = rw (c .enum-told .given .1)
 
 pub phase-spec : {M : Type 1} → statement M
-phase-spec = tie.close (tie.spec enum-known-e enum-told returns returns-2)
+phase-spec = tie.close (tie.spec (λ c. search needs) (λ c. search needs) returns returns-2)

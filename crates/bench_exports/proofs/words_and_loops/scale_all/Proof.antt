@@ -1,3 +1,4 @@
+-- Each turn is a step of the block (blocks' Turns), whose state is hi.
 use borrow.Author.Needs.{needs}
 use mathlib.Core.Path.{_≡_, sym}
 use Prim.Native.Nat.{_-_}
@@ -23,40 +24,24 @@ abbrev μ-loop : tie.MeasureT-loop
 loop-holds : tie.Need-loop-holds Inv-loop μ-loop
 loop-holds c = start _ _ _ _ _ (sym (c .pre))
 
-mul-saturating-scale : tie.Need-mul-saturating-scale Inv-loop μ-loop
-mul-saturating-scale c = search needs
-
 shared-slice-copy-out-saturating-scale :
     tie.Need-shared-slice-copy-out-saturating-scale Inv-loop μ-loop
 shared-slice-copy-out-saturating-scale c = search needs
 
-saturating-scale-requires : tie.Need-saturating-scale-requires Inv-loop μ-loop
-saturating-scale-requires c κs = search needs
-
-value-requires : tie.Need-value-requires Inv-loop μ-loop
-value-requires c κs = search needs
-
-mul-y : tie.Need-mul-y Inv-loop μ-loop
-mul-y c = search needs
-
-slice-set-from-y : tie.Need-slice-set-from-y Inv-loop μ-loop
-slice-set-from-y c = search needs
-
-add-i : tie.Need-add-i Inv-loop μ-loop
-add-i c = search needs
-
-loop-less : tie.Need-loop-less Inv-loop μ-loop
-loop-less c = search needs
-
 loop-again : tie.Need-loop-again Inv-loop μ-loop
 loop-again c =
-    let d = c .before in let l = c .before .before .before .before .loop in let s = c .before .before .before .before .before in let a = s .args in
+    let d = c .before in
+    let at = d .before .before .before in
+    let l = at .loop in
+    let s = at .before in
+    let a = s .args in
     let hi = toZ-ofZ w32 (a .hi) (s .fits .hi) in
     let x = getD (a .xs .now) (l .i) (pos 0) in
     let e : d .saturating-scale .result ≡ scaledOf x (a .hi) (a .shift) =
     rw (read w32 x (d .before .saturating-scale-arg .given), hi) at (d .saturating-scale .ensures) in
     rw (hi, read w32 (c .value .result) (c .value .ok), c .value .ensures, e)
-    (turn (scaleOut (a .shift)) scaleNext (a .hi) (a .xs .now) (l .ys) (a .hi) (l .i) (pos 0) (d .before .before .loop-test .taken) (rw hi at (l .inv)))
+    (turn (scaleOut (a .shift)) scaleNext (a .hi) (a .xs .now) (l .ys) (a .hi) (l .i) (pos 0)
+    (d .before .before .loop-test .taken) (rw hi at (l .inv)))
 
 same-length : tie.Need-same-length Inv-loop μ-loop
 same-length c = omega arith
@@ -68,19 +53,6 @@ returns c =
 
 pub scale-all-spec : {M : Type 1} → statement M
 scale-all-spec =
-    tie.close
-    (tie.spec
-    Inv-loop
-    μ-loop
-    loop-holds
-    mul-saturating-scale
-    shared-slice-copy-out-saturating-scale
-    saturating-scale-requires
-    value-requires
-    mul-y
-    slice-set-from-y
-    add-i
-    loop-less
-    loop-again
-    same-length
-    returns)
+    tie.close (tie.spec Inv-loop μ-loop loop-holds (λ c. search needs) shared-slice-copy-out-saturating-scale
+    (λ c κs. search needs) (λ c κs. search needs) (λ c. search needs) (λ c. search needs) (λ c. search needs)
+    (λ c. search needs) loop-again same-length returns)

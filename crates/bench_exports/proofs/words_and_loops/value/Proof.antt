@@ -1,15 +1,10 @@
+-- Each variant's number.
 use mir.Syntax.{w32}
 use mir.ValLaws.{toZ-ofZ}
 use Rattle.bench_exports.specs.Fresh.{valueIn}
 use borrow.Author.Needs.{needs}
 use Rattle.bench_exports.proofs.words_and_loops.value.Statement.{statement}
 use Rattle.bench_exports.proofs.words_and_loops.value.Tie as tie
-
-enum-known-s : tie.Need-enum-known-s
-enum-known-s c = search needs
-
-enum-told : tie.Need-enum-told
-enum-told c = search needs
 
 returns : tie.Need-returns
 unfolding valueIn
@@ -20,4 +15,4 @@ unfolding valueIn
 returns-2 c = rw (c .enum-told .given .1)
 
 pub value-spec : {M : Type 1} → statement M
-value-spec = tie.close (tie.spec enum-known-s enum-told returns returns-2)
+value-spec = tie.close (tie.spec (λ c. search needs) (λ c. search needs) returns returns-2)

@@ -1,3 +1,4 @@
+-- A pattern above infinity's is a NaN, any other a number (Patterns).
 use mathlib.Core.Path.{sym}
 use lib.Ieee.{div, ofBits}
 use borrow.Author.Needs.{needs}
@@ -12,8 +13,5 @@ returns c = sym (pattern-nan (c .before .args .bits) (c .if1 .taken))
 float-from-bits-result : tie.Need-float-from-bits-result
 float-from-bits-result c = pattern-number (c .before .args .bits) (c .if1 .left)
 
-returns-2 : tie.Need-returns-2
-returns-2 c = search needs
-
 pub from-bits-spec : {M : Type 1} → statement M
-from-bits-spec = tie.close (tie.spec returns float-from-bits-result returns-2)
+from-bits-spec = tie.close (tie.spec returns float-from-bits-result (λ c. search needs))

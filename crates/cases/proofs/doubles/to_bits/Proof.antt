@@ -1,3 +1,4 @@
+-- What differs from itself is a NaN, any other a number (Patterns).
 use lib.Ieee.{toBits}
 use borrow.Author.Needs.{needs}
 use Rattle.cases.proofs.Patterns.{differs-nan, same-number}
@@ -11,8 +12,5 @@ returns c = rw (differs-nan (c .before .args .x) (c .if1 .taken))
 float-to-bits-result : tie.Need-float-to-bits-result
 float-to-bits-result c = same-number (c .before .args .x) (c .if1 .left)
 
-returns-2 : tie.Need-returns-2
-returns-2 c = search needs
-
 pub to-bits-spec : {M : Type 1} → statement M
-to-bits-spec = tie.close (tie.spec returns float-to-bits-result returns-2)
+to-bits-spec = tie.close (tie.spec returns float-to-bits-result (λ c. search needs))

@@ -1,3 +1,4 @@
+-- The high word fits a word.
 use native.Mathlib.Omega.{arith}
 use mathlib.Core.Path.{_≡_}
 use Prim.Native.Nat.{_/_, _%_}
@@ -6,18 +7,6 @@ use Rattle.words.specs.Words.{word}
 use Rattle.cases.specs.Runs.{digestTwo}
 use Rattle.cases.proofs.runs.digest_double.Statement.{statement}
 use Rattle.cases.proofs.runs.digest_double.Tie as tie
-
-u64-as-u32-requires : tie.Need-u64-as-u32-requires
-u64-as-u32-requires c κs = search needs
-
-digest-requires : tie.Need-digest-requires
-digest-requires c κs = search needs
-
-u64-as-u32-requires-2 : tie.Need-u64-as-u32-requires-2
-u64-as-u32-requires-2 c κs = search needs
-
-digest-requires-2 : tie.Need-digest-requires-2
-digest-requires-2 c κs = search needs
 
 returns : tie.Need-returns
 unfolding digestTwo word
@@ -28,5 +17,5 @@ returns c =
 
 pub digest-double-spec : {M : Type 1} → statement M
 digest-double-spec =
-    tie.close
-    (tie.spec u64-as-u32-requires digest-requires u64-as-u32-requires-2 digest-requires-2 returns)
+    tie.close (tie.spec (λ c κs. search needs) (λ c κs. search needs) (λ c κs. search needs) (λ c κs. search needs)
+    returns)

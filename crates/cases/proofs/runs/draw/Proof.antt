@@ -1,3 +1,4 @@
+-- The state's high word fits a word.
 use native.Mathlib.Omega.{arith}
 use mathlib.Core.Path.{_≡_}
 use Prim.Native.Nat.{_/_, _%_}
@@ -7,15 +8,6 @@ use Rattle.cases.specs.Runs.{drawn}
 use Rattle.cases.proofs.runs.draw.Statement.{statement}
 use Rattle.cases.proofs.runs.draw.Tie as tie
 
-mul-u64-requires : tie.Need-mul-u64-requires
-mul-u64-requires c κs = search needs
-
-add-u64-requires : tie.Need-add-u64-requires
-add-u64-requires c κs = search needs
-
-u64-as-u32-requires : tie.Need-u64-as-u32-requires
-u64-as-u32-requires c κs = search needs
-
 returns : tie.Need-returns
 unfolding drawn word
 returns c =
@@ -24,4 +16,5 @@ returns c =
     rw (c .u64-as-u32 .ensures, e, n .add-u64 .ensures, m .mul-u64 .ensures)
 
 pub draw-spec : {M : Type 1} → statement M
-draw-spec = tie.close (tie.spec mul-u64-requires add-u64-requires u64-as-u32-requires returns)
+draw-spec =
+    tie.close (tie.spec (λ c κs. search needs) (λ c κs. search needs) (λ c κs. search needs) returns)
