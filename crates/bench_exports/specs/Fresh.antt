@@ -5,9 +5,10 @@ use lib.IntN.{ℤ, pos}
 use lib.ListN.{replicate}
 use lib.Ieee.{Float}
 use Rattle.blocks.specs.Scan.{scan}
-use Rattle.blocks.specs.Blocks.{blockNumber, unless}
+use Rattle.blocks.specs.Blocks.{lengthsNumber, unless}
 use Rattle.sums.specs.Calls.{newState}
-use Rattle.cic.specs.Reading.{i32Ops, cicOf}
+use Rattle.cic.specs.Word.{wordOps}
+use Rattle.cic.specs.Reading.{cicOf}
 use Rattle.cic.specs.Answers.{steppedOf}
 use Rattle.cic.specs.declared.state.Cic.{Cic}
 use Rattle.cic.specs.declared.steps.Out.{Out}
@@ -37,7 +38,7 @@ use Rattle.rpll.specs.Loops.{processedOf}
 
 -- What a block leaves in the lent slice ys: the outputs, or all as it was where the slices or the filter (k) refuse.
 abbrev pub blockLeft : {S A B : Type 0} → ℕ → (S → A → B) → (S → A → S) → S → List A → List B → List B
-blockLeft k out next s xs ys = unless (blockNumber k xs ys) ys (scan out next s xs)
+blockLeft k out next s xs ys = unless (lengthsNumber k xs ys) ys (scan out next s xs)
 
 -- The same of a filter with coefficients c.
 abbrev pub blockLeftBy : {C S A B : Type 0} → (C → ℕ) → (C → S → A → B) → (C → S → A → S) → C → S → List A → List B → List B
@@ -45,10 +46,10 @@ blockLeftBy k out next c s xs ys = blockLeft (k c) (out c) (next c) s xs ys
 
 -- Decimator and interpolator.
 abbrev pub freshCic : ℕ → ℕ → ℕ → Cic
-freshCic order delay rate = cicOf (newState i32Ops order delay rate)
+freshCic order delay rate = cicOf (newState wordOps order delay rate)
 
 unfoldable pub givenIn : Out → ℤ
-givenIn (Out.Given y settled) = y
+givenIn (Out.Given y) = y .value
 givenIn Out.Nothing = pos 0
 givenIn (Out.Refused k) = pos 0
 

@@ -5,13 +5,14 @@ ghost use mathlib.Core.Path.{_≡_};
 ghost use lib.ListN.{length};
 ghost use Rattle.blocks.specs.Scan.{scan};
 ghost use Rattle.sums.specs.Runs.{blockOut, fillOut};
-ghost use Rattle.cic.specs.Reading.{i32Ops, stateOf};
+ghost use Rattle.cic.specs.Word.{wordOps};
+ghost use Rattle.cic.specs.Reading.{stateOf};
 ghost use Rattle.bench_exports.specs.Fresh.{blockLeft, freshCic, givenIn, stepOut, stepNext};
 
 // A decimator's block.
 #[no_mangle]
 pub extern "C" fn bench_decimate(order: usize, delay: usize, rate: u32, xs: &[i32], ys: &mut [i32])
-    ensures { λ _. ⌜ now (ys .exit) ≡ blockOut i32Ops (stateOf (freshCic order delay rate)) (now (xs .entry)) (now (ys .entry)) ⌝ }
+    ensures { λ _. ⌜ now (ys .exit) ≡ blockOut wordOps (stateOf (freshCic order delay rate)) (now (xs .entry)) (now (ys .entry)) ⌝ }
 {
     let made = Cic::new(order, delay, rate);
     let filter = made.state;
@@ -27,7 +28,7 @@ pub extern "C" fn bench_interpolate(
     xs: &[i32],
     ys: &mut [i32],
 )
-    ensures { λ _. ⌜ now (ys .exit) ≡ fillOut i32Ops (stateOf (freshCic order delay rate)) (now (xs .entry)) (now (ys .entry)) ⌝ }
+    ensures { λ _. ⌜ now (ys .exit) ≡ fillOut wordOps (stateOf (freshCic order delay rate)) (now (xs .entry)) (now (ys .entry)) ⌝ }
 {
     let made = Cic::new(order, delay, rate);
     let filter = made.state;
@@ -39,7 +40,7 @@ fn given(out: Out) -> i32
     ensures { λ r. ⌜ r ≡ givenIn out ⌝ }
 {
     match out {
-        Out::Given(y, _) => y,
+        Out::Given(y) => y.value,
         Out::Nothing => 0,
         Out::Refused(_) => 0,
     }

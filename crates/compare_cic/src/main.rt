@@ -38,7 +38,7 @@ const NONE: u32 = 0xffff_ffff;
 // The number of a step's refusal, 0 for none.
 fn output_number(out: Out) -> u32 {
     match out {
-        Out::Given(_, _) => 0,
+        Out::Given(_) => 0,
         Out::Nothing => 0,
         Out::Refused(k) => k,
     }
@@ -47,7 +47,7 @@ fn output_number(out: Out) -> u32 {
 // The digest grown by 1 and the output, by 0 where there is none, or by the number of a refusal.
 fn digest_output(d: u64, out: Out) -> u64 {
     match out {
-        Out::Given(y, _) => digest(digest(d, 1), i32_as_u32(y)),
+        Out::Given(y) => digest(digest(d, 1), i32_as_u32(y.value)),
         Out::Nothing => digest(d, 0),
         Out::Refused(k) => digest(d, k),
     }
@@ -56,7 +56,7 @@ fn digest_output(d: u64, out: Out) -> u64 {
 // The number of a block's refusal, 0 for none.
 fn wrote_number(wrote: Wrote) -> u32 {
     match wrote {
-        Wrote::Outputs(_, _) => 0,
+        Wrote::Outputs(_) => 0,
         Wrote::Refused(k) => k,
     }
 }
