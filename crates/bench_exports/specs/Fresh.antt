@@ -17,10 +17,10 @@ use Rattle.wdf.specs.declared.filter.Wdf.{Wdf}
 use Rattle.wdf.specs.Calls.{made}
 use Rattle.biquad.specs.declared.biquad.Biquad.{Biquad}
 use Rattle.biquad.specs.declared.biquad_clamp.BiquadClamp.{BiquadClamp}
-use Rattle.fixed.specs.declared.coefficients.Biquad as Fixed
-use Rattle.fixed.specs.declared.coefficients.BiquadClamp as FixedClamp
-use Rattle.fixed.specs.declared.wide.DirectForm1Wide.{DirectForm1Wide}
-use Rattle.fixed.specs.declared.dither.DirectForm1Dither.{DirectForm1Dither}
+use Rattle.biquad_fixed.specs.declared.coefficients.Biquad as Fixed
+use Rattle.biquad_fixed.specs.declared.coefficients.BiquadClamp as FixedClamp
+use Rattle.biquad_fixed.specs.declared.wide.DirectForm1Wide.{DirectForm1Wide}
+use Rattle.biquad_fixed.specs.declared.dither.DirectForm1Dither.{DirectForm1Dither}
 use Rattle.unwrap.specs.declared.clamp_wrap.ClampWrap.{ClampWrap}
 use Rattle.unwrap.specs.declared.unwrapper.Unwrapper.{Unwrapper}
 use Rattle.unwrap.specs.declared.wrapping.Wrap.the-variants as Wrap

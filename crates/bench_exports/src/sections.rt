@@ -4,8 +4,8 @@ use biquad::biquad_clamp::BiquadClamp;
 use biquad::direct_form1::DirectForm1;
 use biquad::direct_form2_transposed::DirectForm2Transposed;
 use dsm::Dsm;
-use fixed::dither::DirectForm1Dither;
-use fixed::wide::DirectForm1Wide;
+use biquad_fixed::dither::DirectForm1Dither;
+use biquad_fixed::wide::DirectForm1Wide;
 use wdf::filter::Wdf;
 ghost use mathlib.Core.Path.{_≡_};
 ghost use Rattle.blocks.specs.Scan.{scan};
@@ -16,9 +16,9 @@ ghost use Rattle.dsm.specs.Calls as Modulator;
 ghost use Rattle.wdf.specs.Calls.{number, answer, next};
 ghost use Rattle.biquad.specs.Forms.{zero1, sum1, next1, held1, onward1, zero2, sum2, next2, held2, onward2};
 ghost use Rattle.biquad.specs.Answers.{limitNumber};
-ghost use Rattle.fixed.specs.Forms.{wideOut, wideNext, wideHeld, wideOnward};
-ghost use Rattle.fixed.specs.Forms.{ditherOut, ditherNext, ditherHeld, ditherOnward};
-ghost use Rattle.fixed.specs.Answers.{fractionNumber, clampNumber};
+ghost use Rattle.biquad_fixed.specs.Forms.{wideOut, wideNext, wideHeld, wideOnward};
+ghost use Rattle.biquad_fixed.specs.Forms.{ditherOut, ditherNext, ditherHeld, ditherOnward};
+ghost use Rattle.biquad_fixed.specs.Answers.{fractionNumber, clampNumber};
 ghost use Rattle.bench_exports.specs.Fresh.{blockLeft, blockLeftBy, alikeWdf, zeroWide, zeroDither};
 ghost use Rattle.bench_exports.specs.Fresh.{floatBiquad, floatClamp, wordBiquad, wordClamp};
 
@@ -134,10 +134,10 @@ pub extern "C" fn bench_df2t_clamp(
 }
 
 // Coefficients of words, and the same with an offset and limits.
-fn coefficients(b0: i32, b1: i32, b2: i32, a1: i32, a2: i32, f: u32) -> fixed::coefficients::Biquad
+fn coefficients(b0: i32, b1: i32, b2: i32, a1: i32, a2: i32, f: u32) -> biquad_fixed::coefficients::Biquad
     ensures { λ r. ⌜ r ≡ wordBiquad b0 b1 b2 a1 a2 f ⌝ }
 {
-    fixed::coefficients::Biquad {
+    biquad_fixed::coefficients::Biquad {
         b0,
         b1,
         b2,
@@ -147,10 +147,10 @@ fn coefficients(b0: i32, b1: i32, b2: i32, a1: i32, a2: i32, f: u32) -> fixed::c
     }
 }
 
-fn bounded(coeff: fixed::coefficients::Biquad, u: i32, min: i32, max: i32) -> fixed::coefficients::BiquadClamp
+fn bounded(coeff: biquad_fixed::coefficients::Biquad, u: i32, min: i32, max: i32) -> biquad_fixed::coefficients::BiquadClamp
     ensures { λ r. ⌜ r ≡ wordClamp coeff u min max ⌝ }
 {
-    fixed::coefficients::BiquadClamp { coeff, u, min, max }
+    biquad_fixed::coefficients::BiquadClamp { coeff, u, min, max }
 }
 
 #[no_mangle]

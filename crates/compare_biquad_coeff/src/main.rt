@@ -4,12 +4,12 @@ use biquad::biquad::Biquad;
 use biquad::biquad_clamp::Answer;
 use biquad::biquad_clamp::BiquadClamp;
 use biquad::pair::Pair;
-use cases::doubles::from_bits;
-use cases::doubles::to_bits;
-use cases::lines::double;
-use cases::lines::line;
-use cases::lines::report;
-use cases::lines::unlike_double;
+use rust_answers::doubles::from_bits;
+use rust_answers::doubles::to_bits;
+use rust_answers::lines::double;
+use rust_answers::lines::line;
+use rust_answers::lines::report;
+use rust_answers::lines::unlike_double;
 use words::unsigned::add_u64;
 ghost use Prim.Native.Nat.{_<_, _≤_};
 

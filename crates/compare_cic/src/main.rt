@@ -1,16 +1,16 @@
 // Runs the proved decimator and interpolator over the Rust's stored answers (oracle/README.md, cic) and prints what
 // differs: short runs by steps with the whole state after each, long runs by blocks.
 use blocks::Verdict;
-use cases::lines::double;
-use cases::lines::line;
-use cases::lines::report;
-use cases::lines::size;
-use cases::lines::tally;
-use cases::lines::unlike;
-use cases::lines::unlike_double;
-use cases::runs::digest;
-use cases::runs::digest_first;
-use cases::runs::spread;
+use rust_answers::lines::double;
+use rust_answers::lines::line;
+use rust_answers::lines::report;
+use rust_answers::lines::size;
+use rust_answers::lines::tally;
+use rust_answers::lines::unlike;
+use rust_answers::lines::unlike_double;
+use rust_answers::runs::digest;
+use rust_answers::runs::digest_first;
+use rust_answers::runs::spread;
 use cic::questions::Fitting;
 use cic::questions::Interpolated;
 use cic::questions::Told;

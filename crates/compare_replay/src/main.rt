@@ -1,6 +1,6 @@
 // Runs the table of cases on standard input (document 01, 'The replay program') through the proved replay, whole and
 // in parts of every size up to 70 bytes, and prints how many differ.
-use cases::lines::report;
+use rust_answers::lines::report;
 use playback::driver::Replay;
 use playback::driver::replay_whole;
 use text::comparing::same_bytes;

@@ -1,13 +1,13 @@
 // Runs the proved phase words over the Rust's stored answers (oracle/README.md, unwrap) and prints what differs.
-use cases::lines::double;
-use cases::lines::line;
-use cases::lines::report;
-use cases::lines::unlike;
-use cases::lines::unlike_double;
-use cases::runs::digest;
-use cases::runs::digest_double;
-use cases::runs::draw;
-use cases::runs::spread;
+use rust_answers::lines::double;
+use rust_answers::lines::line;
+use rust_answers::lines::report;
+use rust_answers::lines::unlike;
+use rust_answers::lines::unlike_double;
+use rust_answers::runs::digest;
+use rust_answers::runs::digest_double;
+use rust_answers::runs::draw;
+use rust_answers::runs::spread;
 use unwrap::clamp_wrap::ClampWrap;
 use unwrap::scale::Scaled;
 use unwrap::scale::saturating_scale;

@@ -1,15 +1,15 @@
 // Runs the proved adapters and filters over the Rust's stored answers (oracle/README.md, wdf) and prints what
 // differs.
-use cases::lines::double;
-use cases::lines::line;
-use cases::lines::report;
-use cases::lines::size;
-use cases::lines::unlike;
-use cases::lines::unlike_double;
-use cases::lines::unlike_words;
-use cases::runs::digest;
-use cases::runs::digest_first;
-use cases::runs::spread;
+use rust_answers::lines::double;
+use rust_answers::lines::line;
+use rust_answers::lines::report;
+use rust_answers::lines::size;
+use rust_answers::lines::unlike;
+use rust_answers::lines::unlike_double;
+use rust_answers::lines::unlike_words;
+use rust_answers::runs::digest;
+use rust_answers::runs::digest_first;
+use rust_answers::runs::spread;
 use wdf::filter::Out;
 use wdf::filter::Wdf;
 use wdf::tpa::Ports;

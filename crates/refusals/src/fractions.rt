@@ -1,10 +1,10 @@
 // Number 40: fraction bits, and 41 of the fixed-point forms.
 use crate::print::row;
-use fixed::coefficients::Answer;
-use fixed::coefficients::Biquad;
-use fixed::coefficients::BiquadClamp;
-use fixed::dither::DirectForm1Dither;
-use fixed::wide::DirectForm1Wide;
+use biquad_fixed::coefficients::Answer;
+use biquad_fixed::coefficients::Biquad;
+use biquad_fixed::coefficients::BiquadClamp;
+use biquad_fixed::dither::DirectForm1Dither;
+use biquad_fixed::wide::DirectForm1Wide;
 
 fn coefficients(f: u32) -> Biquad {
     Biquad {

@@ -87,7 +87,7 @@ pub fn write(root: &str) {
         };
     }
     every!(0 1 2 3 4 5 6 7 8 9 10 11 12 13 14 15 16 17 18 19 20 21 22 23 24 25 26 27 28 29 30 31);
-    out.write(root, "fixed");
+    out.write(root, "biquad_fixed");
 }
 
 /// The kinds that take `F`: document 01 refuses 0 for the dithered ones.

@@ -1,8 +1,8 @@
 -- The call's promise, with the coefficients that were asked for.
 use mathlib.Core.Path.{_∙_}
 use borrow.Author.Needs.{needs}
-use Rattle.fixed.specs.Forms.{ditherOut, ditherNext}
-use Rattle.fixed.specs.Answers.{fractionNumber}
+use Rattle.biquad_fixed.specs.Forms.{ditherOut, ditherNext}
+use Rattle.biquad_fixed.specs.Answers.{fractionNumber}
 use Rattle.bench_exports.specs.Fresh.{zeroDither}
 use Rattle.bench_exports.proofs.Handing.{handed, biquad-sent}
 use Rattle.bench_exports.proofs.sections.bench_dither.Statement.{statement}
