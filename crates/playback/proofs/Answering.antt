@@ -17,7 +17,7 @@ use Rattle.text.proofs.Spelling.{spelt-short, decimal-most, signed-most}
 use Rattle.playback.specs.Replays.{outputLine, endLine, badLine}
 use Rattle.playback.specs.Places as Places
 use Rattle.playback.specs.Places.{frontWritten, answerNumber}
-use Rattle.playback.specs.declared.answers.Written.{Written}
+use Rattle.playback.specs.declared.answers.BytesPut.{BytesPut}
 use Rattle.blocks.specs.Verdicts.{verdictOf}
 use Rattle.blocks.specs.declared.Verdict.the-variants.{Done, Refused}
 
@@ -76,13 +76,13 @@ front o bs o' r w = (w .next ∙ omega arith, w .text ∙ rw (zero-add (length b
     zero-add n = omega arith
 
 module _ (number : ℕ) (bs o : List ℕ) where
-  pub refused-20 : number ≡ 20 → (_≡_ {A = Written} (record { count = 0; verdict = Refused 20 }) (Places.written number bs))
+  pub refused-20 : number ≡ 20 → (_≡_ {A = BytesPut} (record { count = 0; verdict = Refused 20 }) (Places.written number bs))
       × (o ≡ frontWritten number bs o)
   unfolding verdictOf
   refused-20 e = (sym (rw e), sym (rw e))
 
   pub done : (o' : List ℕ) (r : ℕ) → number ≡ 0 → Wrote o 0 bs r o'
-      → (_≡_ {A = Written} (record { count = r; verdict = Done }) (Places.written number bs)) × (o' ≡ frontWritten number bs o)
+      → (_≡_ {A = BytesPut} (record { count = r; verdict = Done }) (Places.written number bs)) × (o' ≡ frontWritten number bs o)
   unfolding verdictOf
   done o' r e w =
       let f = front o bs o' r w in

@@ -25,7 +25,7 @@ use Rattle.playback.specs.Places.{
   fed,
 }
 use Rattle.playback.specs.Inner.Advances.{Room, Advances}
-use Rattle.playback.specs.declared.answers.Written.{Written}
+use Rattle.playback.specs.declared.answers.BytesPut.{BytesPut}
 use Rattle.playback.specs.declared.driver.Replay.{Replay}
 use Rattle.playback.specs.declared.driver.Fed.{Fed}
 use Rattle.blocks.specs.declared.Verdict.the-variants.{Done, Refused}
@@ -52,7 +52,7 @@ module _ (r : Replay) (input out : List ℕ) where
       × (out ≡ frontWritten (feedNumber input out) (bytesOf (placeOf r) input) out)
   feed-refused e =
       let w = refused-20 (feedNumber input out) (bytesOf (placeOf r) input) out e in (
-        ap (λ (x : Written). record { replay = r; wrote = x }) (w .0)
+        ap (λ (x : BytesPut). record { replay = r; wrote = x }) (w .0)
             ∙ ap (λ (x : Replay). record { replay = x; wrote = written (feedNumber input out) (bytesOf (placeOf r) input) })
             (sym (rw e)),
         w .1,
@@ -73,7 +73,7 @@ module _ (r : Replay) (input out : List ℕ) where
     feed-done e tidy q =
         let d = done (feedNumber input out) (bytesOf (placeOf r) input) out o' w e (ran-all .1) in
         let p : tidy ≡ replayOf (fedOf (placeOf r) input) = q ∙ ap replayOf (sym (ran-all .0)) in (
-          ap (λ (x : Written). record { replay = tidy; wrote = x }) (d .0)
+          ap (λ (x : BytesPut). record { replay = tidy; wrote = x }) (d .0)
               ∙ ap (λ (x : Replay). record { replay = x; wrote = written (feedNumber input out) (bytesOf (placeOf r) input) })
               (p ∙ sym (rw e)),
           d .1,
@@ -88,9 +88,9 @@ module _ (r : Replay) (input out : List ℕ) where
         wrote-same (a ∙ whole input h) (then (omega arith) (ran-all .1) f)
 
 -- for callers: what was written is within the slice, and a part for which there is room is taken
-pub count-fits : (number : ℕ) (bs o o' : List ℕ) (w : Written) → w ≡ written number bs → o' ≡ frontWritten number bs o
+pub count-fits : (number : ℕ) (bs o o' : List ℕ) (w : BytesPut) → w ≡ written number bs → o' ≡ frontWritten number bs o
     → w .count ≤ length o'
-count-fits number bs o o' w e q = by (eqb number 0) (ap (λ (x : Written). x .count) e) q
+count-fits number bs o o' w e q = by (eqb number 0) (ap (λ (x : BytesPut). x .count) e) q
   where
     by : (t : Bool) → w .count ≡ cond t (length bs) 0 → o' ≡ cond t (bs ++ drop (length bs) o) o → w .count ≤ length o'
     by true p r = omega (arith, ap length r, length-append bs (drop (length bs) o))

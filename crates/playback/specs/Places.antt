@@ -14,7 +14,7 @@ use Rattle.records.specs.declared.session.Session.{Session}
 use Rattle.records.specs.declared.session.Reply.{Reply}
 use Rattle.records.specs.declared.session.Reply.the-variants as Reply
 use Rattle.records.specs.declared.session.Taken.{Taken}
-use Rattle.playback.specs.declared.answers.Written.{Written}
+use Rattle.playback.specs.declared.answers.BytesPut.{BytesPut}
 use Rattle.playback.specs.declared.driver.Replay.{Replay}
 use Rattle.playback.specs.declared.driver.Fed.{Fed}
 
@@ -116,11 +116,11 @@ feedNumber input out = cond (ltb (length out) (4 * length input + 292)) 20 0
 abbrev pub frontWritten : ℕ → List ℕ → List ℕ → List ℕ
 frontWritten number bytes out = unless number out (bytes ++ drop (length bytes) out)
 
-abbrev pub written : ℕ → List ℕ → Written
+abbrev pub written : ℕ → List ℕ → BytesPut
 written number bytes = record { count = unless number 0 (length bytes); verdict = verdictOf number }
 
 -- what a call that writes to the front of a lent slice answers and leaves there
-abbrev pub Writes : ℕ → List ℕ → List ℕ → Written → List ℕ → Type 0
+abbrev pub Writes : ℕ → List ℕ → List ℕ → BytesPut → List ℕ → Type 0
 Writes number bytes out r left = (r ≡ written number bytes) × (left ≡ frontWritten number bytes out)
 
 -- a part of the input: the replay after it, and what was written

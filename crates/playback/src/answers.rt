@@ -14,7 +14,7 @@ ghost use Rattle.playback.specs.Replays.{outputLine, endLine, badLine};
 ghost use Rattle.playback.specs.Places.{replyBytes, givenBy, goesOn, answerNumber, Writes};
 
 // How many bytes were written to the front of a lent slice, and whether it was long enough.
-pub struct Written {
+pub struct BytesPut {
     pub count: usize,
     pub verdict: Verdict,
 }
@@ -69,17 +69,17 @@ pub(crate) fn put_reply(out: &mut [u8], at: usize, line: u64, reply: Reply) -> u
 
 // What line number `line` is answered, to the front of out; the rest stays. Refused with 20, nothing written, where out
 // is shorter than 36 bytes, the longest answer.
-pub fn write_reply(line: u64, reply: Reply, out: &mut [u8]) -> Written
+pub fn write_reply(line: u64, reply: Reply, out: &mut [u8]) -> BytesPut
     ensures { λ r. ⌜ Writes (answerNumber (now (out .entry))) (replyBytes line reply) (now (out .entry)) r (now (out .exit)) ⌝ }
 {
     if out.len() < 36 {
-        return Written {
+        return BytesPut {
             count: 0,
             verdict: Verdict::Refused(20),
         };
     }
     let n = put_reply(out, 0, line, reply);
-    Written {
+    BytesPut {
         count: n,
         verdict: Verdict::Done,
     }

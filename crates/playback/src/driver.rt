@@ -1,5 +1,5 @@
 // A replay fed in parts: whatever the cuts, the parts and the end together give what the whole input gives.
-use crate::answers::Written;
+use crate::answers::BytesPut;
 use crate::answers::put_bad;
 use crate::answers::put_end;
 use crate::turns::count_up;
@@ -31,7 +31,7 @@ pub struct Replay {
 // A replay after a part of its input, and what was written.
 pub struct Fed {
     pub replay: Replay,
-    pub wrote: Written,
+    pub wrote: BytesPut,
 }
 
 // The first len bytes of line, and then zeros.
@@ -102,7 +102,7 @@ impl Replay {
         ensures { λ r. ⌜ PartFed self (now (input .entry)) (now (out .entry)) r (now (out .exit)) ⌝ }
     {
         if short_of(out.len(), input.len()) {
-            let none = Written {
+            let none = BytesPut {
                 count: 0,
                 verdict: Verdict::Refused(20),
             };
@@ -116,7 +116,7 @@ impl Replay {
         let mut given = [0i32; 512];
         let t = replay_part(first, input, out, &mut samples, &mut given);
         let last = t.replay;
-        let wrote = Written {
+        let wrote = BytesPut {
             count: t.written,
             verdict: Verdict::Done,
         };
@@ -128,17 +128,17 @@ impl Replay {
 
     // The end of the input: `end` and the count of outputs, or a refusal, goes to the front of out, and the rest of out
     // stays. Refused with 20, nothing written, where out is shorter than 36 bytes.
-    pub fn finish(self, out: &mut [u8]) -> Written
+    pub fn finish(self, out: &mut [u8]) -> BytesPut
         ensures { λ r. ⌜ Writes (answerNumber (now (out .entry))) (finishBytes (placeOf self)) (now (out .entry)) r (now (out .exit)) ⌝ }
     {
         if out.len() < 36 {
-            return Written {
+            return BytesPut {
                 count: 0,
                 verdict: Verdict::Refused(20),
             };
         }
         let n = put_finish(self, out, 0);
-        Written {
+        BytesPut {
             count: n,
             verdict: Verdict::Done,
         }
@@ -176,12 +176,12 @@ impl Replay {
 
 // The replay of an input that is there as a whole, to the front of out; the rest of out stays. Refused with 20, nothing
 // written, where out is shorter than 4 bytes for each of the input's and 292 more.
-pub fn replay_whole(input: &[u8], out: &mut [u8]) -> Written
+pub fn replay_whole(input: &[u8], out: &mut [u8]) -> BytesPut
     ensures { λ r. ⌜ Writes (feedNumber (now (input .entry)) (now (out .entry))) (replay (now (input .entry))) (now (out .entry)) r
         (now (out .exit)) ⌝ }
 {
     if short_of(out.len(), input.len()) {
-        return Written {
+        return BytesPut {
             count: 0,
             verdict: Verdict::Refused(20),
         };
@@ -192,7 +192,7 @@ pub fn replay_whole(input: &[u8], out: &mut [u8]) -> Written
     let t = replay_part(first, input, out, &mut samples, &mut given);
     let last = t.replay;
     let n = put_finish(last, out, t.written);
-    Written {
+    BytesPut {
         count: n,
         verdict: Verdict::Done,
     }
