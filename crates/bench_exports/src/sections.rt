@@ -3,9 +3,9 @@ use biquad::biquad::Biquad;
 use biquad::biquad_clamp::BiquadClamp;
 use biquad::direct_form1::DirectForm1;
 use biquad::direct_form2_transposed::DirectForm2Transposed;
-use dsm::Dsm;
 use biquad_fixed::dither::DirectForm1Dither;
 use biquad_fixed::wide::DirectForm1Wide;
+use dsm::Dsm;
 use wdf::filter::Wdf;
 ghost use mathlib.Core.Path.{_≡_};
 ghost use Rattle.blocks.specs.Scan.{scan};
@@ -134,7 +134,14 @@ pub extern "C" fn bench_df2t_clamp(
 }
 
 // Coefficients of words, and the same with an offset and limits.
-fn coefficients(b0: i32, b1: i32, b2: i32, a1: i32, a2: i32, f: u32) -> biquad_fixed::coefficients::Biquad
+fn coefficients(
+    b0: i32,
+    b1: i32,
+    b2: i32,
+    a1: i32,
+    a2: i32,
+    f: u32,
+) -> biquad_fixed::coefficients::Biquad
     ensures { λ r. ⌜ r ≡ wordBiquad b0 b1 b2 a1 a2 f ⌝ }
 {
     biquad_fixed::coefficients::Biquad {
@@ -147,7 +154,12 @@ fn coefficients(b0: i32, b1: i32, b2: i32, a1: i32, a2: i32, f: u32) -> biquad_f
     }
 }
 
-fn bounded(coeff: biquad_fixed::coefficients::Biquad, u: i32, min: i32, max: i32) -> biquad_fixed::coefficients::BiquadClamp
+fn bounded(
+    coeff: biquad_fixed::coefficients::Biquad,
+    u: i32,
+    min: i32,
+    max: i32,
+) -> biquad_fixed::coefficients::BiquadClamp
     ensures { λ r. ⌜ r ≡ wordClamp coeff u min max ⌝ }
 {
     biquad_fixed::coefficients::BiquadClamp { coeff, u, min, max }

@@ -1,5 +1,14 @@
 // Runs the proved wide and dithered biquads over the Rust's stored answers (oracle/README.md, fixed) and prints
 // what differs.
+use biquad_fixed::coefficients::Answer;
+use biquad_fixed::coefficients::Biquad;
+use biquad_fixed::coefficients::BiquadClamp;
+use biquad_fixed::dither::DirectForm1Dither;
+use biquad_fixed::dither::DitherBlock;
+use biquad_fixed::dither::DitherStep;
+use biquad_fixed::wide::DirectForm1Wide;
+use biquad_fixed::wide::WideBlock;
+use biquad_fixed::wide::WideStep;
 use blocks::Verdict;
 use rust_answers::lines::double;
 use rust_answers::lines::line;
@@ -10,15 +19,6 @@ use rust_answers::lines::unlike_words;
 use rust_answers::runs::digest;
 use rust_answers::runs::digest_words;
 use rust_answers::runs::spread;
-use biquad_fixed::coefficients::Answer;
-use biquad_fixed::coefficients::Biquad;
-use biquad_fixed::coefficients::BiquadClamp;
-use biquad_fixed::dither::DirectForm1Dither;
-use biquad_fixed::dither::DitherBlock;
-use biquad_fixed::dither::DitherStep;
-use biquad_fixed::wide::DirectForm1Wide;
-use biquad_fixed::wide::WideBlock;
-use biquad_fixed::wide::WideStep;
 use words::casts::i32_as_u32;
 use words::casts::i64_as_u64;
 use words::casts::u32_as_i32;

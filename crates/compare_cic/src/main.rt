@@ -1,6 +1,15 @@
 // Runs the proved decimator and interpolator over the Rust's stored answers (oracle/README.md, cic) and prints what
 // differs: short runs by steps with the whole state after each, long runs by blocks.
 use blocks::Verdict;
+use cic::questions::Fitting;
+use cic::questions::Interpolated;
+use cic::questions::Told;
+use cic::runs::Read;
+use cic::runs::Wrote;
+use cic::runs::settled_number;
+use cic::state::Cic;
+use cic::steps::Out;
+use cic::steps::Sample;
 use rust_answers::lines::double;
 use rust_answers::lines::line;
 use rust_answers::lines::report;
@@ -11,15 +20,6 @@ use rust_answers::lines::unlike_double;
 use rust_answers::runs::digest;
 use rust_answers::runs::digest_first;
 use rust_answers::runs::spread;
-use cic::questions::Fitting;
-use cic::questions::Interpolated;
-use cic::questions::Told;
-use cic::runs::Read;
-use cic::runs::Wrote;
-use cic::runs::settled_number;
-use cic::state::Cic;
-use cic::steps::Out;
-use cic::steps::Sample;
 use words::casts::i32_as_u32;
 use words::casts::u32_as_i32;
 use words::casts::u64_as_u32;

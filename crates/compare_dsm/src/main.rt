@@ -2,6 +2,9 @@
 // crate's output is i8, so that it gives -128 for the 128 of K = 8 (01, 'The modulator'): these are counted, not
 // differing.
 use blocks::Verdict;
+use dsm::Dsm;
+use dsm::Output;
+use dsm::OutputRange;
 use rust_answers::lines::double;
 use rust_answers::lines::line;
 use rust_answers::lines::report;
@@ -13,9 +16,6 @@ use rust_answers::runs::digest;
 use rust_answers::runs::digest_first;
 use rust_answers::runs::draw;
 use rust_answers::runs::spread;
-use dsm::Dsm;
-use dsm::Output;
-use dsm::OutputRange;
 use words::casts::i32_as_u32;
 use words::unsigned::add_u64;
 use words::unsigned::sub_u32;

@@ -1,5 +1,8 @@
 // Runs the proved loop over the Rust's stored answers (oracle/README.md, pll) and prints what differs.
 use blocks::Verdict;
+use pll::PLL;
+use pll::PLLState;
+use pll::Tracked;
 use rust_answers::lines::double;
 use rust_answers::lines::line;
 use rust_answers::lines::report;
@@ -10,9 +13,6 @@ use rust_answers::runs::digest;
 use rust_answers::runs::digest_words;
 use rust_answers::runs::draw;
 use rust_answers::runs::spread;
-use pll::PLL;
-use pll::PLLState;
-use pll::Tracked;
 use unwrap::clamp_wrap::ClampWrap;
 use unwrap::wrapping::Wrap;
 use words::casts::i32_as_u32;

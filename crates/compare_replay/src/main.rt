@@ -1,8 +1,8 @@
 // Runs the table of cases on standard input (document 01, 'The replay program') through the proved replay, whole and
 // in parts of every size up to 70 bytes, and prints how many differ.
-use rust_answers::lines::report;
 use playback::driver::Replay;
 use playback::driver::replay_whole;
+use rust_answers::lines::report;
 use text::comparing::same_bytes;
 use text::parts::part_end;
 use words::unsigned::add_u64;

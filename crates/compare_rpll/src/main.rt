@@ -1,4 +1,9 @@
 // Runs the proved reciprocal loop over the Rust's stored answers (oracle/README.md, rpll) and prints what differs.
+use rpll::Estimate;
+use rpll::Processed;
+use rpll::RPLL;
+use rpll::RPLLConfig;
+use rpll::Timestamp;
 use rust_answers::lines::double;
 use rust_answers::lines::line;
 use rust_answers::lines::report;
@@ -8,11 +13,6 @@ use rust_answers::runs::digest;
 use rust_answers::runs::digest_words;
 use rust_answers::runs::draw;
 use rust_answers::runs::spread;
-use rpll::Estimate;
-use rpll::Processed;
-use rpll::RPLL;
-use rpll::RPLLConfig;
-use rpll::Timestamp;
 use words::casts::i32_as_u32;
 use words::casts::u32_as_i32;
 use words::shifts::shl_u32;
