@@ -10,13 +10,12 @@ use Rattle.records.proofs.session.take_sample.Tie as tie
 returns : tie.Need-returns
 returns c =
     let at-decimate : tie.After-decimate = search in
+    let at-out : tie.After-out = search in
     let begin : tie.Start = search in
     let a = begin .args in
     let d = at-decimate .decimate in
     let e = toZ-ofZ w32 (a .x) (begin .fits .x) in
-    let y = toZ-ofZ w32 (c .before .before .out .given .0 .0) (record { sfits = c .before .known-told .given .0 .1 }) in
-    (rw y at (c .with-filter .ensures)) ∙ step-given (a .s) (a .x) (d .result) (rw e at (d .ensures))
-    (c .before .before .out .given .0 .0) (c .before .before .out .given .0 .1 .0) (c .before .before .out .given .1)
+    c .with-filter .ensures ∙ step-given (a .s) (a .x) (d .result) (rw e at (d .ensures)) (at-out .out .given .0 .0) (at-out .out .given .1)
 
 returns-2 : tie.Need-returns-2
 returns-2 c =
