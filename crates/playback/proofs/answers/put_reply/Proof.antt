@@ -18,11 +18,11 @@ returns c =
 
 returns-2 : tie.Need-returns-2
 returns-2 c =
-    let at-known-told : tie.After-known-told = search in
+    let at-struct-told : tie.After-struct-told = search in
     let at-reply : tie.After-reply = search in
     let begin : tie.Start = search in
     let a = begin .args in
-    let y = toZ-ofZ w32 (at-reply .reply .given .0 .0) (record { sfits = at-known-told .known-told .given .0 .1 }) in
+    let y = toZ-ofZ w32 (at-reply .reply .given .0 .0 .value) (record { sfits = at-struct-told .struct-told .given .0 .1 }) in
     let p = rw y at (c .before .before .put-output .ensures) in
     let g : givenBy (a .reply) ≡ 1 = ap givenBy (at-reply .reply .given .1) in
     (wrote-same (sym (ap (replyBytes (a .line)) (at-reply .reply .given .1))) (p .0), omega (arith, p .1), λ z. omega (arith, p .1))

@@ -76,6 +76,11 @@ put-outputs-requires c κs =
       omega (arith, few, fits, g .ensures .far, g .ensures .within, length-drop (a .from) (a .input .now)),
     )
 
+same-length-4 : tie.Need-same-length-4
+same-length-4 c =
+    let at-decimate-block : tie.After-decimate-block = search in
+    search (needs, at-decimate-block .decimate-block .kept)
+
 returns-3 : tie.Need-returns-3
 returns-3 c =
     let at-put-outputs : tie.After-put-outputs = search in
@@ -99,5 +104,5 @@ pub take-samples-spec : {M : Type 1} → statement M
 take-samples-spec =
     tie.close (tie.spec (λ c κs. search needs) returns (λ c κs. search needs) (λ c. search needs)
     slice-aggregate-decimate-block (λ c κs. search needs) (λ c. search needs) (λ c. search needs) (λ c. search needs)
-    (λ c. search needs) returns-2 put-outputs-requires (λ c κs. search needs) (λ c. search needs) (λ c. search needs)
+    (λ c. search needs) returns-2 put-outputs-requires (λ c κs. search needs) (λ c. search needs) same-length-4
     (λ c. search needs) returns-3)
