@@ -4,7 +4,7 @@ use Prim.Native.Nat.{ℕ, zero, suc}
 use lib.Ieee.{Float, lt, eq, isNan}
 use Rattle.blocks.specs.Blocks.{unless}
 use Rattle.biquad.specs.Rounded.{_⊘_, nought}
-use Rattle.biquad.specs.Coefficients.{coeffs, gainOf}
+use Rattle.biquad.specs.Coefficients.{coeffs, forwardGain}
 use Rattle.biquad.specs.Forms.{held1, onward1, held2, onward2}
 use Rattle.biquad.specs.declared.biquad_clamp.BiquadClamp.{BiquadClamp}
 use Rattle.biquad.specs.declared.biquad_clamp.Answer.{Answer}
@@ -25,10 +25,10 @@ limitNumber c = cond (lt (c .max) (c .min) || isNan (c .min) || isNan (c .max)) 
 
 -- 42: forward gain equal to zero, which -0.0 is too and a NaN is not
 abbrev pub zeroGainNumber : BiquadClamp → ℕ
-zeroGainNumber c = cond (eq (gainOf (coeffs c)) nought) 42 0
+zeroGainNumber c = cond (eq (forwardGain (coeffs c)) nought) 42 0
 
 abbrev pub offsetOf : BiquadClamp → Answer
-offsetOf c = answerOf (zeroGainNumber c) (c .u ⊘ gainOf (coeffs c))
+offsetOf c = answerOf (zeroGainNumber c) (c .u ⊘ forwardGain (coeffs c))
 
 -- a refused step hands back the given state
 abbrev pub clamped1 : BiquadClamp → DirectForm1 → Float → Clamped1

@@ -41,8 +41,8 @@ abbrev pub holdOf : Biquad
 holdOf = record { b0 = nought; b1 = nought; b2 = nought; a1 = one; a2 = nought }
 
 -- the forward gain
-abbrev pub gainOf : Biquad → Float
-gainOf c = c .b0 ⊕ c .b1 ⊕ c .b2
+abbrev pub forwardGain : Biquad → Float
+forwardGain c = c .b0 ⊕ c .b1 ⊕ c .b2
 
 -- the coefficients of the record, and the record of coefficients with no offset and no limits
 abbrev pub coeffs : BiquadClamp → Biquad
@@ -59,7 +59,7 @@ withOffset c i = record {
   b2 = c .b2;
   a1 = c .a1;
   a2 = c .a2;
-  u = i ⊗ gainOf (coeffs c);
+  u = i ⊗ forwardGain (coeffs c);
   min = c .min;
   max = c .max;
 }

@@ -1,7 +1,7 @@
 // Coefficients of a second-order section: y0 = b0 x0 + b1 x1 + b2 x2 + a1 y1 + a2 y2.
 use crate::pair::Pair;
 ghost use mathlib.Core.Path.{_≡_};
-ghost use Rattle.biquad.specs.Coefficients.{proportionalOf, identityOf, holdOf, zpkOf, gainOf};
+ghost use Rattle.biquad.specs.Coefficients.{proportionalOf, identityOf, holdOf, zpkOf, forwardGain};
 
 // a1 and a2 have the sign in which the recurrence adds them.
 pub struct Biquad {
@@ -61,7 +61,7 @@ impl Biquad {
 
     // The gain at frequency 0 from the input to the summing junction.
     pub fn forward_gain(self) -> f64
-        ensures { λ r. ⌜ r ≡ gainOf self ⌝ }
+        ensures { λ r. ⌜ r ≡ forwardGain self ⌝ }
     {
         self.b0 + self.b1 + self.b2
     }

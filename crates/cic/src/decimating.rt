@@ -160,7 +160,8 @@ pub(crate) fn decimate_run(
 ) -> BlockEnd
     requires { ⌜ Ready (apart first (now integrators) (now combs))
         × (needed (length (now input)) (first .countdown) (first .rate) ≤ length (now out)) ⌝ }
-    ensures { λ r. ⌜ DecimateRun wordOps (apart first (now (integrators .entry)) (now (combs .entry))) (now (input .entry)) (now (out .entry))
+    ensures { λ r. ⌜ DecimateRun wordOps (apart first (now (integrators .entry)) (now (combs .entry)))
+        (now (input .entry)) (now (out .entry))
         (apart (r .numbers) (now (integrators .exit)) (now (combs .exit))) (r .count) (now (out .exit)) ⌝ }
 {
     let r = decimate_by_order(integrators, combs, first, input, out);

@@ -30,7 +30,8 @@ fn interpolate_sample(
     x: Word,
 ) -> SampleEnd
     requires { ⌜ Ring n at (figuresOf first) (now combs) × (first .rate ≤ 65535) ⌝ }
-    ensures { λ r. ⌜ InterpolateSample wordOps n at (figuresOf first) (now (combs .entry)) x (figuresOf (r .numbers)) (now (combs .exit)) (r .at) ⌝ }
+    ensures { λ r. ⌜ InterpolateSample wordOps n at (figuresOf first) (now (combs .entry)) x
+        (figuresOf (r .numbers)) (now (combs .exit)) (r .at) ⌝ }
 {
     let mut numbers = first;
     let y = difference_ring(combs, n, at, x);
@@ -141,7 +142,8 @@ pub(crate) fn interpolate_run(
 ) -> BlockEnd
     requires { ⌜ Ready (apart first (now integrators) (now combs))
         × (needed (length (now out)) (first .countdown) (first .rate) ≤ length (now input)) ⌝ }
-    ensures { λ r. ⌜ InterpolateRun wordOps (apart first (now (integrators .entry)) (now (combs .entry))) (now (input .entry)) (now (out .entry))
+    ensures { λ r. ⌜ InterpolateRun wordOps (apart first (now (integrators .entry)) (now (combs .entry)))
+        (now (input .entry)) (now (out .entry))
         (apart (r .numbers) (now (integrators .exit)) (now (combs .exit))) (r .count) (now (out .exit)) ⌝ }
 {
     let r = interpolate_by_order(integrators, combs, first, input, out);

@@ -142,7 +142,8 @@ pub(crate) fn interpolate_step(
     x: Word,
 ) -> RiseEnd
     requires { ⌜ Ready (apart n (now integrators) (now combs)) ⌝ }
-    ensures { λ r. ⌜ InterpolateStep wordOps (apart n (now (integrators .entry)) (now (combs .entry))) (dueSample wordOps (n .countdown) (x ∷ []))
+    ensures { λ r. ⌜ InterpolateStep wordOps (apart n (now (integrators .entry)) (now (combs .entry)))
+        (dueSample wordOps (n .countdown) (x ∷ []))
         (apart (r .numbers) (now (integrators .exit)) (now (combs .exit))) (r .value) ⌝ }
 {
     let mut next = n;

@@ -121,7 +121,8 @@ module _ (filter : Cic) (samples given : List ℤ) (n : ℕ) (enough : n ≤ len
   unfolding blockState
   state-is = ap (λ (x : Decimated). x .state) is ∙ rw number-is
 
-  values-are : take k (blockOut wordOps (stateOf filter) (take n samples) given) ≡ values (outputs wordOps (stateOf filter) (take n samples))
+  values-are : take k (blockOut wordOps (stateOf filter) (take n samples) given)
+      ≡ values (outputs wordOps (stateOf filter) (take n samples))
   unfolding blockOut
   values-are =
       let ys = outputs wordOps (stateOf filter) (take n samples) in

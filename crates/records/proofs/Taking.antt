@@ -59,7 +59,8 @@ sampled-refused s t k (suc n) g e = let p : suc n ≡ k = cc in ap (refuse s) (s
 -- a step of the filter, by what it answered
 module _ (s : Session) (x : ℤ) (d : Stepped) (e : d ≡ steppedOf (s .filter) x) where
   abbrev of-step : Taken
-  of-step = sampled s (refusal (stateOf (s .filter))) (stepState wordOps (stateOf (s .filter)) x) (stepGiven wordOps (stateOf (s .filter)) x)
+  of-step = sampled s (refusal (stateOf (s .filter))) (stepState wordOps (stateOf (s .filter)) x)
+      (stepGiven wordOps (stateOf (s .filter)) x)
 
   out-is : (o : Out) → d .out ≡ o → outOf (refusal (stateOf (s .filter))) (stepGiven wordOps (stateOf (s .filter)) x) ≡ o
   out-is o h = sym (ap (λ (r : Stepped). r .out) e) ∙ h

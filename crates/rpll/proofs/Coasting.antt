@@ -13,7 +13,7 @@ use Rattle.rpll.specs.declared.RPLL.{RPLL}
 use Rattle.rpll.specs.declared.RPLLConfig.{RPLLConfig}
 use Rattle.rpll.specs.declared.Processed.{Processed}
 use Rattle.rpll.specs.declared.Timestamp.the-variants.{Missing}
-use Rattle.rpll.specs.Loops.{configNumber, advancedOf, givenOf, processedOf}
+use Rattle.rpll.specs.Loops.{configNumber, advancedOf, estimatedOf, processedOf}
 
 -- what is added may be wrapped before
 pub added : (y z : ℤ) → wrap w32 (y +ℤ wrap w32 z) ≡ wrap w32 (y +ℤ z)
@@ -39,7 +39,7 @@ one-more y n f =
 
 module _ (c : RPLLConfig) (accepted : configNumber c ≡ 0) where
   -- a step without a timestamp answers and keeps the advanced state
-  pub idle : (s : RPLL) → processedOf c s Missing ≡ givenOf (advancedOf s)
+  pub idle : (s : RPLL) → processedOf c s Missing ≡ estimatedOf (advancedOf s)
   unfolding processedOf
   idle s = rw (eq-eqb (configNumber c) 0 accepted)
 

@@ -74,11 +74,11 @@ updatedOf c s (At x) = takenOf c (advancedOf s) x
 updatedOf c s Missing = advancedOf s
 
 -- phase and frequency together, the frequency read as signed
-abbrev pub givenOf : RPLL → Processed
-givenOf s = record { state = s; estimate = Given (s .y) (wrap w32 (pos (s .f))) }
+abbrev pub estimatedOf : RPLL → Processed
+estimatedOf s = record { state = s; estimate = Given (s .y) (wrap w32 (pos (s .f))) }
 
 -- a refused call hands back the given state
 unfoldable pub processedOf : RPLLConfig → RPLL → Timestamp → Processed
 processedOf c s t =
-    cond (eqb (configNumber c) 0) (givenOf (updatedOf c s t))
+    cond (eqb (configNumber c) 0) (estimatedOf (updatedOf c s t))
     (record { state = s; estimate = Refused (configNumber c) })

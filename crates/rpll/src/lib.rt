@@ -17,7 +17,7 @@ use words::unsigned::mul_u64;
 use words::unsigned::sub_u32;
 ghost use mathlib.Core.Path.{_≡_};
 ghost use Prim.Native.Nat.{_+_, _<_, _≤_};
-ghost use Rattle.rpll.specs.Loops.{configNumber, lockedOf, errorOf, advancedOf, takenOf, givenOf, processedOf};
+ghost use Rattle.rpll.specs.Loops.{configNumber, lockedOf, errorOf, advancedOf, takenOf, estimatedOf, processedOf};
 
 pub struct RPLL {
     // The previous timestamp.
@@ -174,7 +174,7 @@ impl RPLLConfig {
 
 // The state with its phase and its frequency, the latter read as signed.
 fn given(state: RPLL) -> Processed
-    ensures { λ r. ⌜ r ≡ givenOf state ⌝ }
+    ensures { λ r. ⌜ r ≡ estimatedOf state ⌝ }
 {
     Processed {
         state,

@@ -16,7 +16,8 @@ use Rattle.sums.proofs.Counts.{outputs-length}
 use Rattle.sums.proofs.Blocks.{Held, held-none, held-room, held-one, end-state, end-count, end-out}
 use Rattle.sums.proofs.Stretches.{ran, tops, jump-waits}
 use Rattle.sums.proofs.Fills.{Filling, filling-same, filling-turn, filled-state, filled-count, filled-out}
-use Rattle.sums.proofs.Lent.{Figures, DecimateRun, InterpolateRun, Ring, ringed, DecimateStretch, rested, DecimateRest, IntegrateOutputs, InterpolateSample, InterpolateRest}
+use Rattle.sums.proofs.Lent.{Figures, Ring, ringed, rested, DecimateRun, DecimateStretch, DecimateRest}
+use Rattle.sums.proofs.Lent.{InterpolateRun, InterpolateSample, InterpolateRest, IntegrateOutputs}
 
 -- a turn of the decimator's loop: a stretch
 module _ {A : Type 0} (o : Ops A) (n : ℕ) (xs out₀ out : List A) (s₀ s : State A) (k i : ℕ) (a : Held o xs out₀ out s₀ s k i)
@@ -63,7 +64,8 @@ module _ {A : Type 0} (o : Ops A) (n : ℕ) (xs out₀ out : List A) (s₀ : Sta
       ≡ ran o (s .order) (replicate (e - i) (s .hold)) is
   cells-of e is' left c = c .cells ∙ ap (λ m. ran o m (replicate (e - i) (s .hold)) is) (g .order)
 
-  pub interpolate-turn : s .countdown < length out₀ - i → (is' left : List A) → IntegrateOutputs o n (s .hold) i (i + s .countdown) is out is' left
+  pub interpolate-turn : s .countdown < length out₀ - i → (is' left : List A)
+      → IntegrateOutputs o n (s .hold) i (i + s .countdown) is out is' left
       → (x : A) → x ≡ getD xs k (o .nil) → (t : Figures A) (ks' : List A) (next : ℕ) → InterpolateSample o n at s ks x t ks' next
       → Filling o xs out₀ left s₀ (ringed t is' ks' next) (k + 1) (i + s .countdown)
   interpolate-turn h is' left c x ex t ks' next f =

@@ -7,7 +7,8 @@ use Rattle.compare_replay.proofs.compare_table.Statement.{statement}
 use Rattle.compare_replay.proofs.compare_table.Tie as tie
 
 abbrev Inv-loop : tie.InvT-loop
-Inv-loop table input₀ want₀ out₀ w₀ turn₀ input want out w turn = (length input ≡ length input₀) × (length want ≡ length want₀) × (length out ≡ length out₀)
+Inv-loop table input₀ want₀ out₀ w₀ turn₀ input want out w turn =
+    (length input ≡ length input₀) × (length want ≡ length want₀) × (length out ≡ length out₀)
 
 abbrev μ-loop : tie.MeasureT-loop
 μ-loop table input₀ want₀ out₀ w₀ turn₀ input want out w turn = length table - turn

@@ -1,4 +1,4 @@
--- What is left to run, `Filling` of sums InterpolateRun, on the state that the rings stand for; a turn is the outputs of a hold and a sample.
+-- What is left to run, `Filling` of sums InterpolateRun, on the state that the rings stand for; a turn is a hold's outputs and a sample.
 use borrow.Author.Needs.{needs}
 use mathlib.Core.Path.{_≡_, ap, _∙_}
 use Prim.Native.Nat.{_-_, _*_, _^_, _<_, _≤_}

@@ -25,7 +25,8 @@ loop-holds c = (c .before .pre .1, c .before .pre .3, refl)
 
 loop-again : tie.Need-loop-again Inv-loop μ-loop
 loop-again c =
-    let g = c .integrate in let u = c .before .before .before in let q = u .before in let l = q .loop in let p = q .before .before in let a = p .args in
+    let g = c .integrate in let u = c .before .before .before in let q = u .before in
+    let l = q .loop in let p = q .before .before in let a = p .args in
     let x = getD (a .input .now) (l .i) (pos 0) in
     let e : g .last .0 ≡ partInts wordOps (a .n) (l .held) x = rw (read width x (c .before .before .x .given)) at (g .ensures .cells) in (
       search needs,

@@ -1,7 +1,7 @@
 -- The test of the gain is the number's, once the gain is the callees' promise.
 use mathlib.Core.Path.{_∙_, ap}
 use borrow.Author.Needs.{needs}
-use Rattle.biquad.specs.Coefficients.{gainOf}
+use Rattle.biquad.specs.Coefficients.{forwardGain}
 use Rattle.biquad.specs.Answers.{answerOf}
 use Rattle.biquad.proofs.biquad_clamp.BiquadClamp.input_offset.Statement.{statement}
 use Rattle.biquad.proofs.biquad_clamp.BiquadClamp.input_offset.Tie as tie
@@ -9,14 +9,14 @@ use Rattle.biquad.proofs.biquad_clamp.BiquadClamp.input_offset.Tie as t
 returns : tie.Need-returns
 unfolding answerOf
 returns c =
-    let g = c .before .forward-gain .ensures ∙ ap gainOf (c .before .before .coeff .ensures) in
+    let g = c .before .forward-gain .ensures ∙ ap forwardGain (c .before .before .coeff .ensures) in
     rw (rw g at (c .if1 .taken))
 
 returns-2 : tie.Need-returns-2
 unfolding answerOf
 returns-2 c =
     let k = c .before .before in
-    let g = k .forward-gain .ensures ∙ ap gainOf (k .before .coeff .ensures) in
+    let g = k .forward-gain .ensures ∙ ap forwardGain (k .before .coeff .ensures) in
     rw (g, rw g at (c .before .if1 .left))
 
 pub input-offset-spec : {M : Type 1} → statement M
