@@ -53,7 +53,8 @@ module _ {A : Type 0} (o : Ops A) (s : State A) (r : Ready s) (x : A) where
 
   pub takes : s .countdown ≤ 0 → (h y : A) (is ks : List A) → Combs o (s .order) (s .delay) (s .combs) x ks h
       → Integrates o (s .order) (s .integrators) h is y
-      → InterpolateStep o s (dueSample o (s .countdown) (x ∷ [])) (packed (s .order) (s .delay) (s .rate) (s .rate) (s .unsettled) h is ks) y
+      → InterpolateStep o s (dueSample o (s .countdown) (x ∷ []))
+      (packed (s .order) (s .delay) (s .rate) (s .rate) (s .unsettled) h is ks) y
   takes c h y is ks runs run =
       let t = rise-due o s (fit s r) (omega arith) x h y is ks (runs .last) (runs .cells) (run .cells) (run .last) in
       rw (is-due o (s .countdown) x c) (record { state = t .state; gives = t .out })
