@@ -14,7 +14,7 @@ fn line(opened: bool, line: &[u8]) -> u32 {
     let reply = taken.reply;
     match reply {
         Reply::Silent => 0,
-        Reply::Output(_, _) => 0,
+        Reply::Output(_) => 0,
         Reply::Bad(n) => n,
     }
 }
