@@ -8,7 +8,10 @@ use Rattle.bench_exports.proofs.decimators.given.Tie as tie
 
 returns : tie.Need-returns
 unfolding givenIn
-returns c = rw (toZ-ofZ w32 (c .before .out .given .0 .0) (record { sfits = c .known-told .given .0 .1 }), c .before .out .given .1)
+returns c =
+    let at-out : tie.After-out = search in
+    let at-struct-told : tie.After-struct-told = search in
+    rw (toZ-ofZ w32 (at-out .out .given .0 .0 .value) (record { sfits = at-struct-told .struct-told .given .0 .1 }), at-out .out .given .1)
 
 returns-2 : tie.Need-returns-2
 unfolding givenIn
