@@ -1,153 +1,131 @@
--- saturating_scale in whole numbers: nothing that the code computes leaves the word. P is 2 ^ (shift - 1), Q is 2 ^ (32 - shift).
-use mathlib.Core.Path.{_≡_, refl, sym, ap, _∙_, subst}
-use mathlib.Core.Bool.{Bool, true, false, true≢false}
-use Prim.Native.Nat.{ℕ, zero, suc, _+_, _-_, _*_, _/_, _%_, _^_, _<_, _≤_}
-use native.Mathlib.Nat.{mul-le-mul-right, pow-suc, div-add-mod', lt-of-mul-lt-mul-left}
+-- saturating_scale in whole numbers: 2 ^ shift divides what hi adds, so the code's two shifts add up to the quotient of the
+-- whole, which fits 64 bits; quotient and clamp both keep the order.
+use mathlib.Core.Path.{_≡_, refl, sym, ap, _∙_}
+use mathlib.Core.Bool.{Bool, true, false, cond, true≢false, _||_}
+use Prim.Native.Nat.{ℕ, zero, suc, min, _+_, _-_, _*_, _/_, _%_, _^_, _<_, _≤_}
+use native.Mathlib.Nat.{mod-eq-of-lt, mul-assoc, div-lt-iff-lt-mul, mul-le-mul-left, mul-le-mul-right, zero-mul}
 use native.Mathlib.Omega.{arith}
-use lib.Dec.{ltb}
+use lib.Dec.{ltb, eqb, le→leb, leb→le}
 use lib.Pow.{pow-pos, pow-add, pow-mono}
-use lib.IntN.{ℤ, pos, negsuc, negℤ, natAbs, subℕ, _+ℤ_, _-ℤ_, _*ℤ_, +ℤ-idl, +ℤ-idr}
-use lib.Signed.{mag, leZ}
-use borrow.Author.Tests.{ltb-true, ltb-false, lt-ltb, le-ltb, leb-false}
-use mir.Syntax.{w32}
+use lib.IntN.{ℤ, pos, negsuc, negℤ, _+ℤ_, _*ℤ_}
+use lib.Signed.{mag, ltZ, _≤ℤ_}
+use lib.Ieee.Nearest.{div-mono}
+use borrow.Author.Tests.{ltb-true, ltb-false}
+use mir.Syntax.{w32, w64}
 use mir.Val.{SFits}
 use Rattle.words.specs.Words.{wrap, floorDiv}
 use Rattle.words.proofs.Reading.{wrap-is}
 use Rattle.words.proofs.Sums.{equal, wrapped, same-add, wrap-same}
-use Rattle.words.proofs.Sizes.{mag-add, not-below}
-use Rattle.unwrap.specs.Scales.{extended, clipped}
+use Rattle.words.proofs.Sizes.{mag-add}
+use Rattle.words.proofs.Floors.{floor-turns}
+use Rattle.unwrap.specs.declared.scale.Scaled.{Scaled}
+use Rattle.unwrap.specs.declared.scale.Scaled.the-variants.{Value, Refused}
+use Rattle.unwrap.specs.Scales.{wideValue, clamped, scaledTo, scaledOf, Monotone}
 
--- shift 32: what is left of lo is its sign
-sign-of : (lo : ℤ) → SFits w32 lo → leZ (pos 0) lo ≡ true → floorDiv lo (2 ^ 31) ≡ pos 0
-sign-of (pos l) f e = let h = f .sfits in let z : l / 2 ^ 31 ≡ 0 = omega arith in ap pos z
-sign-of (negsuc l) f e = absurd (true≢false (sym e))
+-- ---- the quotient fits 64 bits, though the whole may not
 
-sign-below : (lo : ℤ) → SFits w32 lo → leZ (pos 0) lo ≡ false → floorDiv lo (2 ^ 31) ≡ negsuc 0
-sign-below (pos l) f e = let k = leb-false 0 l e in absurd (omega arith)
-sign-below (negsuc l) f e = let h = f .sfits in let z : l / 2 ^ 31 ≡ 0 = omega arith in ap negsuc z
+neg-mag : (n B : ℕ) → n ≤ B → 0 < B → mag (negℤ (pos n)) < B
+neg-mag zero B h p = p
+neg-mag (suc n) B h p = h
 
-module _ (lo hi : ℤ) (fl : SFits w32 lo) (fh : SFits w32 hi) where
-  pub extend-none : leZ (pos 0) lo ≡ true → hi ≡ extended lo hi
-  extend-none e = rw (sign-of lo fl e, +ℤ-idr hi, not-below hi fh)
+high-mag : (hi : ℤ) → SFits w32 hi → mag (hi *ℤ pos (2 ^ 32)) < 2 ^ 63
+high-mag (pos n) f = let h = f .sfits in omega arith
+high-mag (negsuc n) f = let h = f .sfits in neg-mag (suc n * 2 ^ 32) (2 ^ 63) (omega arith) (pow-pos 63)
 
-  pub extend-least : leZ (pos 0) lo ≡ false → hi ≡ negsuc 2147483647 → hi ≡ extended lo hi
-  extend-least e m = rw (sign-below lo fl e, m)
+floor-mag : (z : ℤ) (m : ℕ) → mag (floorDiv z m) ≡ mag z / m
+floor-mag (pos n) m = refl
+floor-mag (negsuc n) m = refl
 
-  pub extend-one : leZ (pos 0) lo ≡ false → SFits w32 (hi -ℤ pos 1) → hi -ℤ pos 1 ≡ extended lo hi
-  extend-one e f = rw (sign-below lo fl e, not-below (hi -ℤ pos 1) f)
+quotient-fits : (a m : ℕ) → 2 ≤ m → a < 2 ^ 64 → a / m < 2 ^ 63
+quotient-fits a m h k = div-lt-iff-lt-mul {k = m} {x = a} {y = 2 ^ 63} (omega arith) .1 (omega (arith, mul-le-mul-left (2 ^ 63) h))
 
--- one less of what is not the least
-pub less-fits : (hi : ℤ) → SFits w32 hi → (hi ≡ negsuc 2147483647 → ⊥) → SFits w32 (hi -ℤ pos 1)
-less-fits (pos zero) f n = record { sfits = omega arith }
-less-fits (pos (suc k)) f n =
-    let h = f .sfits in
-    rw (le-ltb (suc k) 1 (omega arith)) (record { sfits = omega arith })
-less-fits (negsuc k) f n = record { sfits = pick (ltb k 2147483647) refl }
+divided-fits : (lo hi : ℤ) (s : ℕ) → 1 ≤ s → SFits w32 lo → SFits w32 hi → SFits w64 (floorDiv (wideValue lo hi) (2 ^ s))
+divided-fits lo hi s h fl fh =
+    let v = wideValue lo hi in
+    let a = mag-add (hi *ℤ pos (2 ^ 32)) lo in
+    let b = high-mag hi fh in
+    let c = fl .sfits in
+    let two : 2 ≤ 2 ^ s = pow-mono {i = 1} {j = s} h in
+    record { sfits = rw (floor-mag v (2 ^ s)) (quotient-fits (mag v) (2 ^ s) two (omega arith)) }
+
+-- ---- what the code adds up
+
+times-times : (z : ℤ) (a b : ℕ) → z *ℤ pos a *ℤ pos b ≡ z *ℤ pos (a * b)
+times-times (pos n) a b = ap pos (mul-assoc n a b)
+times-times (negsuc n) a b = neg-times (suc n * a) b ∙ ap (λ (m : ℕ). negℤ (pos m)) (mul-assoc (suc n) a b)
   where
-    pick : (b : Bool) → ltb k 2147483647 ≡ b → suc (k + 0) < 2 ^ 31
-    pick true t = let l = ltb-true k 2147483647 t in omega arith
-    pick false t =
-        let l = ltb-false k 2147483647 t in
-        let h = f .sfits in
-        let e : k ≡ 2147483647 = omega arith in absurd (n (ap negsuc e))
+    neg-times : (m b : ℕ) → negℤ (pos m) *ℤ pos b ≡ negℤ (pos (m * b))
+    neg-times zero b = let e : 0 * b ≡ 0 = zero-mul b in ap pos e ∙ ap (λ (m : ℕ). negℤ (pos m)) (sym e)
+    neg-times (suc m) b = refl
 
--- shift 1 .. 31
-module _ (k : ℕ) (h : suc k < 2 ^ 31) where
-  pub range-is : wrap w32 (pos 0 -ℤ pos (suc k)) ≡ negsuc k
-  range-is = ap (wrap w32) (+ℤ-idl (negsuc k)) ∙ wrap-is w32 (negsuc k) (record { sfits = omega arith })
+pub divided-is : (lo hi : ℤ) (s : ℕ) → 1 ≤ s → s ≤ 32 → SFits w32 lo → SFits w32 hi
+    → wrap w64 (wrap w64 (hi *ℤ pos (2 ^ ((32 - s) % 64))) +ℤ floorDiv lo (2 ^ (s % 64))) ≡ floorDiv (wideValue lo hi) (2 ^ s)
+divided-is lo hi s h k fl fh =
+    let q = 2 ^ (32 - s) in let m = 2 ^ s in
+    let u : (32 - s) % 64 ≡ 32 - s = mod-eq-of-lt (omega arith) in
+    let v : s % 64 ≡ s = mod-eq-of-lt (omega arith) in
+    let t : 32 - s + s ≡ 32 = omega arith in
+    let p : q * m ≡ 2 ^ 32 = sym (pow-add 2 (32 - s) s) ∙ ap (λ (n : ℕ). 2 ^ n) t in
+    let whole : hi *ℤ pos q *ℤ pos m ≡ hi *ℤ pos (2 ^ 32) = times-times hi q m ∙ ap (λ (n : ℕ). hi *ℤ pos n) p in
+    let sum : hi *ℤ pos q +ℤ floorDiv lo m ≡ floorDiv (wideValue lo hi) m =
+    sym (floor-turns (hi *ℤ pos q) lo m (pow-pos s)) ∙ ap (λ (z : ℤ). floorDiv (z +ℤ lo) m) whole in
+    rw (u, v)
+    (wrap-same (same-add (wrapped w64 (hi *ℤ pos q)) (equal {a = floorDiv lo m} refl))
+    ∙ ap (wrap w64) sum
+    ∙ wrap-is w64 (floorDiv (wideValue lo hi) m) (divided-fits lo hi s h fl fh))
 
-  pub least-end : wrap w32 (negsuc 2147483647 -ℤ negsuc k) ≡ pos (suc k) -ℤ pos (2 ^ 31)
-  least-end = wrap-is w32 (subℕ (suc k) (2 ^ 31)) (rw (lt-ltb (suc k) (2 ^ 31) h) (record { sfits = omega arith }))
+-- ---- the clamp: by its sign the size stops at 2 ^ 31 - 1
 
-  pub greatest-end : wrap w32 (negsuc k -ℤ negsuc 2147483647) ≡ pos (2 ^ 31) -ℤ pos (suc k)
-  greatest-end = wrap-is w32 (subℕ (2 ^ 31) (suc k)) (rw (le-ltb (2 ^ 31) (suc k) (omega arith)) (record { sfits = omega arith }))
-
-  -- what is left lies within the range
-  pub inner : (hi : ℤ) → leZ hi (negsuc k) ≡ false → leZ (pos (suc k)) hi ≡ false → natAbs hi ≤ k
-  inner (pos n) a b = let l = leb-false (suc k) n b in omega arith
-  inner (negsuc n) a b = let l = leb-false k n a in omega arith
-
-mag-product : (hi : ℤ) (q k : ℕ) → natAbs hi ≤ k → mag (hi *ℤ pos q) ≤ k * q
-mag-product (pos n) q k h = mul-le-mul-right q h
-mag-product (negsuc n) q k h = let e : suc n * q ≤ k * q = mul-le-mul-right q h in below (suc n * q) (k * q) e
+least-of : (n : ℕ) {A : Type 0} (of : ℕ → A) → cond (ltb 2147483647 n) (of 2147483647) (of n) ≡ of (min n 2147483647)
+least-of n {A} of = pick (ltb 2147483647 n) refl
   where
-    below : (a b : ℕ) → a ≤ b → mag (negℤ (pos a)) ≤ b
-    below zero b l = omega arith
-    below (suc a) b l = omega arith
+    pick : (t : Bool) → ltb 2147483647 n ≡ t → cond t (of 2147483647) (of n) ≡ of (min n 2147483647)
+    pick true e = let h = ltb-true 2147483647 n e in let k : 2147483647 ≡ min n 2147483647 = omega arith in ap of k
+    pick false e = let h = ltb-false 2147483647 n e in let k : n ≡ min n 2147483647 = omega arith in ap of k
 
-mag-floor : (lo : ℤ) (m : ℕ) → mag (floorDiv lo m) ≡ mag lo / m
-mag-floor (pos l) m = refl
-mag-floor (negsuc l) m = refl
+clamped-pos : (n : ℕ) → clamped (pos n) ≡ pos (min n 2147483647)
+unfolding clamped
+clamped-pos n = least-of n pos
 
--- a whole turn of P Q is 2 ^ 31
-pub inside-fits : (lo hi : ℤ) (k q : ℕ) → SFits w32 lo → suc k * q ≡ 2 ^ 31 → 2 ≤ q → natAbs hi ≤ k
-    → SFits w32 (floorDiv lo (suc k * 2) +ℤ hi *ℤ pos q)
-inside-fits lo hi k q f e h b =
-    let l = f .sfits in
-    let d = mag lo / (suc k * 2) in
-    let a : d * (suc k * 2) ≤ mag lo = omega (arith, div-add-mod' (mag lo) (suc k * 2)) in
-    let c : suc k * (d * 2) < suc k * q = omega arith in
-    let r : d * 2 < q = lt-of-mul-lt-mul-left (suc k) c in
-    record { sfits = omega (arith, mag-add (floorDiv lo (suc k * 2)) (hi *ℤ pos q), mag-floor lo (suc k * 2), mag-product hi q k b) }
+clamped-neg : (n : ℕ) → clamped (negsuc n) ≡ negsuc (min n 2147483647)
+unfolding clamped
+clamped-neg n = least-of n negsuc
 
-module _ (shift : ℕ) (some : 1 ≤ shift) (few : shift ≤ 31) where
-  P : ℕ
-  P = 2 ^ (shift - 1)
+pub inside : (v : ℤ) → ltZ v (negsuc 2147483647) ≡ false → ltZ (pos 2147483647) v ≡ false → SFits w32 v
+inside (pos n) e f = let h = ltb-false 2147483647 n f in record { sfits = omega arith }
+inside (negsuc n) e f = let h = ltb-false 2147483647 n e in record { sfits = omega arith }
 
-  P-suc : 2 ^ (shift - 1) ≡ suc (P - 1)
-  unfolding P
-  P-suc = omega (arith, pow-pos (shift - 1))
+-- ---- monotone
 
-  P-small : suc (P - 1) < 2 ^ 31
-  unfolding P
-  P-small =
-      let h : shift - 1 ≤ 30 = omega arith in
-      omega (arith, pow-pos (shift - 1), pow-mono h)
+quotient-up : (a b s : ℕ) → a ≤ b → min (a / 2 ^ s) 2147483647 ≤ min (b / 2 ^ s) 2147483647
+quotient-up a b s h =
+    let q : a / 2 ^ s ≤ b / 2 ^ s = div-mono a (2 ^ s) b (2 ^ s) (pow-pos s) (pow-pos s) (mul-le-mul-right (2 ^ s) h) in
+    omega arith
 
-  twice : 2 ^ shift ≡ suc (P - 1) * 2
-  unfolding P
-  twice = let e : shift ≡ suc (shift - 1) = omega arith in ap (λ (n : ℕ). 2 ^ n) e ∙ pow-suc 2 (shift - 1) ∙ ap (λ (n : ℕ). n * 2) P-suc
+scaled-up : (s : ℕ) (v u : ℤ) → v ≤ℤ u → scaledTo s v ≤ℤ scaledTo s u
+scaled-up s (pos a) (pos b) h =
+    rw (clamped-pos (a / 2 ^ s), clamped-pos (b / 2 ^ s)) (record { le = le→leb _ _ (quotient-up a b s (leb→le a b (h .le))) })
+scaled-up s (pos a) (negsuc b) h = absurd (h .le)
+scaled-up s (negsuc a) (pos b) h = rw (clamped-neg (a / 2 ^ s), clamped-pos (b / 2 ^ s)) (record { le = tt })
+scaled-up s (negsuc a) (negsuc b) h =
+    rw (clamped-neg (a / 2 ^ s), clamped-neg (b / 2 ^ s)) (record { le = le→leb _ _ (quotient-up b a s (leb→le b a (h .le))) })
 
-  turn : suc (P - 1) * 2 ^ (32 - shift) ≡ 2 ^ 31
-  unfolding P
-  turn =
-      let e : (shift - 1) + (32 - shift) ≡ 31 = omega arith in
-      ap (λ (n : ℕ). n * 2 ^ (32 - shift)) (sym P-suc) ∙ sym (pow-add 2 (shift - 1) (32 - shift)) ∙ ap (λ (n : ℕ). 2 ^ n) e
+valueIn : Scaled → ℤ
+valueIn (Value y) = y
+valueIn (Refused k) = pos 0
 
-  two : 2 ≤ 2 ^ (32 - shift)
-  two = let h : 1 ≤ 32 - shift = omega arith in omega (arith, pow-mono h)
+answers : Scaled → Bool
+answers (Value y) = true
+answers (Refused k) = false
 
-  -- the code's limit and range
-  pub limit-is : wrap w32 (pos 1 *ℤ pos (2 ^ ((shift - 1) % 32))) ≡ pos (2 ^ (shift - 1))
-  limit-is =
-      let e : (shift - 1) % 32 ≡ shift - 1 = omega arith in
-      let o : 1 * 2 ^ (shift - 1) ≡ 2 ^ (shift - 1) = omega arith in
-      rw (e, o) (wrap-is w32 (pos (2 ^ (shift - 1))) (record { sfits = omega (arith, P-suc, P-small) }))
+answered : (lo hi y : ℤ) (s : ℕ) → scaledOf lo hi s ≡ Value y → scaledTo s (wideValue lo hi) ≡ y
+unfolding scaledOf valueIn answers
+answered lo hi y s = pick (eqb s 0 || ltb 32 s) (scaledTo s (wideValue lo hi))
+  where
+    pick : (t : Bool) (v : ℤ) → cond t (Refused 65) (Value v) ≡ Value y → v ≡ y
+    pick true v e = absurd (true≢false (sym (ap answers e)))
+    pick false v e = ap valueIn e
 
-  pub range-of : wrap w32 (pos 0 -ℤ pos (2 ^ (shift - 1))) ≡ negℤ (pos (2 ^ (shift - 1)))
-  range-of = subst (λ (p : ℕ). wrap w32 (pos 0 -ℤ pos p) ≡ negℤ (pos p)) (sym P-suc) (range-is (P - 1) P-small)
-
-  module _ (lo hi : ℤ) where
-    -- hi at or under the range, at or over it, inside it
-    pub clip-low : leZ hi (negℤ (pos (2 ^ (shift - 1)))) ≡ true
-        → wrap w32 (negsuc 2147483647 -ℤ negℤ (pos (2 ^ (shift - 1)))) ≡ clipped lo hi shift
-    clip-low t =
-        rw t (subst (λ (p : ℕ). wrap w32 (negsuc 2147483647 -ℤ negℤ (pos p)) ≡ pos p -ℤ pos (2 ^ 31)) (sym P-suc)
-        (least-end (P - 1) P-small))
-
-    pub clip-high : leZ hi (negℤ (pos (2 ^ (shift - 1)))) ≡ false → leZ (pos (2 ^ (shift - 1))) hi ≡ true
-        → wrap w32 (negℤ (pos (2 ^ (shift - 1))) -ℤ negsuc 2147483647) ≡ clipped lo hi shift
-    clip-high t u =
-        rw (t, u)
-        (subst (λ (p : ℕ). wrap w32 (negℤ (pos p) -ℤ negsuc 2147483647) ≡ pos (2 ^ 31) -ℤ pos p) (sym P-suc) (greatest-end (P - 1) P-small))
-
-    pub clip-in : SFits w32 lo → leZ hi (negℤ (pos (2 ^ (shift - 1)))) ≡ false → leZ (pos (2 ^ (shift - 1))) hi ≡ false
-        → wrap w32 (floorDiv lo (2 ^ (shift % 32)) +ℤ wrap w32 (hi *ℤ pos (2 ^ ((32 - shift) % 32)))) ≡ clipped lo hi shift
-    clip-in f t u =
-        let e : shift % 32 ≡ shift = omega arith in
-        let g : (32 - shift) % 32 ≡ 32 - shift = omega arith in
-        let b : natAbs hi ≤ P - 1 = inner (P - 1) P-small hi (rw P-suc at t) (rw P-suc at u) in
-        let s = inside-fits lo hi (P - 1) (2 ^ (32 - shift)) f turn two b in
-        rw (t, u, e, g)
-        (wrap-same (same-add {a = floorDiv lo (2 ^ shift)} (equal refl) (wrapped w32 (hi *ℤ pos (2 ^ (32 - shift)))))
-        ∙ wrap-is w32 (floorDiv lo (2 ^ shift) +ℤ hi *ℤ pos (2 ^ (32 - shift))) (rw twice s))
+pub monotone : Monotone
+monotone s lo hi lo′ hi′ y y′ h e f =
+    rw (sym (answered lo hi y s e), sym (answered lo′ hi′ y′ s f)) (scaled-up s (wideValue lo hi) (wideValue lo′ hi′) h)

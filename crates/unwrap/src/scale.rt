@@ -1,47 +1,44 @@
 // A wide value scaled down to a word.
-use words::shifts::shl_i32;
-use words::shifts::shr_i32;
-use words::signed::add_i32;
-use words::signed::sub_i32;
+use words::casts::i32_as_i64;
+use words::shifts::shl_i64;
+use words::shifts::shr_i64;
+use words::signed::add_i64;
 ghost use mathlib.Core.Path.{_≡_};
-ghost use Prim.Native.Nat.{_≤_};
-ghost use Rattle.unwrap.specs.Scales.{extended, clipped, scaledOf};
+ghost use Prim.Native.Nat.{_≤_, _^_};
+ghost use Rattle.words.specs.Words.{floorDiv};
+ghost use Rattle.unwrap.specs.Scales.{wideValue, clamped, scaledOf};
 
 pub enum Scaled {
     Value(i32),
     Refused(u32),
 }
 
-// hi with the sign of lo added, kept in the word.
-fn extend(lo: i32, hi: i32) -> i32
-    ensures { λ r. ⌜ r ≡ extended lo hi ⌝ }
+// hi·2^32 + lo, divided by 2^shift and rounded down. The sum itself may not fit 64 bits: hi is scaled by what is left of
+// 2^32 instead.
+fn divided(lo: i32, hi: i32, shift: u32) -> i64
+    requires { ⌜ (1 ≤ shift) × (shift ≤ 32) ⌝ }
+    ensures { λ r. ⌜ r ≡ floorDiv (wideValue lo hi) (2 ^ shift) ⌝ }
 {
-    if 0 <= lo {
-        return hi;
-    }
-    if hi == i32::MIN {
-        return hi;
-    }
-    hi - 1
+    add_i64(
+        shl_i64(i32_as_i64(hi), 32 - shift),
+        shr_i64(i32_as_i64(lo), shift),
+    )
 }
 
-// lo scaled down and hi scaled up, clipped where hi is out of the output's range.
-fn clip(lo: i32, hi: i32, shift: u32) -> i32
-    requires { ⌜ (1 ≤ shift) × (shift ≤ 31) ⌝ }
-    ensures { λ r. ⌜ r ≡ clipped lo hi shift ⌝ }
+// The word nearest to v.
+fn clamp(v: i64) -> i32
+    ensures { λ r. ⌜ r ≡ clamped v ⌝ }
 {
-    let limit = shl_i32(1, shift - 1);
-    let hi_range = sub_i32(0, limit);
-    if hi <= hi_range {
-        return sub_i32(i32::MIN, hi_range);
+    if v < -2147483648 {
+        return i32::MIN;
     }
-    if limit <= hi {
-        return sub_i32(hi_range, i32::MIN);
+    if 2147483647 < v {
+        return i32::MAX;
     }
-    add_i32(shr_i32(lo, shift), shl_i32(hi, 32 - shift))
+    v as i32
 }
 
-// lo scaled down by shift bits and extended by hi, clipped where hi exceeds the output's range.
+// hi·2^32 + lo, divided by 2^shift, rounded down, then clamped to the word.
 // 65 where shift is outside 1..32.
 pub fn saturating_scale(lo: i32, hi: i32, shift: u32) -> Scaled
     ensures { λ r. ⌜ r ≡ scaledOf lo hi shift ⌝ }
@@ -52,8 +49,5 @@ pub fn saturating_scale(lo: i32, hi: i32, shift: u32) -> Scaled
     if 32 < shift {
         return Scaled::Refused(65);
     }
-    if shift == 32 {
-        return Scaled::Value(extend(lo, hi));
-    }
-    Scaled::Value(clip(lo, hi, shift))
+    Scaled::Value(clamp(divided(lo, hi, shift)))
 }
