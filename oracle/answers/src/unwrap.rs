@@ -10,10 +10,11 @@ use std::ops::{Add, BitAnd, Div, Mul, Neg, Rem, Sub};
 const STEPS: u32 = 1_000_000;
 
 pub fn write(root: &str) {
-    let mut out = Answers::new(7);
+    let mut out = Answers::new(8);
     let mut draw = Draw::new(moved(1));
     differences(&mut out, &mut draw);
     scales(&mut out, &mut draw);
+    least_pairs(&mut out);
     unwrappers(&mut out, &mut draw);
     clamps(&mut out, &mut draw);
     runs(&mut out);
@@ -43,10 +44,16 @@ fn differences(out: &mut Answers, draw: &mut Draw) {
     }
 }
 
-/// 3: lo, hi, shift, the scaled word.
+/// The scaled word by request A11, in wide integers.
+fn rule(lo: i32, hi: i32, shift: u32) -> i32 {
+    let whole = ((hi as i128) << 32) + lo as i128;
+    (whole >> shift).clamp(i32::MIN as i128, i32::MAX as i128) as i32
+}
+
+/// 3: lo, hi, shift, the crate's scaled word, that of the rule.
 fn scales(out: &mut Answers, draw: &mut Draw) {
     let mut case = |lo: i32, hi: i32, shift: u32| {
-        out.line(3, &[&lo, &hi, &shift, &saturating_scale(lo, hi, shift)]);
+        out.line(3, &[&lo, &hi, &shift, &saturating_scale(lo, hi, shift), &rule(lo, hi, shift)]);
     };
     for shift in 1..=32 {
         let limit = 1i64 << (shift - 1);
@@ -60,6 +67,51 @@ fn scales(out: &mut Answers, draw: &mut Draw) {
         }
         for _ in 0..4 {
             case(draw.int(), draw.int() >> (32 - shift), shift);
+        }
+    }
+}
+
+/// 12: as 3, at the pair nearest to zero, of each sign, at which the crate's word is above the rule's, and at which it is
+/// below. From the clip on the crate gives one word and the rule moves one way, so that a bisection finds them.
+fn least_pairs(out: &mut Answers) {
+    for shift in 1..=31 {
+        for sign in [1i64, -1] {
+            let limit = sign << (shift - 1);
+            // The pairs from the clip outwards: number n is n away from its first.
+            let pair = |n: i64| {
+                let first = if sign > 0 { i32::MIN } else { i32::MAX };
+                let lo = first as i128 + (sign * n) as i128;
+                let whole = ((limit as i128) << 32) + lo;
+                let hi = (whole + (1 << 31)) >> 32;
+                ((whole - (hi << 32)) as i32, hi as i32)
+            };
+            for above in [true, false] {
+                let found = |n: i64| {
+                    let (lo, hi) = pair(n);
+                    let (theirs, ours) = (saturating_scale(lo, hi, shift), rule(lo, hi, shift));
+                    if above { theirs > ours } else { theirs < ours }
+                };
+                // Outwards the rule leaves the crate's word behind on one side: there it is true from some pair on,
+                // on the other from the first pair on or never.
+                let n = if (sign > 0) == above {
+                    if !found(0) {
+                        continue;
+                    }
+                    0
+                } else {
+                    let (mut no, mut yes) = (-1, 1i64 << 32);
+                    if !found(yes) {
+                        continue;
+                    }
+                    while no + 1 < yes {
+                        let n = (no + yes) / 2;
+                        if found(n) { yes = n } else { no = n }
+                    }
+                    yes
+                };
+                let (lo, hi) = pair(n);
+                out.line(12, &[&lo, &hi, &shift, &saturating_scale(lo, hi, shift), &rule(lo, hi, shift)]);
+            }
         }
     }
 }
@@ -130,13 +182,18 @@ fn runs(out: &mut Answers) {
     // 8 takes hi as drawn, 9 takes it into the range that shift leaves unclipped.
     for (code, seed) in [(8, moved(8)), (9, moved(9))] {
         let mut draw = Draw::new(seed);
-        let mut digest = Digest::default();
+        let mut crates = Digest::default();
+        let mut rules = Digest::default();
+        let mut differ = 0u32;
         for _ in 0..STEPS {
             let (lo, hi, shift) = (draw.int(), draw.int(), 1 + draw.below(32));
             let hi = if code == 9 { hi >> (32 - shift) } else { hi };
-            digest.feed(&saturating_scale(lo, hi, shift));
+            let (theirs, ours) = (saturating_scale(lo, hi, shift), rule(lo, hi, shift));
+            crates.feed(&theirs);
+            rules.feed(&ours);
+            differ += (theirs != ours) as u32;
         }
-        out.line(code, &[&seed, &STEPS, &0i64, &digest]);
+        out.line(code, &[&seed, &STEPS, &crates, &rules, &differ]);
     }
 
     for (seed, start) in [(moved(10), 0i64), (moved(11), i64::MAX - 5), (moved(12), i64::MIN + 5)] {
