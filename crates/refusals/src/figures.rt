@@ -1,5 +1,5 @@
 // Document 01, 'Bench figures': those that aren't T cases. Rates 65,535 and 65,536 stand with number 12, F 0 for
-// dither with number 40.
+// dither with number 40. The scaled word of hi 1073741824 is that of 02, A11.
 use crate::print::number;
 use crate::print::signed;
 use crate::print::text;
