@@ -8,4 +8,7 @@ pub mod Ways
 pub mod Balance
 pub mod Totals
 pub mod Ends
+pub mod Stages
+pub mod Tracking
+pub mod Shaping
 pub mod Settled

@@ -3,5 +3,6 @@ pub mod Modulator
 pub mod Calls
 pub mod Totals
 pub mod Ends
+pub mod Shaping
 -- For private functions alone: the step's halves on lent cells, and the block's loop.
 pub mod Cells
