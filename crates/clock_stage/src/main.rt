@@ -1,10 +1,10 @@
 // The modulator's outputs over given inputs (02, A14), for samples/noise.py. Standard input is words as oracle/README.md has
 // them: for each run the order, the number of inputs, and the inputs. Each run starts from zero; a line is an output and
 // the last accumulator after it.
-use cases::text::word;
 use dsm::Dsm;
 use dsm::Output;
 use libc::STDOUT_FILENO;
+use rust_answers::lines::word;
 use words::casts::i32_as_u32;
 ghost use Prim.Native.Nat.{_+_, _<_, _≤_};
 

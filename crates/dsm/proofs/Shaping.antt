@@ -24,7 +24,8 @@ use Rattle.dsm.specs.declared.Output.the-variants as Output
 use Rattle.dsm.specs.Modulator.{modulatorOut, nextOf, inside, insideFrom}
 use Rattle.dsm.specs.Calls.{zerosOf, modulatorOf, stateNumber, runNumber, outputAt, modulatorStep}
 use Rattle.dsm.specs.Totals.{modulated, modulatorAfter}
-use Rattle.dsm.specs.Shaping.{tookIn, gaveOut, whenDone, Called, OneList, lastAccumulator, accumulatorAt, backwards, NoiseShaped, NearInput}
+use Rattle.dsm.specs.Shaping.{tookIn, gaveOut, whenDone, Called, OneList}
+use Rattle.dsm.specs.Shaping.{lastAccumulator, accumulatorAt, backwards, NoiseShaped, NearInput}
 use Rattle.dsm.proofs.Balance.{above, below, of-minus}
 use Rattle.dsm.proofs.Ranges.{Near, near-inside, all}
 use Rattle.dsm.proofs.Refusals as Refusals
@@ -109,7 +110,8 @@ accs-last a (b ∷ k) f t = accs-last b k (post a f) t
 
 last-at : (n : ℕ) (f : ℕ → ℕ) (t : ℕ) (s : Dsm) → At (suc n) f (suc t) s → lastAccumulator s ≡ lasts (replicate (suc n) 0) f t
 last-at n f t s a =
-    let e : getD (take (suc n) (s .accumulators)) n 0 ≡ getD (s .accumulators) n 0 = getD-take (suc n) (s .accumulators) n 0 (omega arith) in
+    let cells = s .accumulators in
+    let e : getD (take (suc n) cells) n 0 ≡ getD cells n 0 = getD-take (suc n) cells n 0 (omega arith) in
     let d : suc n - 1 ≡ n = omega arith in
     ap (λ (o : ℕ). getD (s .accumulators) (o - 1) 0) (a .order)
     ∙ ap (λ (i : ℕ). getD (s .accumulators) i 0) d

@@ -1,4 +1,4 @@
--- What a reader must believe: the step, every call, what a run takes in and gives out, both ends of the range.
+-- What a reader must believe: the step, every call, what a run takes in and gives out, both ends of the range, the noise.
 pub mod Modulator
 pub mod Calls
 pub mod Totals
