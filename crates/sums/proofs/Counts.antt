@@ -1,18 +1,19 @@
--- 01's count of a block's outputs, turn by turn, and that it is the count; and which outputs of a block are marked settled.
+-- 01's count of a block's outputs, turn by turn, and that it is the count; and what each output of a block tells.
 use mathlib.Core.Path.{_≡_, refl, sym, ap, _∙_}
+use mathlib.Core.Bool.{cond}
 use mathlib.Core.List.{List, [], _∷_}
 use mathlib.Core.Logic.{_⊎_, inl, inr, ⊎-elim}
 use Prim.Native.Nat.{ℕ, zero, suc, zero-le, _+_, _-_, _/_, _<_, _≤_}
 use native.Mathlib.Nat.{div-eq-of-lt, add-div-right}
 use native.Mathlib.Omega.{arith}
-use lib.Dec.{leb, eqb, leb·zero, leb·suc-zero, leb·suc-suc, eqb·suc-zero}
+use lib.Dec.{eqb, eqb·suc-zero}
 use lib.ListN.{length, getD}
 use borrow.Author.Tests.{le-leb, lt-leb}
 use Rattle.sums.specs.Ops.{Ops}
 use Rattle.sums.specs.Machine.{Output}
 use Rattle.sums.specs.State.{State}
 use Rattle.sums.specs.Calls.{stepState}
-use Rattle.sums.specs.Runs.{needed, outputs}
+use Rattle.sums.specs.Runs.{needed, outputs, firstTold}
 use Rattle.sums.proofs.Steps.{Fit, down, step-waits, given-waits, step-gives, given-gives, step-fit}
 
 pub split : (a b : ℕ) → (a ≤ b) ⊎ (b < a)
@@ -44,20 +45,18 @@ needed-give n c r h =
     simp (lt-leb (suc n) c (omega arith), lt-leb n r k, e, d) (omega arith))
     (split n r)
 
--- the marks of a list whose first is settled where u is 0, and the rest by one fewer
-leb-zero : (u : ℕ) → eqb u 0 ≡ leb u 0
-leb-zero zero = refl
-leb-zero (suc u) = eqb·suc-zero u ∙ sym (leb·suc-zero u)
+-- a list whose first tells u, and the rest one fewer
+told-front : {A : Type 0} (y : Output A) (l : List (Output A)) (d : Output A) (u : ℕ) → y .told ≡ u
+    → ((k : ℕ) → k < length l → getD l k d .told ≡ u - 1 - k)
+    → (i : ℕ) → i < suc (length l) → getD (y ∷ l) i d .told ≡ u - i
+told-front y l d u e on zero h = omega (arith, e)
+told-front y l d u e on (suc i) h = omega (arith, on i (omega arith))
 
-leb-less : (u k : ℕ) → leb (u - 1) k ≡ leb u (suc k)
-leb-less zero k = leb·zero k ∙ sym (leb·zero (suc k))
-leb-less (suc u) k = ap (λ n. leb n k) (omega arith) ∙ sym (leb·suc-suc u k)
-
-mark-front : {A : Type 0} (y : Output A) (l : List (Output A)) (d : Output A) (u : ℕ) → y .settled ≡ eqb u 0
-    → ((k : ℕ) → k < length l → getD l k d .settled ≡ leb (u - 1) k)
-    → (i : ℕ) → i < suc (length l) → getD (y ∷ l) i d .settled ≡ leb u i
-mark-front y l d u e on zero h = e ∙ leb-zero u
-mark-front y l d u e on (suc i) h = on i (omega arith) ∙ leb-less u i
+-- what a block tells, by the number of its outputs
+head-told : {A : Type 0} (u : ℕ) (ys : List (Output A)) → ((d : Output A) → 0 < length ys → getD ys 0 d .told ≡ u - 0)
+    → firstTold ys ≡ cond (eqb (length ys) 0) 0 u
+head-told u [] t = refl
+head-told u (y ∷ ys) t = rw (eqb·suc-zero (length ys)) (omega (arith, t y (omega arith)))
 
 module _ {A : Type 0} (o : Ops A) where
   pub outputs-length : (s : State A) → Fit s → (xs : List A) → length (outputs o s xs) ≡ needed (length xs) (s .countdown) (s .rate)
@@ -75,17 +74,24 @@ module _ {A : Type 0} (o : Ops A) where
       ∙ sym (needed-wait (length xs) (s .countdown) (s .rate) h)))
       (down (s .countdown))
 
-  -- output i of a block is settled exactly where the unsettled count before the block was at most i
-  pub outputs-mark : (s : State A) → Fit s → (xs : List A) (i : ℕ) (d : Output A) → i < length (outputs o s xs)
-      → getD (outputs o s xs) i d .settled ≡ leb (s .unsettled) i
+  -- output i of a block tells the unsettled count before the block less i
+  pub outputs-told : (s : State A) → Fit s → (xs : List A) (i : ℕ) (d : Output A) → i < length (outputs o s xs)
+      → getD (outputs o s xs) i d .told ≡ s .unsettled - i
   unfolding outputs
-  outputs-mark s f [] i d h = absurd (omega arith)
-  outputs-mark s f (x ∷ xs) i d h =
+  outputs-told s f [] i d h = absurd (omega arith)
+  outputs-told s f (x ∷ xs) i d h =
       let t : State A = stepState o s x in
       ⊎-elim
       (λ e. let g = given-gives o s f x e in
-      rw g (mark-front _ (outputs o t xs) d (s .unsettled) refl
-      (λ k l. outputs-mark t (step-fit o s f x) xs k d l ∙ ap (λ q. leb (q .unsettled) k) (step-gives o s f x e)) i (rw g at h)))
+      rw g (told-front _ (outputs o t xs) d (s .unsettled) refl
+      (λ k l. outputs-told t (step-fit o s f x) xs k d l ∙ ap (λ q. q .unsettled - k) (step-gives o s f x e)) i (rw g at h)))
       (λ w. let g = given-waits o s f x w in
-      rw g (outputs-mark t (step-fit o s f x) xs i d (rw g at h) ∙ ap (λ q. leb (q .unsettled) i) (step-waits o s f x w)))
+      rw g (outputs-told t (step-fit o s f x) xs i d (rw g at h) ∙ ap (λ q. q .unsettled - i) (step-waits o s f x w)))
       (down (s .countdown))
+
+  -- and the block tells that count where it gives an output
+  pub block-told : (s : State A) → Fit s → (xs : List A)
+      → firstTold (outputs o s xs) ≡ cond (eqb (needed (length xs) (s .countdown) (s .rate)) 0) 0 (s .unsettled)
+  block-told s f xs =
+      head-told (s .unsettled) (outputs o s xs) (λ d b. outputs-told s f xs 0 d b)
+      ∙ ap (λ n. cond (eqb n 0) 0 (s .unsettled)) (outputs-length s f xs)

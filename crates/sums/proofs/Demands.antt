@@ -8,7 +8,7 @@ use Rattle.sums.specs.Signed.{signedOps}
 use Rattle.sums.specs.State.{State, refusalOf, zeroed}
 use Rattle.sums.specs.Calls.{newState, bitLength, gainLog2, gainLog2Of, fits, fitsOf}
 use Rattle.sums.specs.Demands.{Contents, Decimator, Interpolator, Demand2, Demand2Cleared, Demand3, Demand3Rate, Demand3Tight}
-use Rattle.sums.specs.Demands.{Between, SettledPart, GainBound, FitSound, FitNotExact, Settled}
+use Rattle.sums.specs.Demands.{Between, ToldInBlock, SettledPart, GainBound, FitSound, FitNotExact, Settled}
 use Rattle.sums.proofs.Refusals.{Sound, sound, Good, good}
 use Rattle.sums.proofs.Steps.{packed, Fit}
 use Rattle.sums.proofs.Makers.{new-is, clear-is, resume-is, rate-is, settle-is, resume-sound, rate-sound, zero-sound, zeroed-fit}
@@ -18,7 +18,7 @@ use Rattle.sums.proofs.Alone.{decimator}
 use Rattle.sums.proofs.Interpolating.{interpolates-zero}
 use Rattle.sums.proofs.Constant.{settled-stream}
 use Rattle.sums.proofs.Tight.{misleads}
-use Rattle.sums.proofs.Believed.{block-asked, settled-part}
+use Rattle.sums.proofs.Believed.{block-asked, settled-part, told-less}
 use Rattle.sums.proofs.Mixed.{mixed}
 use Rattle.sums.proofs.Sizes.{gain-bound, exact, fit-sound}
 
@@ -57,6 +57,10 @@ demand3-rate w s r e h =
 pub settled-parts : SettledPart
 settled-parts w s xs out h e =
     settled-part (signedOps w) s (record { good = good s (block-asked s xs out e); long8 = h .long8; long64 = h .long64 }) xs out e
+
+pub told-in-block : ToldInBlock
+told-in-block w s xs out h e =
+    told-less (signedOps w) s (record { good = good s (block-asked s xs out e); long8 = h .long8; long64 = h .long64 }) xs
 
 pub settled : Settled
 settled w s x e h =

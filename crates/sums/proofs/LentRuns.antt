@@ -1,6 +1,5 @@
 -- The loops over a block, turn by turn, from what a step on lent arrays promises; and the two ways to cut a part out of a list.
 use mathlib.Core.Path.{_≡_, refl, ap, _∙_}
-use mathlib.Core.Bool.{Bool}
 use mathlib.Core.List.{List, [], _∷_, _++_}
 use mathlib.Core.Option.{Option, none, some}
 use Prim.Native.Nat.{ℕ, zero, suc, _+_, _-_, _<_, _≤_}
@@ -25,12 +24,12 @@ module _ {A : Type 0} (o : Ops A) (n : ℕ) (xs out₀ out : List A) (s₀ s : S
   pub decimate-none : g ≡ none → Held o xs out₀ out s₀ (ringed t is ks at) k j
   decimate-none e = held-none o xs out₀ s₀ out s (ringed t is ks at) k i j g a (r .jump) e
 
-  module _ (y : A) (b : Bool) (e : g ≡ some (record { value = y; settled = b })) where
+  module _ (y : A) (u : ℕ) (e : g ≡ some (record { value = y; told = u })) where
     pub decimate-room : k < length out
-    decimate-room = held-room o xs out₀ s₀ out s (ringed t is ks at) k i j g a (r .jump) (record { value = y; settled = b }) e
+    decimate-room = held-room o xs out₀ s₀ out s (ringed t is ks at) k i j g a (r .jump) (record { value = y; told = u }) e
 
     pub decimate-one : (v : A) → v ≡ y → Held o xs out₀ (set out k v) s₀ (ringed t is ks at) (k + 1) j
-    decimate-one v ev = held-one o xs out₀ s₀ out s (ringed t is ks at) k i j g a (r .jump) (record { value = y; settled = b }) e v ev
+    decimate-one v ev = held-one o xs out₀ s₀ out s (ringed t is ks at) k i j g a (r .jump) (record { value = y; told = u }) e v ev
 
 -- the end of the decimator's loop: no output falls on the inputs from i on
 module _ {A : Type 0} (o : Ops A) (n : ℕ) (xs out₀ out : List A) (s₀ : State A) (f : Fit s₀) (s : Figures A) (is ks : List A) (at k i : ℕ)

@@ -4,7 +4,6 @@ use mathlib.Core.List.{List, [], _∷_}
 use mathlib.Core.Option.{Option, none, some}
 use Prim.Native.Nat.{ℕ, zero, suc, _-_, _≤_, _<_}
 use native.Mathlib.Omega.{arith}
-use lib.Dec.{eqb}
 use borrow.Author.Tests.{ne-eqb}
 use Rattle.sums.specs.Ops.{Ops}
 use Rattle.sums.specs.State.{State, refusal}
@@ -28,7 +27,7 @@ module _ {A : Type 0} (o : Ops A) (s : State A) (r : Ready s) (x : A) (is : List
 
   pub gives : s .countdown ≤ 0 → (y : A) (u : ℕ) (ks : List A) → Combs o (s .order) (s .delay) (s .combs) v ks y → u ≡ s .unsettled - 1
       → DecimateStep o s x (packed (s .order) (s .delay) (s .rate) (s .rate) u y is ks)
-      (some (record { value = y; settled = eqb (s .unsettled) 0 }))
+      (some (record { value = y; told = s .unsettled }))
   gives c y u ks runs eu =
       let t = turn-gives o s (fit s r) x is (run .cells) (omega arith) v y u ks (run .last) (runs .last) (runs .cells) eu in
       record { state = t .state; gives = t .out }

@@ -5,7 +5,6 @@ use mathlib.Core.Option.{some}
 use Prim.Native.Nat.{ℕ, _+_, _-_, _*_, _<_, _≤_}
 use native.Mathlib.Numerals.{add-one}
 use native.Mathlib.Omega.{arith}
-use lib.Dec.{eqb}
 use lib.ListN.{length, getD}
 use lib.Seq.{slice}
 use Rattle.sums.specs.Ops.{Ops}
@@ -45,7 +44,7 @@ module _ {A : Type 0} (o : Ops A) (n at : ℕ) (s : Figures A) (is ks : List A) 
   pub reaches : (is' ks' : List A) (x v y : A) (u next : ℕ) → is' ≡ ran o n (slice i (i + s .countdown + 1) xs) is
       → x ≡ getD xs (i + s .countdown) (o .nil) → v ≡ lastOf o n x is' → Stores o n at ks v ks' y → u ≡ s .unsettled - 1
       → Follows at (s .delay) next
-      → DecimateStretch o n xs (ringed s is ks at) i (gave s u y) is' ks' next (some (record { value = y; settled = eqb (s .unsettled) 0 }))
+      → DecimateStretch o n xs (ringed s is ks at) i (gave s u y) is' ks' next (some (record { value = y; told = s .unsettled }))
       (i + s .countdown + 1)
   reaches is' ks' x v y u next ei ex ev st eu f = record {
     ring =

@@ -1,17 +1,17 @@
--- Demands 2 and 3 of an accepted state over words: when its outputs fall, which are marked settled, and that those are the moving sum;
+-- Demands 2 and 3 of an accepted state over words: when its outputs fall, what each tells, and that those told 0 are the moving sum;
 -- first from any contents with N M outputs unsettled, then from zero.
 use mathlib.Core.Path.{_≡_, refl, sym, ap, _∙_}
 use mathlib.Core.List.{List, [], _∷_}
 use mathlib.Core.Option.{some, Option·some-injective}
-use Prim.Native.Nat.{ℕ, zero, suc, _+_, _*_, _≤_, _<_}
+use Prim.Native.Nat.{ℕ, zero, suc, _+_, _-_, _*_, _≤_, _<_}
 use native.Mathlib.Omega.{arith}
 use native.Mathlib.Nat.{zero-add}
-use lib.Dec.{ltb, leb, leb·zero, leb·suc-zero, leb·suc-suc}
+use lib.Dec.{ltb, leb·zero, leb·suc-zero, leb·suc-suc}
 use lib.IntN.{ℤ}
 use lib.ListN.{length, getD, getElem?, take}
-use borrow.Author.Tests.{leb-true}
 use mir.Syntax.{Width}
 use Rattle.words.specs.Words.{wrap}
+use Rattle.sums.specs.Ops.{Ops}
 use Rattle.sums.specs.Signed.{signedOps, exactOps}
 use Rattle.sums.specs.Machine.{Output}
 use Rattle.sums.specs.Moving.{moving}
@@ -20,7 +20,7 @@ use Rattle.sums.specs.Runs.{needed, outputs}
 use Rattle.sums.specs.Demands.{input, InWord, Contents, Decimates}
 use Rattle.sums.proofs.Arrays.{view-shaped}
 use Rattle.sums.proofs.Steps.{Fit, room}
-use Rattle.sums.proofs.Counts.{needed-none, needed-wait, needed-give, outputs-length, outputs-mark}
+use Rattle.sums.proofs.Counts.{needed-none, needed-wait, needed-give, outputs-length, outputs-told}
 use Rattle.sums.proofs.Cascade.{seg}
 use Rattle.sums.proofs.Traces.{output, outcome, outputs-are, output-settled}
 use Rattle.sums.proofs.Carried.{exactLaws, list-in, take-in, rows-in, output-wraps}
@@ -56,6 +56,12 @@ elem-seg f n zero k y e = let z : _≡_ {A = ℕ} 0 1 = cc in absurd (omega arit
 elem-seg f n (suc m) zero y e = sym (Option·some-injective (f n) y e) ∙ ap f (omega arith)
 elem-seg f n (suc m) (suc k) y e = elem-seg f (suc n) m k y e ∙ ap f (omega arith)
 
+-- output k of the steps in turn tells the unsettled count before them less k
+pub outputs-tell : {A : Type 0} (o : Ops A) (s : State A) → Fit s → (xs : List A) (k : ℕ) (y : Output A)
+    → getElem? (outputs o s xs) k ≡ some y → y .told ≡ s .unsettled - k
+outputs-tell o s f xs k y e =
+    ap (λ q. q .told) (sym (elem-getD (outputs o s xs) k y y e)) ∙ outputs-told o s f xs k y (elem-below (outputs o s xs) k y e)
+
 module _ (w : Width) (s : State ℤ) (f : Fit s) (h : Contents w (s .integrators) (s .combs)) (xs : List ℤ) (b : InWord w xs) where
   -- output k over words is the wrapped output k over the whole numbers
   pub value-is : (k : ℕ) (y : Output ℤ) → getElem? (outputs (signedOps w) s xs) k ≡ some y → y .value
@@ -77,13 +83,10 @@ module _ (w : Width) (s : State ℤ) (f : Fit s) (h : Contents w (s .integrators
       (s .countdown + k * suc (s .rate)))
       → Decimates w (s .order) (s .delay) (s .rate) (s .countdown) (s .unsettled) xs (outputs (signedOps w) s xs)
   decimates settled =
-      let marks : (k : ℕ) (y : Output ℤ) → getElem? (outputs (signedOps w) s xs) k ≡ some y → y .settled ≡ leb (s .unsettled) k =
-      λ k y e. ap (λ q. q .settled) (sym (elem-getD (outputs (signedOps w) s xs) k y y e))
-      ∙ outputs-mark (signedOps w) s f xs k y (elem-below (outputs (signedOps w) s xs) k y e) in
       record {
         falls = λ k. ap (ltb k) (outputs-length (signedOps w) s f xs) ∙ needed-falls (length xs) (s .countdown) (s .rate) k;
-        marks = marks;
-        sums = λ k y e t. value-is k y e ∙ ap (wrap w) (settled k (leb-true (s .unsettled) k (sym (marks k y e) ∙ t)));
+        tells = outputs-tell (signedOps w) s f xs;
+        sums = λ k y e t. value-is k y e ∙ ap (wrap w) (settled k (omega (arith, outputs-tell (signedOps w) s f xs k y e, t)));
       }
 
   -- from any contents, where N M outputs or more are unsettled

@@ -5,7 +5,7 @@ use mathlib.Core.Option.{Option, none, some}
 use mathlib.Core.Logic.{_⊎_, inl, inr, ⊎-elim}
 use Prim.Native.Nat.{ℕ, zero, suc, _-_, _*_, _≤_, _<_}
 use native.Mathlib.Omega.{arith}
-use lib.Dec.{eqb, eqb·suc-zero}
+use lib.Dec.{eqb·suc-zero}
 use lib.ListN.{length}
 use Rattle.sums.specs.Ops.{Ops}
 use Rattle.sums.specs.Machine.{Output, decimated, decimatedAt, given, givenAt, interpolated, interpolatedAt, risen, risenAt}
@@ -77,7 +77,7 @@ module _ {A : Type 0} (o : Ops A) (s : State A) (f : Fit s) (x : A) where
   step-gives e = rw (accepted s f, e)
 
   pub given-gives : s .countdown ≡ 0
-      → stepGiven o s x ≡ some (record { value = partComb o (s .delay) (s .order) (s .combs) summit; settled = eqb (s .unsettled) 0 })
+      → stepGiven o s x ≡ some (record { value = partComb o (s .delay) (s .order) (s .combs) summit; told = s .unsettled })
   unfolding stepGiven given givenAt view
   given-gives e = rw (accepted s f, e)
 
@@ -126,7 +126,7 @@ module _ {A : Type 0} (o : Ops A) (s : State A) (f : Fit s) (x : A) (is : List A
   pub turn-gives : s .countdown ≡ 0 → (v y : A) (u : ℕ) (ks : List A) → v ≡ partSum o (s .order) (s .integrators) x
       → y ≡ partComb o (s .delay) (s .order) (s .combs) v → ks ≡ partCells o (s .delay) (s .order) (s .combs) v → u ≡ s .unsettled - 1
       → Turn o s x (packed (s .order) (s .delay) (s .rate) (s .rate) u y is ks)
-      (some (record { value = y; settled = eqb (s .unsettled) 0 }))
+      (some (record { value = y; told = s .unsettled }))
   turn-gives c v y u ks ev ey ek eu =
       let e : packed (s .order) (s .delay) (s .rate) (s .rate) u y is ks ≡ stepState o s x =
       rw (ei, ey, ek, eu, ev) (sym (step-gives o s f x c)) in

@@ -6,7 +6,6 @@ use mathlib.Core.Option.{none, some}
 use Prim.Native.Nat.{ℕ, zero, suc, _+_, _-_, _<_, _≤_}
 use native.Mathlib.Numerals.{add-one}
 use native.Mathlib.Omega.{arith}
-use lib.Dec.{eqb}
 use lib.ListN.{length, getD, take, drop, set, replicate, take-append-drop}
 use lib.Seq.{slice, slice-cons, slice-empty, length-slice, length-take-le, drop-append-le, drop-cons, take-suc, take-suc-set, drop-set-lt}
 use lib.Seq.{append-snoc}
@@ -194,7 +193,7 @@ module _ {A : Type 0} (o : Ops A) (xs : List A) (i : ℕ) (s : State A) (f : Fit
         → (v y : A) (u : ℕ) (ks : List A) → v ≡ lastOf o (s .order) x is
         → y ≡ partComb o (s .delay) (s .order) (s .combs) v → ks ≡ partCells o (s .delay) (s .order) (s .combs) v → u ≡ s .unsettled - 1
         → Jump o xs s i (packed (s .order) (s .delay) (s .rate) (s .rate) u y is ks)
-        (some (record { value = y; settled = eqb (s .unsettled) 0 })) (e + 1)
+        (some (record { value = y; told = s .unsettled })) (e + 1)
     unfolding after outputs
     jump-gives is ei v y u ks ev ey ek eu =
         let h = waits o s ys (x ∷ drop (e + 1) xs) f (omega (arith, spent)) in

@@ -6,7 +6,6 @@ use mathlib.Core.Option.{none, some}
 use Prim.Native.Nat.{ℕ, zero, suc, _+_, _*_, _-_, _≤_, _<_}
 use native.Mathlib.Omega.{arith}
 use native.Mathlib.Nat.{add-zero, zero-add}
-use lib.Dec.{eqb}
 use lib.ListN.{length, getD}
 use Rattle.sums.specs.Ops.{Ops, Laws}
 use Rattle.sums.specs.Machine.{Machine, Output, summed, combed, differed, decimatedAt, decimated, givenAt, given}
@@ -48,12 +47,12 @@ module _ {A : Type 0} (o : Ops A) where
   unfoldable pub slow : Machine A → (ℕ → A) → ℕ → A
   slow s x = down (suc (s .rate)) (s .countdown) (intVal o (s .integrators) x)
 
-  -- output number k, from 0, and its mark
+  -- output number k, from 0, and what it tells
   unfoldable pub output : Machine A → (ℕ → A) → ℕ → A
   output s x = combVal o (s .lines) (slow s x)
 
   unfoldable pub outcome : Machine A → (ℕ → A) → ℕ → Output A
-  outcome s x k = record { value = output s x k; settled = eqb (s .unsettled - k) 0 }
+  outcome s x k = record { value = output s x k; told = s .unsettled - k }
 
   unfoldable holdAt : Machine A → (ℕ → A) → ℕ → A
   holdAt s x zero = s .hold

@@ -5,7 +5,7 @@ use mathlib.Core.Bool.{true, false, cond}
 use mathlib.Core.List.{List, [], _∷_, _++_}
 use mathlib.Core.Option.{Option, some}
 use Prim.Native.Nat.{ℕ, suc, _+_, _-_, _*_, _^_, _≤_, _<_}
-use lib.Dec.{ltb, leb}
+use lib.Dec.{ltb, eqb}
 use lib.IntN.{ℤ, pos, negsuc, _*ℤ_}
 use lib.Signed.{mag}
 use lib.ListN.{length, getD, getElem?, take, replicate}
@@ -20,7 +20,8 @@ use Rattle.sums.specs.State.{State, refusal}
 use Rattle.blocks.specs.Blocks.{unless}
 use Rattle.sums.specs.Calls.{newNumber, resumeNumber, rateNumber, riseNumber, newState, resumeState, rateState, clearState}
 use Rattle.sums.specs.Calls.{settleState, stepState, stepGiven, riseState, riseGiven, gain, gainLog2, fitNumber, fits}
-use Rattle.sums.specs.Runs.{needed, join, blockNumber, fillNumber, outputs, blockState, blockOut, risings, fillState, settledPart}
+use Rattle.sums.specs.Runs.{needed, join, firstTold, blockNumber, fillNumber, outputs, blockState, blockOut, risings, fillState}
+use Rattle.sums.specs.Runs.{settledPart}
 
 -- A list as a sequence, number 0 first and zeros behind it; and whole numbers that all fit the word.
 abbrev pub input : List ℤ → ℕ → ℤ
@@ -80,10 +81,10 @@ pub record Decimates (w : Width) (N M rate c u : ℕ) (xs : List ℤ) (ys : List
   -- Output number k, from 0, falls on input number c + k · R + 1, counted from 1: it is there exactly when that input is.
   -- There are no other outputs.
   pub falls : (k : ℕ) → ltb k (length ys) ≡ ltb (c + k * suc rate) (length xs)
-  -- It is marked settled exactly when u are before it.
-  pub marks : (k : ℕ) (y : Output ℤ) → getElem? ys k ≡ some y → y .settled ≡ leb u k
-  -- Where it is settled, it is the N-fold moving sum of the inputs, modulo 2 ^ w, read as signed.
-  pub sums : (k : ℕ) (y : Output ℤ) → getElem? ys k ≡ some y → y .settled ≡ true
+  -- It tells u less the outputs before it, not below 0.
+  pub tells : (k : ℕ) (y : Output ℤ) → getElem? ys k ≡ some y → y .told ≡ u - k
+  -- Where it is told 0, it is the N-fold moving sum of the inputs, modulo 2 ^ w, read as signed.
+  pub sums : (k : ℕ) (y : Output ℤ) → getElem? ys k ≡ some y → y .told ≡ 0
       → y .value ≡ wrap w (moving exactOps (suc rate * M) N (input xs) (c + k * suc rate))
 
 -- Decimator steps and blocks alone, in any mixture, from the state s on: none is refused but a block whose slice is too short.
@@ -114,7 +115,7 @@ pub record Contents (w : Width) (integrators combs : List ℤ) : Type 0 where
   pub integrators-in : InWord w integrators
   pub combs-in : InWord w combs
 
--- Demand 2, the moving sum. From a new state, and from a cleared one, every output is settled and the moving sum, and output k falls on
+-- Demand 2, the moving sum. From a new state, and from a cleared one, every output is told 0 and is the moving sum, and output k falls on
 -- input k · R + 1; the interpolator's outputs are the moving sum of the held input.
 abbrev pub Demand2 : Type 0
 Demand2 =
@@ -128,7 +129,7 @@ Demand2Cleared =
     × Interpolator w (s .order) (s .delay) (s .rate) (clearState (signedOps w) s)
 
 -- Demand 3, settling. After a resume from any contents the first output falls on input countdown + 1, the first N · M outputs are
--- marked unsettled, and every later one is settled and the moving sum of the inputs since the resume alone.
+-- told N · M down to 1, and every later one is told 0 and is the moving sum of the inputs since the resume alone.
 abbrev pub Demand3 : Type 0
 Demand3 =
     (w : Width) (N M rate countdown : ℕ) (integrators combs : List ℤ) (hold : ℤ)
@@ -141,15 +142,22 @@ Demand3Rate =
     (w : Width) (s : State ℤ) (rate : ℕ) → rateNumber s rate ≡ 0 → Contents w (s .integrators) (s .combs)
     → Decimator w (s .order) (s .delay) rate (s .countdown) (s .order * s .delay) (rateState (signedOps w) s rate)
 
--- The settled part of a block's slice is what its settled outputs are, from whatever state.
+-- In a block, from whatever state, the output i places after the first is told the first's count less i, not below 0.
+abbrev pub ToldInBlock : Type 0
+ToldInBlock =
+    (w : Width) (s : State ℤ) (xs out : List ℤ) → Contents w (s .integrators) (s .combs) → blockNumber s xs out ≡ 0
+    → (i : ℕ) (y : Output ℤ) → getElem? (outputs (signedOps w) s xs) i ≡ some y
+    → y .told ≡ firstTold (outputs (signedOps w) s xs) - i
+
+-- The settled part of a block's slice, taken from what the block told, is its outputs that are told 0, from whatever state.
 abbrev pub believed : List (Output ℤ) → List ℤ
 believed [] = []
-believed (y ∷ ys) = cond (y .settled) (y .value ∷ believed ys) (believed ys)
+believed (y ∷ ys) = cond (eqb (y .told) 0) (y .value ∷ believed ys) (believed ys)
 
 abbrev pub SettledPart : Type 0
 SettledPart =
     (w : Width) (s : State ℤ) (xs out : List ℤ) → Contents w (s .integrators) (s .combs) → blockNumber s xs out ≡ 0
-    → settledPart (blockOut (signedOps w) s xs out) (length (outputs (signedOps w) s xs)) (s .unsettled)
+    → settledPart (blockOut (signedOps w) s xs out) (length (outputs (signedOps w) s xs)) (firstTold (outputs (signedOps w) s xs))
     ≡ believed (outputs (signedOps w) s xs)
 
 -- N · M can't be lowered: for every order above 0 there are contents and inputs for which output number N · M, counted from 1, is not the
@@ -169,17 +177,17 @@ abbrev pub Demand3Tight : Type 0
 Demand3Tight = (w : Width) (N M rate countdown : ℕ) → resumeNumber N M rate countdown ≡ 0 → 1 ≤ N → Misleads w N M rate countdown
 
 -- The demands are of decimator calls alone: an interpolator's step leaves the unsettled count, and a decimator's output after it can be
--- marked settled without being the moving sum. From new, N 1, M 2, rate 0: an interpolator's step on 1 and a decimator's step on 0 give 1,
+-- told 0 without being the moving sum. From new, N 1, M 2, rate 0: an interpolator's step on 1 and a decimator's step on 0 give 1,
 -- where the moving sum is 0; and so after decimator's steps on 1 and 0, an interpolator's step on 0 and a decimator's step on 0 there
 -- comes -1.
 abbrev pub Between : Type 0
 Between =
     let o : Ops ℤ = signedOps w32 in
     let new : State ℤ = newState o 1 2 0 in
-    (stepGiven o (riseState o new (some (pos 1))) (pos 0) ≡ some (record { value = pos 1; settled = true }))
+    (stepGiven o (riseState o new (some (pos 1))) (pos 0) ≡ some (record { value = pos 1; told = 0 }))
     × (moving exactOps 2 1 (input (pos 0 ∷ [])) 0 ≡ pos 0)
     × (stepGiven o (riseState o (stepState o (stepState o new (pos 1)) (pos 0)) (some (pos 0))) (pos 0)
-    ≡ some (record { value = negsuc 0; settled = true }))
+    ≡ some (record { value = negsuc 0; told = 0 }))
     × (moving exactOps 2 1 (input (pos 1 ∷ pos 0 ∷ pos 0 ∷ [])) 2 ≡ pos 0)
     × (moving exactOps 2 1 (input (pos 1 ∷ pos 0 ∷ pos 0 ∷ pos 0 ∷ [])) 3 ≡ pos 0)
 

@@ -1,9 +1,7 @@
 -- 01, 'The decimator and interpolator': what a step does, for words of any kind.
-use mathlib.Core.Bool.{Bool}
 use mathlib.Core.List.{List, [], _∷_, _++_}
 use mathlib.Core.Option.{Option, none, some}
 use Prim.Native.Nat.{ℕ, zero, suc, _-_}
-use lib.Dec.{eqb}
 use lib.ListN.{getD, drop}
 use Rattle.sums.specs.Ops.{Ops}
 
@@ -16,10 +14,10 @@ pub record Machine (A : Type 0) : Type 0 where
   pub countdown : ℕ
   pub unsettled : ℕ
 
--- An output and its mark.
+-- An output, and the unsettled count that it found: 0 where it is settled.
 pub record Output (A : Type 0) : Type 0 where
   pub value : A
-  pub settled : Bool
+  pub told : ℕ
 
 -- A delay line drops its oldest cell and stores x last.
 unfoldable pub pushed : {A : Type 0} → List A → A → List A
@@ -70,10 +68,10 @@ module _ {A : Type 0} (o : Ops A) where
     unsettled = s .unsettled - 1;
   }
 
-  -- An output is settled when the unsettled count was 0.
+  -- An output tells the unsettled count that the step found, before it is lowered.
   unfoldable pub givenAt : Machine A → A → ℕ → Option (Output A)
   givenAt s x (suc n) = none
-  givenAt s x zero = some (record { value = differed (s .lines) (summed (s .integrators) x); settled = eqb (s .unsettled) 0 })
+  givenAt s x zero = some (record { value = differed (s .lines) (summed (s .integrators) x); told = s .unsettled })
 
   unfoldable pub decimated : Machine A → A → Machine A
   decimated s x = decimatedAt s x (s .countdown)

@@ -1,4 +1,4 @@
--- 01: a block, either way, gives the outputs, marks and state that its steps in turn would give.
+-- 01: a block, either way, gives the outputs, told counts and state that its steps in turn would give.
 use mathlib.Core.Bool.{Bool, true, false, cond}
 use mathlib.Core.List.{List, [], _∷_, _++_}
 use mathlib.Core.Option.{Option, none, some}
@@ -34,6 +34,11 @@ abbrev pub values : {A : Type 0} → List (Output A) → List A
 values [] = []
 values (y ∷ l) = y .value ∷ values l
 
+-- what a block tells: the count told with its first output, 0 where it gives none
+abbrev pub firstTold : {A : Type 0} → List (Output A) → ℕ
+firstTold [] = 0
+firstTold (y ∷ l) = y .told
+
 -- the front of a lent slice is written, the rest stays as it was
 abbrev pub over : {A : Type 0} → List A → List A → List A
 over front l = front ++ drop (length front) l
@@ -48,7 +53,7 @@ unread zero xs = drop 1 xs
 unread (suc c) xs = xs
 
 module _ {A : Type 0} (o : Ops A) where
-  -- The decimator's steps in turn: the outputs with their marks, and the state at the end.
+  -- The decimator's steps in turn: the outputs with what each tells, and the state at the end.
   unfoldable pub outputs : State A → List A → List (Output A)
   outputs s [] = []
   outputs s (x ∷ xs) = join (stepGiven o s x) (outputs (stepState o s x) xs)
@@ -81,10 +86,10 @@ module _ {A : Type 0} (o : Ops A) where
   unfoldable pub fillOut : State A → List A → List A → List A
   fillOut s xs out = unless (fillNumber s xs out) out (risings s (length out) xs)
 
--- The settled part of the caller's output block: the written outputs less the leading unsettled ones. A written count above
+-- The settled part of the caller's output block: the written outputs less the first `told`, as the block told. A written count above
 -- the block's length is 20 with the empty part; too few written to settle gives the empty part.
 unfoldable pub settledNumber : {A : Type 0} → List A → ℕ → ℕ
 settledNumber out written = cond (ltb (length out) written) 20 0
 
 unfoldable pub settledPart : {A : Type 0} → List A → ℕ → ℕ → List A
-settledPart out written unsettled = unless (settledNumber out written) [] (drop unsettled (take written out))
+settledPart out written told = unless (settledNumber out written) [] (drop told (take written out))
