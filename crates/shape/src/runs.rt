@@ -1,12 +1,13 @@
 // What a block answers, either way, and how many samples at the low rate it has.
 ghost use mathlib.Core.Path.{_≡_};
 ghost use Rattle.sums.specs.Runs.{needed};
+ghost use Rattle.shape.specs.Answers.{toldFirst};
 
-// What a decimator's block wrote: the count of its outputs, and the unsettled count found before it, so that
-// output i of the block is settled exactly where that count is at most i.
+// What a decimator's block wrote: the count of its outputs, and what it tells, the unsettled count that its first
+// output found, or 0 where it gives none. Output i of the block counts as told that less i, not below 0.
 pub struct Written {
     pub count: usize,
-    pub unsettled: usize,
+    pub told: usize,
 }
 
 // What a decimator's block wrote, or the number of a refusal.
@@ -33,4 +34,14 @@ pub fn low_rate(len: usize, countdown: u32, rate: u32) -> usize
     let r = rate as usize + 1;
     let n = (len - 1 - c) / r;
     n + 1
+}
+
+// What a block of `count` outputs tells: the unsettled count found before it, or 0 where it gives none.
+pub fn first_told(count: usize, unsettled: usize) -> usize
+    ensures { λ r. ⌜ r ≡ toldFirst count unsettled ⌝ }
+{
+    if count == 0 {
+        return 0;
+    }
+    unsettled
 }
