@@ -1,4 +1,4 @@
--- A block gives what its steps in turn would give, and its settled part is what they would have marked settled.
+-- A block gives what its steps in turn would give, and its settled part is what they would have told 0.
 use mathlib.Core.Path.{_≡_, refl, sym, ap, _∙_}
 use mathlib.Core.List.{List, [], _∷_, _++_}
 use mathlib.Core.Option.{Option, none, some}
@@ -11,7 +11,8 @@ use Rattle.blocks.specs.Blocks.{unless}
 use Rattle.sums.specs.Machine.{Output}
 use Rattle.sums.specs.State.{refusal}
 use Rattle.sums.specs.Calls.{stepGiven}
-use Rattle.sums.specs.Runs.{needed, join, values, over, outputs, after, blockNumber, blockState, blockOut, settledNumber, settledPart}
+use Rattle.sums.specs.Runs.{needed, join, values, firstTold, over, outputs, after, blockNumber, blockState, blockOut}
+use Rattle.sums.specs.Runs.{settledNumber, settledPart}
 use Rattle.sums.specs.Demands.{believed}
 use Rattle.sums.proofs.Steps.{Fit}
 use Rattle.sums.proofs.Counts.{outputs-length}
@@ -47,9 +48,9 @@ module _ (s : Cic) (f : Fit (stateOf s)) (xs out : List ℤ) (e : blockNumber (s
   block-count = sym (ap length (outputs-is s xs) ∙ outputs-length wordOps (stateOf s) f xs)
 
   pub block-answer : decimatedOf s xs out
-      ≡ record { state = inTurn s xs; wrote = Outputs (record { count = length (outputsInTurn s xs); unsettled = s .unsettled }) }
+      ≡ record { state = inTurn s xs; wrote = Outputs (record { count = length (outputsInTurn s xs); told = firstTold (outputsInTurn s xs) }) }
   unfolding blockState wroteOf
-  block-answer = rw (e, ← inTurn-is s xs, block-count)
+  block-answer = rw (e, ← inTurn-is s xs, block-count, outputs-is s xs)
 
   pub block-out : blockOut wordOps (stateOf s) xs out ≡ over (values (outputsInTurn s xs)) out
   unfolding blockOut
@@ -62,6 +63,6 @@ module _ (s : Cic) (f : Fit (stateOf s)) (xs out : List ℤ) (e : blockNumber (s
       let p = values (outputsInTurn s xs) in let l = length-append p (drop (length p) out) in
       rw (block-out, le-ltb (length (over p out)) (length (outputsInTurn s xs)) (omega (arith, l, values-length (outputsInTurn s xs))))
 
-  pub settled-part : settledPart (blockOut wordOps (stateOf s) xs out) (length (outputsInTurn s xs)) (s .unsettled)
+  pub settled-part : settledPart (blockOut wordOps (stateOf s) xs out) (length (outputsInTurn s xs)) (firstTold (outputsInTurn s xs))
       ≡ believed (outputsInTurn s xs)
   settled-part = rw (outputs-is s xs) (sums.settled-part wordOps (stateOf s) f xs out e)

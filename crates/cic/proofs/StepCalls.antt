@@ -18,13 +18,13 @@ use Rattle.cic.specs.declared.state.Cic.{Cic}
 use Rattle.cic.specs.declared.questions.Interpolated.the-variants as Interpolated
 use Rattle.cic.specs.Reading.{stateOf, cicOf}
 use Rattle.cic.specs.Answers.{outOf, steppedOf, interpolatedOf, sampleOf, risenOf}
-use Rattle.cic.specs.Inner.Apart.{givenOf, markedOf, acceptedOf}
+use Rattle.cic.specs.Inner.Apart.{givenOf, answeredOf, acceptedOf}
 
--- an output with its mark is the rule's
-marked-is : (g : Gave) → markedOf g ≡ outOf 0 (givenOf g)
+-- an output with what it tells is the rule's
+answered-is : (g : Gave) → answeredOf g ≡ outOf 0 (givenOf g)
 unfolding outOf
-marked-is (Output y u) = refl
-marked-is Nothing = refl
+answered-is (Output y u) = refl
+answered-is Nothing = refl
 
 -- the decimator's call: k is the number that the code found
 module _ (s : Cic) (x : ℤ) where
@@ -35,9 +35,9 @@ module _ (s : Cic) (x : ℤ) where
   step-refuses (suc k) e h = rw (← e, ne-eqb (suc k) 0 h)
 
   pub step-takes : refusal (stateOf s) ≡ 0 → (t : State ℤ) (g : Gave) → DecimateStep wordOps (stateOf s) x t (givenOf g)
-      → _≡_ {A = Stepped} (record { state = cicOf t; out = markedOf g }) (steppedOf s x)
+      → _≡_ {A = Stepped} (record { state = cicOf t; out = answeredOf g }) (steppedOf s x)
   step-takes z t g r =
-      let out : markedOf g ≡ outOf 0 (stepGiven wordOps (stateOf s) x) = marked-is g ∙ ap (outOf 0) (r .gives) in rw (r .state, z, out)
+      let out : answeredOf g ≡ outOf 0 (stepGiven wordOps (stateOf s) x) = answered-is g ∙ ap (outOf 0) (r .gives) in rw (r .state, z, out)
 
 -- the interpolator's call
 pub accepted-takes : (s : Cic) (x : Option ℤ) (t : State ℤ) (y : ℤ) → InterpolateStep wordOps (stateOf s) x t y

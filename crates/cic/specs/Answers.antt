@@ -34,9 +34,9 @@ unfoldable pub interpolatedOf : ℕ → ℤ → Interpolated
 interpolatedOf zero y = Interpolated.Value y
 interpolatedOf (suc k) y = Interpolated.Refused (suc k)
 
--- The decimator's step: one output with its mark, or nothing at all.
+-- The decimator's step: one output with the count it is told, or nothing at all.
 abbrev pub answerOutput : Output ℤ → answer.Output
-answerOutput y = record { value = y .value; settled = y .settled }
+answerOutput y = record { value = y .value; told = y .told }
 
 unfoldable pub outOf : ℕ → Option (Output ℤ) → Out
 outOf zero (some y) = Out.Given (answerOutput y)
@@ -64,7 +64,7 @@ risenOf s x = record {
 abbrev pub decimatedOf : Cic → List ℤ → List ℤ → Decimated
 decimatedOf s xs out = record {
   state = cicOf (blockState wordOps (stateOf s) xs out);
-  wrote = blockWrote (stateOf s) xs out;
+  wrote = blockWrote wordOps (stateOf s) xs out;
 }
 
 -- The interpolator's block.

@@ -14,11 +14,11 @@ inTurn s (x ∷ xs) = inTurn (steppedOf s x .state) xs
 
 -- one call's output, if any,
 abbrev pub outputOf : Out → List (Output ℤ)
-outputOf (Given y) = record { value = y .value; settled = y .settled } ∷ []
+outputOf (Given y) = record { value = y .value; told = y .told } ∷ []
 outputOf Nothing = []
 outputOf (Refused k) = []
 
--- and the outputs with their marks.
+-- and the outputs with what each tells.
 unfoldable pub outputsInTurn : Cic → List ℤ → List (Output ℤ)
 outputsInTurn s [] = []
 outputsInTurn s (x ∷ xs) = outputOf (steppedOf s x .out) ++ outputsInTurn (steppedOf s x .state) xs

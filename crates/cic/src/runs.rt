@@ -7,6 +7,7 @@ use crate::word::Word;
 pub use shape::runs::Read;
 pub use shape::runs::Written;
 pub use shape::runs::Wrote;
+use shape::runs::first_told;
 use shape::runs::low_rate;
 ghost use mathlib.Core.Path.{_≡_};
 ghost use Rattle.sums.specs.Runs.{blockOut, fillOut, settledNumber, settledPart};
@@ -27,8 +28,9 @@ pub struct Filled {
 }
 
 impl Cic {
-    // A block of inputs in, its outputs to the front of out. The rest of out stays. Refused with 20 where out
-    // is shorter than the block needs; a refused block changes nothing.
+    // A block of inputs in, its outputs to the front of out. The rest of out stays. It answers how many are written
+    // and the count told with the first. Refused with 20 where out is shorter than the block needs; a refused block
+    // changes nothing.
     pub fn decimate_block(self, input: &[Word], out: &mut [Word]) -> Decimated
         ensures { λ r. ⌜ (r ≡ decimatedOf self (now (input .entry)) (now (out .entry)))
             × (now (out .exit) ≡ blockOut wordOps (stateOf self) (now (input .entry)) (now (out .entry))) ⌝ }
@@ -52,11 +54,12 @@ impl Cic {
         let r = decimate_run(&mut integrators, &mut combs, self.numbers(), input, out);
         let numbers = r.numbers;
         let state = joined(numbers, integrators, combs);
+        let told = first_told(r.count, self.unsettled);
         Decimated {
             state,
             wrote: Wrote::Outputs(Written {
                 count: r.count,
-                unsettled: self.unsettled,
+                told,
             }),
         }
     }
@@ -93,18 +96,18 @@ impl Cic {
     }
 }
 
-// The settled part of what a decimator's block wrote: the written outputs less the leading unsettled ones.
-// Empty where too few are written to settle, and where more are said to be written than out holds.
-pub fn settled_part(out: &[Word], written: usize, unsettled: usize) -> &[Word]
-    ensures { λ r. ⌜ now r ≡ settledPart (now (out .entry)) written unsettled ⌝ }
+// The settled part of what a decimator's block wrote: the written outputs less the first `told`, the count that the
+// block told. Empty where too few are written to settle, and where more are said to be written than out holds.
+pub fn settled_part(out: &[Word], written: usize, told: usize) -> &[Word]
+    ensures { λ r. ⌜ now r ≡ settledPart (now (out .entry)) written told ⌝ }
 {
     if out.len() < written {
         return &out[0..0];
     }
-    if written < unsettled {
+    if written < told {
         return &out[0..0];
     }
-    &out[unsettled..written]
+    &out[told..written]
 }
 
 // 20 where more are said to be written than out holds, else 0.
@@ -125,11 +128,11 @@ pub struct Part<'a> {
 
 // The settled part of what a decimator's block wrote into out, and 0; where more are said to be written than
 // out holds, the empty part and 20.
-pub fn settled<'a>(out: &'a [Word], written: usize, unsettled: usize) -> Part<'a>
-    ensures { λ r. ⌜ (now (r .part) ≡ settledPart (now (out .entry)) written unsettled)
+pub fn settled<'a>(out: &'a [Word], written: usize, told: usize) -> Part<'a>
+    ensures { λ r. ⌜ (now (r .part) ≡ settledPart (now (out .entry)) written told)
         × (r .number ≡ settledNumber (now (out .entry)) written) ⌝ }
 {
     let number = settled_number(out, written);
-    let part = settled_part(out, written, unsettled);
+    let part = settled_part(out, written, told);
     Part { part, number }
 }

@@ -13,12 +13,13 @@ ghost use Rattle.cic.specs.Word.{wordOps};
 ghost use Rattle.cic.specs.Reading.{stateOf, cicOf};
 ghost use Rattle.cic.specs.Answers.{steppedOf, risenOf};
 ghost use Rattle.sums.proofs.Lent.{Ready, DecimateStep, InterpolateStep};
-ghost use Rattle.cic.specs.Inner.Apart.{numbersOf, apart, acceptedOf, givenOf, markedOf};
+ghost use Rattle.cic.specs.Inner.Apart.{numbersOf, apart, acceptedOf, givenOf, answeredOf};
 
-// An output of the decimator, and whether it is settled.
+// An output of the decimator, and what it tells: the unsettled count that the step found. 0: settled; 3: this one
+// and the two after it are not, where no set_rate, resume or clear comes between.
 pub struct Output {
     pub value: Word,
-    pub settled: bool,
+    pub told: usize,
 }
 
 // What a decimator's step gives: an output, nothing, or the number of a refusal.
@@ -90,15 +91,12 @@ pub(crate) fn joined(n: Numbers, integrators: [Word; 8], combs: [Word; 64]) -> C
     }
 }
 
-// What the call answers: the output with its mark.
-fn marked(gave: Gave) -> Out
-    ensures { λ r. ⌜ r ≡ markedOf gave ⌝ }
+// What the call answers: the output with what it tells.
+fn answered(gave: Gave) -> Out
+    ensures { λ r. ⌜ r ≡ answeredOf gave ⌝ }
 {
     match gave {
-        Gave::Output(value, unsettled) => Out::Given(Output {
-            value,
-            settled: unsettled == 0,
-        }),
+        Gave::Output(value, told) => Out::Given(Output { value, told }),
         Gave::Nothing => Out::Nothing,
     }
 }
@@ -196,7 +194,8 @@ impl Cic {
         }
     }
 
-    // One input in: every R-th step gives an output, held too, and lowers an unsettled count above 0 by 1.
+    // One input in: every R-th step gives an output, held too, that tells the unsettled count found, and lowers
+    // a count above 0 by 1.
     // A refused step changes nothing.
     pub fn decimate(self, x: Word) -> Stepped
         ensures { λ r. ⌜ r ≡ steppedOf self x ⌝ }
@@ -214,7 +213,7 @@ impl Cic {
         let numbers = t.numbers;
         let state = joined(numbers, integrators, combs);
         let gave = t.gave;
-        let out = marked(gave);
+        let out = answered(gave);
         Stepped { state, out }
     }
 

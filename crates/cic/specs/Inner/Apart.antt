@@ -2,7 +2,6 @@
 use mathlib.Core.List.{List}
 use mathlib.Core.Option.{Option, none, some}
 use Prim.Native.Nat.{ℕ}
-use lib.Dec.{eqb}
 use lib.IntN.{ℤ}
 use Rattle.sums.specs.Machine.{Output}
 use Rattle.sums.specs.State.{State}
@@ -47,13 +46,13 @@ ringed n integrators combs at = lent.ringed (figuresOf n) integrators combs at
 
 -- What a step on lent arrays gives.
 abbrev pub givenOf : Gave → Option (Output ℤ)
-givenOf (Gave.Output y unsettled) = some (record { value = y; settled = eqb unsettled 0 })
+givenOf (Gave.Output y told) = some (record { value = y; told = told })
 givenOf Gave.Nothing = none
 
 -- And what its call answers.
-abbrev pub markedOf : Gave → Out
-markedOf (Gave.Output y unsettled) = Out.Given (record { value = y; settled = eqb unsettled 0 })
-markedOf Gave.Nothing = Out.Nothing
+abbrev pub answeredOf : Gave → Out
+answeredOf (Gave.Output y told) = Out.Given (record { value = y; told = told })
+answeredOf Gave.Nothing = Out.Nothing
 
 -- The interpolator's step of an accepted `Cic`, as its call answers it.
 abbrev pub acceptedOf : Cic → Option ℤ → Risen

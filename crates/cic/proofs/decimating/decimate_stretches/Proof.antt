@@ -3,7 +3,6 @@ use borrow.Author.Needs.{needs}
 use mathlib.Core.Path.{ap}
 use Prim.Native.Nat.{_-_, _*_, _^_, _<_}
 use native.Mathlib.Omega.{arith}
-use lib.Dec.{eqb}
 use lib.IntN.{ℤ}
 use lib.ListN.{length}
 use mir.Val.{toZ, ofZ}
@@ -74,7 +73,7 @@ slice-set-from-y c =
     let t = tu .decimate-stretch in
     decimate-room wordOps (a .n) (a .input .now) (a .out .now) (l .out) (begun (q .before)) (at q) (l .k) (l .i) (l .inv .0)
     (figuresOf (t .result .numbers)) (t .last .0) (t .last .1 .0) (t .result .at) (givenOf (t .result .gave)) (t .result .next) (t .ensures)
-    (c .before .given .given .0 .0) (eqb (c .before .given .given .0 .1 .0) 0) (ap givenOf (c .before .given .given .1))
+    (c .before .given .given .0 .0) (c .before .given .given .0 .1 .0) (ap givenOf (c .before .given .given .1))
 
 add-k : tie.Need-add-k Inv-loop μ-loop
 add-k c = let q = turn (reached c .before) in
@@ -91,7 +90,7 @@ loop-again c =
       decimate-one wordOps (a .n) (a .input .now) (a .out .now) (l .out) (begun (q .before)) (at q) (l .k) (l .i) (l .inv .0)
           (figuresOf (t .result .numbers)) (t .last .0) (t .last .1 .0) (t .result .at) (givenOf (t .result .gave)) (t .result .next)
           (t .ensures)
-          y (eqb (c .before .given .given .0 .1 .0) 0) (ap givenOf (c .before .given .given .1)) (toZ width (ofZ width y))
+          y (c .before .given .given .0 .1 .0) (ap givenOf (c .before .given .given .1)) (toZ width (ofZ width y))
           (read width y (c .known-told .given .0 .1)),
       t .ensures .ring,
     )

@@ -17,15 +17,15 @@ returns-2 : tie.Need-returns-2
 unfolding settledPart settledNumber
 returns-2 c =
     let a = c .before .before .before .args in
-    let none : a .written - a .unsettled ≡ 0 = omega arith in
-    let cut = window (a .unsettled) (a .written) (a .out .now) in
+    let none : a .written - a .told ≡ 0 = omega arith in
+    let cut = window (a .told) (a .written) (a .out .now) in
     simp (le-ltb _ _ (c .before .before .if1 .left)) (rw none at cut)
 
 returns-3 : tie.Need-returns-3
 unfolding settledPart settledNumber
 returns-3 c =
     let a = c .before .before .before .args in simp (le-ltb _ _ (c .before .before .if1 .left))
-    (window (a .unsettled) (a .written) (a .out .now))
+    (window (a .told) (a .written) (a .out .now))
 
 pub settled-part-spec : {M : Type 1} → statement M
 settled-part-spec =

@@ -34,7 +34,7 @@ decimate-step-requires c κs =
 returns-2 : tie.Need-returns-2
 returns-2 c =
     let d = c .before .before .before in let n = d .before in let p = at n .before .before in let t = d .decimate-step in
-    rw (c .marked .ensures, c .before .joined .ensures)
+    rw (c .answered .ensures, c .before .joined .ensures)
     (step-takes (p .args .self) (p .args .x) (accepted (at n)) _ (t .result .gave)
     (rw (n .numbers .ensures, toZ-ofZ width (p .args .x) (p .fits .x)) at (t .ensures)))
 

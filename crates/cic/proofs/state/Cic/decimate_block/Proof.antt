@@ -53,16 +53,18 @@ decimate-run-requires c κs =
 
 returns-3 : tie.Need-returns-3
 returns-3 c =
-    let d = c .before .before .before in let n = d .before .before in let k = at n in let e = k .before .before in
-    let a = e .before .before .args in
+    let j = c .before in let d = j .before .before .before in let n = d .before .before in let k = at n in let e = k .before .before in
+    let p = e .before .before in let a = p .args in
     let s = stateOf (a .self) in let xs = a .input .now in let out = a .out .now in let r = d .decimate-run in
     let left = r .last .1 .1 .1 .1 .0 in
-    rw (c .joined .ensures)
+    rw (j .joined .ensures)
     (decimated (a .self) xs out _ left _
     (block-runs s xs out wordOps (block-fits s xs out (accepted e) (enough k))
-    (apart (r .result .numbers) (r .last .0) (r .last .1 .0)) (r .result .count) left (rw (n .numbers .ensures) at (r .ensures))))
+    (record { accepted = accepted e; long8 = long8 p; long64 = long64 p })
+    (apart (r .result .numbers) (r .last .0) (r .last .1 .0)) (r .result .count) left (rw (n .numbers .ensures) at (r .ensures))
+    (c .first-told .result) (c .first-told .ensures)))
 
 pub decimate-block-spec : {M : Type 1} → statement M
 decimate-block-spec =
     tie.close (tie.spec (λ c κs. search needs) returns (λ c κs. search needs) returns-2 (λ c κs. search needs)
-    decimate-run-requires (λ c κs. search needs) (λ c. search needs) returns-3)
+    decimate-run-requires (λ c κs. search needs) (λ c κs. search needs) (λ c. search needs) returns-3)

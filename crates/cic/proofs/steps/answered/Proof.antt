@@ -4,8 +4,8 @@ use mathlib.Core.Path.{_≡_}
 use mir.Val.{toZ, ofZ}
 use Rattle.cic.specs.Word.{width}
 use Rattle.cic.specs.declared.steps.Gave.the-variants.{Output}
-use Rattle.cic.proofs.steps.marked.Statement.{statement}
-use Rattle.cic.proofs.steps.marked.Tie as tie
+use Rattle.cic.proofs.steps.answered.Statement.{statement}
+use Rattle.cic.proofs.steps.answered.Tie as tie
 
 returns : tie.Need-returns
 returns c =
@@ -14,6 +14,6 @@ returns c =
     let is : c .before .before .before .args .gave ≡ Output (g .0 .0) (g .0 .1 .0) = g .1 in
     rw (is, y)
 
-pub marked-spec : {M : Type 1} → statement M
-marked-spec =
+pub answered-spec : {M : Type 1} → statement M
+answered-spec =
     tie.close (tie.spec (λ c. search needs) (λ c. search needs) returns (λ c. search needs))
