@@ -2,6 +2,7 @@
 use mathlib.Core.Path.{_≡_, refl, sym, ap, _∙_}
 use mathlib.Core.Bool.{Bool, true, false, cond, _||_}
 use Prim.Native.Nat.{ℕ, zero, suc, _*_, _≤_}
+use native.Mathlib.Nat.{mul-le-mul}
 use native.Mathlib.Omega.{arith}
 use lib.Dec.{ltb, eqb, eqb·suc-zero}
 use borrow.Author.Tests.{ltb-false, eqb-false, le-ltb, ne-eqb}
@@ -15,6 +16,10 @@ pub record Sound (order delay rate countdown unsettled : ℕ) : Type 0 where
   pub slow : rate ≤ 65535
   pub near : countdown ≤ 65535
   pub owed : unsettled ≤ order * delay
+
+-- an unsettled count is at most 8 · 8
+pub owed-most : (N M r c u : ℕ) → Sound N M r c u → u ≤ 64
+owed-most N M r c u q = omega (arith, q .owed, mul-le-mul {n₁ = N} {m₁ = M} {n₂ = 8} {m₂ = 8} (q .few) (q .short))
 
 abbrev pub Good : {A : Type 0} → State A → Type 0
 Good s = Sound (s .order) (s .delay) (s .rate) (s .countdown) (s .unsettled)

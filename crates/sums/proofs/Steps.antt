@@ -1,17 +1,18 @@
 -- The steps of an accepted state, either way, as the loops over its arrays leave them; and that they end in an accepted state.
-use mathlib.Core.Path.{_≡_, refl, sym, subst, _∙_}
+use mathlib.Core.Path.{_≡_, refl, sym, ap, subst, _∙_}
 use mathlib.Core.List.{List}
-use mathlib.Core.Option.{Option, none, some}
+use mathlib.Core.Option.{Option, none, some, Option·some-injective}
 use mathlib.Core.Logic.{_⊎_, inl, inr, ⊎-elim}
 use Prim.Native.Nat.{ℕ, zero, suc, _-_, _*_, _≤_, _<_}
 use native.Mathlib.Omega.{arith}
 use lib.Dec.{eqb·suc-zero}
 use lib.ListN.{length}
 use Rattle.sums.specs.Ops.{Ops}
-use Rattle.sums.specs.Machine.{Output, decimated, decimatedAt, given, givenAt, interpolated, interpolatedAt, risen, risenAt}
+use Rattle.sums.specs.Machine.{Machine, Output, decimated, decimatedAt, given, givenAt, interpolated, interpolatedAt, risen, risenAt}
+use Rattle.blocks.specs.Blocks.{unless}
 use Rattle.sums.specs.State.{State, view, put, refusal}
 use Rattle.sums.specs.Calls.{riseNumber, stepState, stepGiven, riseState, riseGiven}
-use Rattle.sums.proofs.Refusals.{Good, good, good-accepts}
+use Rattle.sums.proofs.Refusals.{Good, good, good-accepts, owed-most}
 use Rattle.sums.proofs.Arrays.{Room, rows-back}
 use Rattle.sums.proofs.Loops.{partInts, partSum, partCells, partComb, ints-length, cells-length}
 
@@ -27,6 +28,26 @@ pub record Fit {A : Type 0} (s : State A) : Type 0 where
 
 pub fitted : {A : Type 0} (s : State A) → refusal s ≡ 0 → length (s .integrators) ≡ 8 → length (s .combs) ≡ 64 → Fit s
 fitted s e i k = record { good = good s e; long8 = i; long64 = k }
+
+-- whatever the state, an output of its step tells at most 64
+unless-some : {A : Type 0} (k : ℕ) (g : Option A) (y : A) → unless k none g ≡ some y → (k ≡ 0) × (g ≡ some y)
+unless-some zero g y e = (refl, e)
+unless-some (suc k) g y e = let z : _≡_ {A = ℕ} 0 1 = clash (rw (eqb·suc-zero k) at e) in absurd (omega arith)
+  where
+    clash : none ≡ some y → _≡_ {A = ℕ} 0 1
+    clash d = cc
+
+given-told : {A : Type 0} (o : Ops A) (m : Machine A) (x : A) (n : ℕ) (y : Output A) → givenAt o m x n ≡ some y → y .told ≡ m .unsettled
+unfolding givenAt
+given-told o m x zero y e = sym (ap (λ q. q .told) (Option·some-injective _ y e))
+given-told o m x (suc n) y e = let z : _≡_ {A = ℕ} 0 1 = cc in absurd (omega arith)
+
+pub told-most : {A : Type 0} (o : Ops A) (s : State A) (x : A) (y : Output A) → stepGiven o s x ≡ some y → y .told ≤ 64
+unfolding stepGiven given view
+told-most o s x y e =
+    let d = unless-some (refusal s) (given o (view s) x) y e in
+    let t : y .told ≡ s .unsettled = given-told o (view s) x (s .countdown) y (d .1) in
+    omega (arith, t, owed-most (s .order) (s .delay) (s .rate) (s .countdown) (s .unsettled) (good s (d .0)))
 
 module _ {A : Type 0} (s : State A) (f : Fit s) where
   pub accepted : refusal s ≡ 0
