@@ -1,7 +1,6 @@
 -- The output's lines: how long they are, and that they are put together from their fields.
 use native.Mathlib.Omega.{arith}
 use mathlib.Core.Path.{_≡_, sym, ap, _∙_}
-use mathlib.Core.Bool.{Bool, cond}
 use mathlib.Core.List.{List, [], _∷_, _++_, append-assoc}
 use Prim.Native.Nat.{ℕ, _+_, _-_, _^_, _≤_, _<_}
 use lib.IntN.{ℤ}
@@ -10,7 +9,7 @@ use mir.Syntax.{w32}
 use mir.Val.{SFits}
 use borrow.Author.Tests.{lt-ltb, le-ltb}
 use Rattle.text.specs.Letters.{bytes, tab, newline}
-use Rattle.text.specs.Numbers.{decimalOf, signedOf}
+use Rattle.text.specs.Numbers.{spelt, decimalOf, signedOf}
 use Rattle.text.specs.Writing.{overlaid, Wrote, Puts}
 use Rattle.text.proofs.Putting.{written, then-puts, wrote-same}
 use Rattle.text.proofs.Spelling.{spelt-short, decimal-most, signed-most}
@@ -25,16 +24,37 @@ pub short : (n : ℕ) → length (decimalOf n) ≤ 20
 short n = spelt-short 20 n
 
 module _ (o : List ℕ) (at : ℕ) where
-  pub output-wrote : (v : ℤ) (settled : Bool) (m a b r : ℕ) (o₁ o₂ o₃ : List ℕ) → SFits w32 v → at + 16 ≤ length o → m ≡ cond settled 49 48
-      → Puts o at (bytes "y\t") a o₁ → Puts o₁ a (signedOf v) b o₂ → Puts o₂ b (tab ∷ m ∷ newline ∷ []) r o₃
-      → Wrote o at (outputLine v settled) r o₃ × (r ≤ at + 16)
-  unfolding outputLine
-  output-wrote v settled m a b r o₁ o₂ o₃ f h e x y z =
+  -- an output that tells 0, and one that tells more
+  pub settled-wrote : (v : ℤ) (told a b r : ℕ) (o₁ o₂ o₃ : List ℕ) → SFits w32 v → told ≡ 0 → at + 15 + length (decimalOf told) ≤ length o
+      → Puts o at (bytes "y\t") a o₁ → Puts o₁ a (signedOf v) b o₂ → Puts o₂ b (bytes "\t0\n") r o₃
+      → Wrote o at (outputLine v told) r o₃ × (r ≤ at + 15 + length (decimalOf told))
+  unfolding outputLine spelt
+  settled-wrote v told a b r o₁ o₂ o₃ f e h x y z =
       let n = signed-most v f in
+      let d : length (decimalOf told) ≡ 1 = ap (λ (k : ℕ). length (decimalOf k)) e in
       let w₁ : Wrote o at (bytes "y\t") a o₁ = written o at (bytes "y\t") a o₁ (omega arith) x in
       let w₂ : Wrote o at (bytes "y\t" ++ signedOf v) b o₂ = then-puts (omega arith) w₁ y in
-      let w₃ : Wrote o at (bytes "y\t" ++ (signedOf v ++ (tab ∷ m ∷ newline ∷ []))) r o₃ = then-puts (omega arith) w₂ z in
-      (rw (sym e) w₃, omega (arith, w₃ .next, length-append (signedOf v) (tab ∷ m ∷ newline ∷ [])))
+      let w₃ : Wrote o at (bytes "y\t" ++ (signedOf v ++ bytes "\t0\n")) r o₃ = then-puts (omega arith) w₂ z in
+      (rw e w₃, omega (arith, w₃ .next, length-append (signedOf v) (bytes "\t0\n")))
+
+  pub output-wrote : (v : ℤ) (told a b c d r : ℕ) (o₁ o₂ o₃ o₄ o₅ : List ℕ) → SFits w32 v → at + 15 + length (decimalOf told) ≤ length o
+      → Puts o at (bytes "y\t") a o₁ → Puts o₁ a (signedOf v) b o₂ → Puts o₂ b (tab ∷ []) c o₃
+      → Puts o₃ c (decimalOf told) d o₄ → Puts o₄ d (newline ∷ []) r o₅
+      → Wrote o at (outputLine v told) r o₅ × (r ≤ at + 15 + length (decimalOf told))
+  unfolding outputLine
+  output-wrote v told a b c d r o₁ o₂ o₃ o₄ o₅ f h x y z s t =
+      let n = signed-most v f in
+      let p₂ : List ℕ = bytes "y\t" ++ signedOf v in
+      let p₃ : List ℕ = p₂ ++ (tab ∷ []) in
+      let n₃ : length p₃ ≡ length p₂ + 1 = length-append p₂ (tab ∷ []) in
+      let p₄ : List ℕ = p₃ ++ decimalOf told in
+      let n₄ : length p₄ ≡ length p₃ + length (decimalOf told) = length-append p₃ (decimalOf told) in
+      let w₁ : Wrote o at (bytes "y\t") a o₁ = written o at (bytes "y\t") a o₁ (omega arith) x in
+      let w₂ : Wrote o at p₂ b o₂ = then-puts (omega arith) w₁ y in
+      let w₃ : Wrote o at p₃ c o₃ = then-puts (omega arith) w₂ z in
+      let w₄ : Wrote o at p₄ d o₄ = then-puts (omega arith) w₃ s in
+      let w₅ : Wrote o at (p₄ ++ (newline ∷ [])) r o₅ = then-puts (omega arith) w₄ t in
+      (wrote-same (simp append-assoc) w₅, omega (arith, w₅ .next, length-append p₄ (newline ∷ [])))
 
   pub end-wrote : (n a b r : ℕ) (o₁ o₂ o₃ : List ℕ) → at + 36 ≤ length o
       → Puts o at (bytes "end\t") a o₁ → Puts o₁ a (decimalOf n) b o₂ → Puts o₂ b (newline ∷ []) r o₃ → Wrote o at (endLine n) r o₃

@@ -1,4 +1,4 @@
--- A run of `x` lines is a block of the filter: the same outputs with the same marks, the same state, the same counts.
+-- A run of `x` lines is a block of the filter: the same outputs, told the same counts, the same state, the same counts.
 use native.Mathlib.Omega.{arith}
 use mathlib.Core.Path.{_≡_, refl, sym, ap, _∙_}
 use mathlib.Core.Logic.{⊎-elim}
@@ -63,12 +63,12 @@ join-length : (g : Option (Output ℤ)) (l : List (Output ℤ)) → length (join
 join-length (some y) l = omega arith
 join-length none l = omega arith
 
--- and to the output: a mark is 1 once the unsettled count is used up
-mark-step : (f : State ℤ) → Fit f → (x : ℤ) (line : ℕ) (l : List (Output ℤ))
+-- and to the output: what is told falls by one
+told-step : (f : State ℤ) → Fit f → (x : ℤ) (line : ℕ) (l : List (Output ℤ))
     → replyBytes line (replied (stepGiven wordOps f x)) ++ outputLines (stepState wordOps f x .unsettled) (values l)
     ≡ outputLines (f .unsettled) (values (join (stepGiven wordOps f x) l))
 unfolding outputLines
-mark-step f fit x line l =
+told-step f fit x line l =
     ⊎-elim
     (λ e. let u : stepState wordOps f x .unsettled ≡ f .unsettled - 1 = ap (λ (s : State ℤ). s .unsettled)
     (step-gives wordOps f fit x e) in rw (given-gives wordOps f fit x e, u))
@@ -137,7 +137,7 @@ batch-bytes {xs = x ∷ xs} (Advances.more line {bs} {rest} plain short reads s)
     (raised-small k (length (join g []))))
     ∙ sym (append-assoc y m _)
     ∙ ap (λ (l : List ℕ). l ++ bytesOf (between (after wordOps t xs) (countedUp (countedUp n 1) (length xs))
-    (countedUp k' (length (outputs wordOps t xs)))) rest) (mark-step f fit x (countedUp n 1) (outputs wordOps t xs))
+    (countedUp k' (length (outputs wordOps t xs)))) rest) (told-step f fit x (countedUp n 1) (outputs wordOps t xs))
     ∙ ap (λ (j : ℕ). outputLines (f .unsettled) (values (join g (outputs wordOps t xs))) ++ bytesOf
     (between (after wordOps t xs) j (countedUp k' (length (outputs wordOps t xs)))) rest) en
     ∙ ap (λ (j : ℕ). outputLines (f .unsettled) (values (join g (outputs wordOps t xs))) ++ bytesOf

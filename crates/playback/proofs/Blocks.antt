@@ -4,10 +4,10 @@ use mathlib.Core.Path.{_≡_, refl, sym, ap, _∙_}
 use mathlib.Core.Bool.{Bool, true, false, _&&_}
 use mathlib.Core.List.{List, [], _∷_, _++_}
 use mathlib.Core.Option.{Option, none, some}
-use Prim.Native.Nat.{ℕ, zero, suc, _+_, _-_, _*_, _≤_}
+use Prim.Native.Nat.{ℕ, zero, suc, _+_, _-_, _*_, _≤_, _<_}
 use lib.Dec.{eqb}
 use lib.IntN.{ℤ}
-use lib.ListN.{length, take, drop, length-drop}
+use lib.ListN.{length, getD, take, drop, length-drop}
 use lib.Seq.{length-take-le, take-append-seam}
 use borrow.Author.Tests.{ne-eqb, eqb-true}
 use Rattle.text.specs.Writing.{Wrote}
@@ -16,9 +16,10 @@ use Rattle.sums.specs.Machine.{Output}
 use Rattle.sums.specs.State.{State, refusal}
 use Rattle.blocks.specs.Blocks.{unless}
 use Rattle.sums.specs.Calls.{stepState, stepGiven}
-use Rattle.sums.specs.Runs.{needed, blockNumber, blockState, blockOut, join, values, outputs, after}
+use Rattle.sums.specs.Runs.{needed, blockNumber, blockState, blockOut, join, values, firstTold, outputs, after}
+use Rattle.sums.proofs.Refusals.{owed-most}
 use Rattle.sums.proofs.Steps.{Fit, fitted}
-use Rattle.sums.proofs.Counts.{outputs-length}
+use Rattle.sums.proofs.Counts.{outputs-length, outputs-told}
 use Rattle.sums.proofs.Blocks.{values-length}
 use Rattle.cic.specs.Word.{wordOps}
 use Rattle.cic.specs.Reading.{stateOf, cicOf}
@@ -58,7 +59,7 @@ unfolding wroteOf
 wrote-number zero n u w e = refl
 wrote-number (suc j) n u w e = cc
 
-wrote-is : (number n u : ℕ) (w : Written) → wroteOf number n u ≡ Wrote.Outputs w → w ≡ record { count = n; unsettled = u }
+wrote-is : (number n u : ℕ) (w : Written) → wroteOf number n u ≡ Wrote.Outputs w → w ≡ record { count = n; told = u }
 unfolding wroteOf
 wrote-is zero n u w e = cc
 wrote-is (suc j) n u w e = cc
@@ -91,6 +92,20 @@ place-is s n k len line b o e z =
     ∙ ap (λ (x : ℕ). record { session = s; lines = n; outputs = k; line = take x line; going = true }) z
     ∙ ap (λ (x : Bool). record { session = record { opened = x; filter = s .filter }; lines = n; outputs = k; line = []; going = true }) o
 
+-- the count told with the first output is the one found, where there is an output
+first-lines : (ys : List (Output ℤ)) (u : ℕ) → ((d : Output ℤ) → 0 < length ys → getD ys 0 d .told ≡ u - 0)
+    → outputLines (firstTold ys) (values ys) ≡ outputLines u (values ys)
+unfolding outputLines
+first-lines [] u h = refl
+first-lines (y ∷ ys) u h =
+    let e : y .told ≡ u = omega (arith, h y (omega arith)) in
+    ap (λ (n : ℕ). outputLines n (values (y ∷ ys))) e
+
+first-most : (ys : List (Output ℤ)) (u : ℕ) → u ≤ 64 → ((d : Output ℤ) → 0 < length ys → getD ys 0 d .told ≡ u - 0)
+    → (t : ℕ) → t ≡ firstTold ys → t ≤ 64
+first-most [] u m h t e = omega arith
+first-most (y ∷ ys) u m h t e = omega (arith, h y (omega arith))
+
 -- the block of the first n samples
 module _ (filter : Cic) (samples given : List ℤ) (n : ℕ) (enough : n ≤ length samples) (long8 : length (filter .integrators) ≡ 8)
     (long64 : length (filter .combs) ≡ 64) (d : Decimated) (is : d ≡ decimatedOf filter (take n samples) given) (w : Written)
@@ -99,20 +114,20 @@ module _ (filter : Cic) (samples given : List ℤ) (n : ℕ) (enough : n ≤ len
   k = w .count
 
   abbrev u : ℕ
-  u = w .unsettled
+  u = w .told
 
-  told : wroteOf (blockNumber (stateOf filter) (take n samples) given) (needed (length (take n samples)) (filter .countdown)
-      (filter .rate)) (filter .unsettled) ≡ Wrote.Outputs w
-  told = sym (ap (λ (x : Decimated). x .wrote) is) ∙ wrote
+  answer : wroteOf (blockNumber (stateOf filter) (take n samples) given) (needed (length (take n samples)) (filter .countdown)
+      (filter .rate)) (firstTold (outputs wordOps (stateOf filter) (take n samples))) ≡ Wrote.Outputs w
+  answer = sym (ap (λ (x : Decimated). x .wrote) is) ∙ wrote
 
   number-is : blockNumber (stateOf filter) (take n samples) given ≡ 0
-  number-is = wrote-number _ _ _ w told
+  number-is = wrote-number _ _ _ w answer
 
   fit : Fit (stateOf filter)
   fit = fitted (stateOf filter) (block-accepted (stateOf filter) (take n samples) given number-is) long8 long64
 
   count-is : k ≡ length (outputs wordOps (stateOf filter) (take n samples))
-  count-is = ap (λ (x : Written). x .count) (wrote-is _ _ _ w told) ∙ sym (outputs-length wordOps (stateOf filter) fit (take n samples))
+  count-is = ap (λ (x : Written). x .count) (wrote-is _ _ _ w answer) ∙ sym (outputs-length wordOps (stateOf filter) fit (take n samples))
 
   pub block-few : k ≤ n
   block-few = omega (arith, count-is, outputs-few (stateOf filter) (take n samples), length-take-le n samples enough)
@@ -129,12 +144,20 @@ module _ (filter : Cic) (samples given : List ℤ) (n : ℕ) (enough : n ≤ len
       let e : k ≡ length (values ys) = count-is ∙ sym (values-length ys) in
       rw (number-is, e) (take-append-seam (values ys) _)
 
-  unsettled-is : u ≡ filter .unsettled
-  unsettled-is = ap (λ (x : Written). x .unsettled) (wrote-is _ _ _ w told)
+  told-is : u ≡ firstTold (outputs wordOps (stateOf filter) (take n samples))
+  told-is = ap (λ (x : Written). x .told) (wrote-is _ _ _ w answer)
+
+  pub block-most : u ≤ 64
+  block-most =
+      let f = stateOf filter in
+      first-most (outputs wordOps f (take n samples)) (f .unsettled)
+      (owed-most (f .order) (f .delay) (f .rate) (f .countdown) (f .unsettled) (fit .good))
+      (λ d b. outputs-told wordOps f fit (take n samples) 0 d b) u told-is
 
   text-is : outputLines u (take k (blockOut wordOps (stateOf filter) (take n samples) given))
       ≡ outputLines (filter .unsettled) (values (outputs wordOps (stateOf filter) (take n samples)))
-  text-is = rw (values-are, unsettled-is)
+  text-is = rw (values-are, told-is) (first-lines (outputs wordOps (stateOf filter) (take n samples)) (filter .unsettled)
+      (λ d b. outputs-told wordOps (stateOf filter) fit (take n samples) 0 d b))
 
   after-is : (a b : ℕ) → _≡_ {A = Place} (record {
     session = record { opened = true; filter = d .state };
@@ -166,7 +189,7 @@ module _ (filter : Cic) (samples given : List ℤ) (n : ℕ) (enough : n ≤ len
 
     pub turn-block : (t : Replay) → placeOf t ≡ afterBlock (placeOf r) (d .state) n k → t .len ≡ r .len → (w : ℕ) (o' : List ℕ)
         → length o' ≡ length o → Wrote o at (outputLines u (take k (blockOut wordOps (stateOf filter) (take n samples) given))) w o'
-        → w ≤ at + 16 * k
+        → w ≤ at + 17 * k
         → Advances r input from o at t next w o'
     turn-block t e z w o' lo wr near =
         let i : placeOf t ≡ afterBlock (between (stateOf filter) (r .lines) (r .outputs)) (d .state) n k = e

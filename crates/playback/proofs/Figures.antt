@@ -22,7 +22,7 @@ pub record Case : Type 0 where
 
 pub table : List Case
 table =
-    record { input = bytes "cic\t1\t1\t1\nx\t3\nx\t5\nx\t-2\n"; output = bytes "y\t3\t1\ny\t3\t1\nend\t2\n" }
+    record { input = bytes "cic\t1\t1\t1\nx\t3\nx\t5\nx\t-2\n"; output = bytes "y\t3\t0\ny\t3\t0\nend\t2\n" }
     ∷ record { input = []; output = bytes "end\t0\n" }
     ∷ record { input = bytes "x\t3\n"; output = bytes "bad\t1\t71\n" }
     ∷ record { input = bytes "cic\t1\t1\t1\nx\t03\n"; output = bytes "bad\t2\t70\n" }
@@ -33,11 +33,11 @@ table =
     ∷ record { input = bytes "clear"; output = bytes "bad\t1\t70\n" }
     ∷ record {
       input = bytes "cic\t1\t2\t0\nx\t1\nrate\t0\nx\t1\nx\t1\nx\t1\n";
-      output = bytes "y\t1\t1\ny\t2\t0\ny\t2\t0\ny\t2\t1\nend\t4\n";
+      output = bytes "y\t1\t0\ny\t2\t2\ny\t2\t1\ny\t2\t0\nend\t4\n";
     }
     ∷ record {
       input = bytes "cic\t0\t1\t0\nx\t2147483647\nx\t-2147483648\nx\t2147483648\n";
-      output = bytes "y\t2147483647\t1\ny\t-2147483648\t1\nbad\t4\t70\n";
+      output = bytes "y\t2147483647\t0\ny\t-2147483648\t0\nbad\t4\t70\n";
     }
     -- 64 bytes without a newline  give  bad 1 70/
     ∷ record { input = replicate 64 (byte "x"); output = bytes "bad\t1\t70\n" }

@@ -122,44 +122,37 @@ module _ (l : List ℕ) (from : ℕ) where
       }
 
 -- the loop that writes: what is done and what is left
-pub record Writing (o : List ℕ) (at : ℕ) (ys : List ℤ) (unsettled : ℕ) (o' : List ℕ) (w i : ℕ) : Type 0 where
+pub record Writing (o : List ℕ) (at : ℕ) (ys : List ℤ) (told : ℕ) (o' : List ℕ) (w i : ℕ) : Type 0 where
   pub small : i ≤ length ys
   pub done : List ℕ
-  pub left : outputLines unsettled ys ≡ done ++ outputLines (unsettled - i) (drop i ys)
+  pub left : outputLines told ys ≡ done ++ outputLines (told - i) (drop i ys)
   pub wrote : Wrote o at done w o'
-  pub near : w ≤ at + 16 * i
+  pub near : w ≤ at + 17 * i
 
-mark-is : (u i : ℕ) → leb u i ≡ eqb (u - i) 0
-mark-is u i = by (leb u i) refl
-  where
-    by : (t : Bool) → leb u i ≡ t → t ≡ eqb (u - i) 0
-    by true e = let h = leb-true u i e in sym (eq-eqb (u - i) 0 (omega arith))
-    by false e = let h = leb-false u i e in sym (ne-eqb (u - i) 0 (λ z. omega arith))
-
-module _ (o : List ℕ) (at : ℕ) (ys : List ℤ) (unsettled : ℕ) (within : at ≤ length o) where
-  pub writing-start : Writing o at ys unsettled o at 0
+module _ (o : List ℕ) (at : ℕ) (ys : List ℤ) (told : ℕ) (within : at ≤ length o) where
+  pub writing-start : Writing o at ys told o at 0
   writing-start =
-      let z : unsettled - 0 ≡ unsettled = omega arith in
+      let z : told - 0 ≡ told = omega arith in
       record { small = omega arith; done = []; left = rw z refl; wrote = nothing o at; near = omega arith }
 
-  pub writing-on : (o₁ o₂ : List ℕ) (w₁ w₂ i : ℕ) (y : ℤ) → i < length ys → y ≡ getD ys i (pos 0) → Writing o at ys unsettled o₁ w₁ i
-      → Wrote o₁ w₁ (outputLine y (leb unsettled i)) w₂ o₂ → w₂ ≤ w₁ + 16 → Writing o at ys unsettled o₂ w₂ (i + 1)
+  pub writing-on : (o₁ o₂ : List ℕ) (w₁ w₂ i : ℕ) (y : ℤ) → i < length ys → y ≡ getD ys i (pos 0) → Writing o at ys told o₁ w₁ i
+      → Wrote o₁ w₁ (outputLine y (told - i)) w₂ o₂ → w₂ ≤ w₁ + 17 → Writing o at ys told o₂ w₂ (i + 1)
   unfolding outputLines
   writing-on o₁ o₂ w₁ w₂ i y h e r w n =
       let d : drop i ys ≡ y ∷ drop (i + 1) ys = rw add-one (drop-cons ys i (pos 0) h ∙ ap (λ (b : ℤ). b ∷ drop (suc i) ys) (sym e)) in
-      let m : unsettled - i - 1 ≡ unsettled - (i + 1) = omega arith in
-      let s : outputLines (unsettled - i) (drop i ys) ≡ outputLine y (leb unsettled i) ++ outputLines (unsettled - (i + 1))
+      let m : told - i - 1 ≡ told - (i + 1) = omega arith in
+      let s : outputLines (told - i) (drop i ys) ≡ outputLine y (told - i) ++ outputLines (told - (i + 1))
       (drop (i + 1) ys) =
-      rw (d, mark-is unsettled i) (ap (λ (u : ℕ). outputLine y (eqb (unsettled - i) 0) ++ outputLines u (drop (i + 1) ys)) m) in
+      rw d (ap (λ (u : ℕ). outputLine y (told - i) ++ outputLines u (drop (i + 1) ys)) m) in
       record {
         small = omega arith;
-        done = r .done ++ outputLine y (leb unsettled i);
-        left = r .left ∙ ap (λ (l : List ℕ). r .done ++ l) s ∙ sym (append-assoc (r .done) (outputLine y (leb unsettled i)) _);
+        done = r .done ++ outputLine y (told - i);
+        left = r .left ∙ ap (λ (l : List ℕ). r .done ++ l) s ∙ sym (append-assoc (r .done) (outputLine y (told - i)) _);
         wrote = then within (r .wrote) w;
         near = omega (arith, r .near);
       }
 
-  pub writing-done : (o₁ : List ℕ) (w i : ℕ) → length ys ≤ i → Writing o at ys unsettled o₁ w i → Wrote o at (outputLines unsettled ys) w o₁
+  pub writing-done : (o₁ : List ℕ) (w i : ℕ) → length ys ≤ i → Writing o at ys told o₁ w i → Wrote o at (outputLines told ys) w o₁
   unfolding outputLines
   writing-done o₁ w i h r =
       let e : drop i ys ≡ [] = by-length (drop i ys) (length-drop i ys ∙ omega arith) in

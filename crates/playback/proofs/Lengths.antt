@@ -1,9 +1,11 @@
--- A line that gives an output has at least 3 bytes: `x`, a tab and a digit. So no line gives more than 4 bytes out for each of its own.
+-- A line that gives an output has at least 3 bytes, `x`, a tab and a digit, and an output that a step gives tells at most 64, so that its
+-- line has at most 17. So no line gives more than 5 bytes out for each of its own, the newline too.
 use native.Mathlib.Omega.{arith}
 use mathlib.Core.Path.{_≡_, refl, sym, _∙_}
 use mathlib.Core.Bool.{Bool, true, false, cond}
 use mathlib.Core.List.{List, [], _∷_}
-use Prim.Native.Nat.{ℕ, _+_, _*_, _≤_}
+use mathlib.Core.Option.{Option, none, some}
+use Prim.Native.Nat.{ℕ, zero, suc, _+_, _*_, _≤_}
 use lib.Dec.{eqb, ltb}
 use lib.IntN.{ℤ}
 use lib.ListN.{length}
@@ -12,19 +14,22 @@ use Rattle.text.specs.Letters.{tab, newline}
 use Rattle.text.specs.Numbers.{numberOf}
 use Rattle.text.specs.Parts.{parted}
 use Rattle.text.proofs.Parting.{parted-total, total}
+use Rattle.text.proofs.Spelling.{spelt-most}
 use Rattle.blocks.specs.declared.Verdict.{Verdict}
 use Rattle.blocks.specs.declared.Verdict.the-variants as Verdict
 use Rattle.cic.specs.declared.state.Cic.{Cic}
 use Rattle.sums.specs.Machine.{Output}
 use Rattle.sums.specs.State.{State, refusal}
-use Rattle.sums.specs.Calls.{newNumber, newState, rateNumber, rateState, clearState}
+use Rattle.sums.specs.Calls.{newNumber, newState, rateNumber, rateState, clearState, stepState, stepGiven}
+use Rattle.sums.proofs.Steps.{told-most}
 use Rattle.cic.specs.Word.{wordOps}
 use Rattle.cic.specs.Reading.{stateOf, cicOf}
 use Rattle.blocks.specs.Verdicts.{verdictOf}
 use Rattle.text.specs.Same.{same}
 use Rattle.records.specs.Lines.{nameOf, naturalOf, withNatural, fieldAt, wantedOf, namedRecord, shapedOf, fieldsRecord, recordOf}
-use Rattle.records.specs.Sessions.{refuse, toldBy, ordered, takeOf, lineOf}
-use Rattle.playback.specs.Places.{givenBy, endTaken}
+use Rattle.records.specs.Sessions.{refuse, toldBy, ordered, sampled, takeOf, lineOf}
+use Rattle.playback.specs.Places.{endTaken}
+use Rattle.playback.specs.Inner.Advances.{lineRoom}
 use Rattle.records.specs.declared.parse.Name.{Name}
 use Rattle.records.specs.declared.parse.Name.the-variants as Name
 use Rattle.records.specs.declared.parse.Natural.{Natural}
@@ -44,23 +49,18 @@ isSample Clear = false
 isSample Malformed = false
 
 -- only a sample gives an output
-told-none : (s : Session) (f : Cic) (v : Verdict) → givenBy (toldBy s f v .reply) ≡ 0
+told-none : (s : Session) (f : Cic) (v : Verdict) → lineRoom (toldBy s f v .reply) ≡ 0
 told-none s f Verdict.Done = refl
 told-none s f (Verdict.Refused k) = refl
 
-ordered-none : (s : Session) (number : ℕ) (t : State ℤ) → givenBy (ordered s number t .reply) ≡ 0
+ordered-none : (s : Session) (number : ℕ) (t : State ℤ) → lineRoom (ordered s number t .reply) ≡ 0
 ordered-none s number t = told-none s (cicOf t) (verdictOf number)
 
-given-most : (r : Reply) → givenBy r ≤ 1
-given-most Reply.Silent = omega arith
-given-most (Reply.Output y) = omega arith
-given-most (Reply.Bad k) = omega arith
-
-either : (b : Bool) (x y : Taken) → givenBy (x .reply) ≡ 0 → givenBy (y .reply) ≡ 0 → givenBy (cond b x y .reply) ≡ 0
+either : (b : Bool) (x y : Taken) → lineRoom (x .reply) ≡ 0 → lineRoom (y .reply) ≡ 0 → lineRoom (cond b x y .reply) ≡ 0
 either true x y h k = h
 either false x y h k = k
 
-take-none : (s : Session) (r : Record) → isSample r ≡ false → givenBy (takeOf s r .reply) ≡ 0
+take-none : (s : Session) (r : Record) → isSample r ≡ false → lineRoom (takeOf s r .reply) ≡ 0
 unfolding takeOf
 take-none s (Open n m rate) e =
     let t = newState wordOps n m rate in
@@ -74,6 +74,28 @@ take-none s Clear e =
     let f = stateOf (s .filter) in
     either (s .opened) (ordered s (refusal f) (clearState wordOps f)) (refuse s 71) (ordered-none s (refusal f) (clearState wordOps f)) refl
 take-none s Malformed e = refl
+
+-- and its line has at most 17 bytes
+sampled-most : (s : Session) (k : ℕ) (t : State ℤ) (g : Option (Output ℤ)) → ((y : Output ℤ) → g ≡ some y → y .told ≤ 64)
+    → lineRoom (sampled s k t g .reply) ≤ 17
+sampled-most s zero t (some y) h = omega (arith, spelt-most 1 20 (y .told) (omega (arith, h y refl)))
+sampled-most s zero t none h = omega arith
+sampled-most s (suc k) t g h = omega arith
+
+either-most : (b : Bool) (x y : Taken) → lineRoom (x .reply) ≤ 17 → lineRoom (y .reply) ≤ 17 → lineRoom (cond b x y .reply) ≤ 17
+either-most true x y h k = h
+either-most false x y h k = k
+
+take-most : (s : Session) (r : Record) → lineRoom (takeOf s r .reply) ≤ 17
+unfolding takeOf
+take-most s (Open n m rate) = omega (arith, take-none s (Open n m rate) refl)
+take-most s (Rate rate) = omega (arith, take-none s (Rate rate) refl)
+take-most s (Sample v) =
+    let f = stateOf (s .filter) in
+    either-most (s .opened) (sampled s (refusal f) (stepState wordOps f v) (stepGiven wordOps f v)) (refuse s 71)
+    (sampled-most s (refusal f) (stepState wordOps f v) (stepGiven wordOps f v) (told-most wordOps f v)) (omega arith)
+take-most s Clear = omega (arith, take-none s Clear refl)
+take-most s Malformed = omega arith
 
 -- which line is a sample
 cic-none : (a b c : Natural) → isSample (withNatural a (λ n. withNatural b (λ m. withNatural c (λ rate. Open n m rate)))) ≡ false
@@ -123,21 +145,21 @@ sample-long : (l : List ℕ) → isSample (recordOf l) ≡ true → 3 ≤ length
 unfolding recordOf
 sample-long l e = omega (arith, fields-long (parted tab l) e, parted-total tab l)
 
-line-given : (s : Session) (l : List ℕ) → 16 * givenBy (lineOf s l .reply) ≤ 4 * (length l + 1)
+line-given : (s : Session) (l : List ℕ) → lineRoom (lineOf s l .reply) ≤ 5 * (length l + 1)
 unfolding lineOf
 line-given s l = by (ltb 64 (length l))
   where
-    record-given : (b : Bool) → isSample (recordOf l) ≡ b → 16 * givenBy (takeOf s (recordOf l) .reply) ≤ 4 * (length l + 1)
-    record-given true e = omega (arith, sample-long l e, given-most (takeOf s (recordOf l) .reply))
+    record-given : (b : Bool) → isSample (recordOf l) ≡ b → lineRoom (takeOf s (recordOf l) .reply) ≤ 5 * (length l + 1)
+    record-given true e = omega (arith, sample-long l e, take-most s (recordOf l))
     record-given false e = omega (arith, take-none s (recordOf l) e)
 
-    by : (t : Bool) → 16 * givenBy (cond t (refuse s 72) (takeOf s (recordOf l)) .reply) ≤ 4 * (length l + 1)
+    by : (t : Bool) → lineRoom (cond t (refuse s 72) (takeOf s (recordOf l)) .reply) ≤ 5 * (length l + 1)
     by true = omega arith
     by false = record-given (isSample (recordOf l)) refl
 
-pub end-given : (s : Session) (l : List ℕ) (b : ℕ) → 16 * givenBy (endTaken s l b .reply) ≤ 4 * (length l + 1)
+pub end-given : (s : Session) (l : List ℕ) (b : ℕ) → lineRoom (endTaken s l b .reply) ≤ 5 * (length l + 1)
 end-given s l b = by (eqb b newline)
   where
-    by : (t : Bool) → 16 * givenBy (cond t (lineOf s l) (refuse s 72) .reply) ≤ 4 * (length l + 1)
+    by : (t : Bool) → lineRoom (cond t (lineOf s l) (refuse s 72) .reply) ≤ 5 * (length l + 1)
     by true = line-given s l
     by false = omega arith

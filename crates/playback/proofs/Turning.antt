@@ -44,7 +44,7 @@ use Rattle.playback.specs.Places.{
   placeOf,
   replayOf,
 }
-use Rattle.playback.specs.Inner.Advances.{Collects, Answers, Room, Advances}
+use Rattle.playback.specs.Inner.Advances.{Collects, Answers, Room, Advances, lineRoom}
 use Rattle.records.specs.declared.session.Taken.{Taken}
 use Rattle.playback.specs.declared.driver.Replay.{Replay}
 use Rattle.playback.proofs.Lengths.{end-given}
@@ -205,7 +205,7 @@ module _ (r : Replay) (input o : List ℕ) (from at : ℕ) where
             fits = λ z.
                 let k : goesOn (t .reply) ≡ true = sym (ap (λ (p : Place). p .going) (s .place)) ∙ z in
                 let m : length (placeOf a .line) ≡ 0 = ap (λ (p : Place). length (p .line)) (s .place) in
-                let u : givenBy (t .reply) ≡ givenBy (endTaken (r .session) l b .reply) = ap (λ (x : Taken). givenBy (x .reply)) e in
+                let u : lineRoom (t .reply) ≡ lineRoom (endTaken (r .session) l b .reply) = ap (λ (x : Taken). lineRoom (x .reply)) e in
                 let v : length (drop i input) ≡ suc (length cs) = ap length d in
                 omega (arith, room .fits g, s .few k, end-given (r .session) l b, filled-length, left-length);
           };
@@ -229,12 +229,12 @@ answered-place r t lines outputs going e f g =
     }) g
 
 -- the test for room
-pub short-test : (len n : ℕ) → 292 ≤ len → ltb ((len - 292) / 4) n ≡ ltb len (4 * n + 292)
-short-test len n h = by (ltb len (4 * n + 292)) refl
+pub short-test : (len n : ℕ) → 356 ≤ len → ltb ((len - 356) / 5) n ≡ ltb len (5 * n + 356)
+short-test len n h = by (ltb len (5 * n + 356)) refl
   where
-    by : (t : Bool) → ltb len (4 * n + 292) ≡ t → ltb ((len - 292) / 4) n ≡ t
-    by true e = let k = ltb-true len (4 * n + 292) e in lt-ltb ((len - 292) / 4) n (omega arith)
-    by false e = let k = ltb-false len (4 * n + 292) e in le-ltb ((len - 292) / 4) n (omega arith)
+    by : (t : Bool) → ltb len (5 * n + 356) ≡ t → ltb ((len - 356) / 5) n ≡ t
+    by true e = let k = ltb-true len (5 * n + 356) e in lt-ltb ((len - 356) / 5) n (omega arith)
+    by false e = let k = ltb-false len (5 * n + 356) e in le-ltb ((len - 356) / 5) n (omega arith)
 
 -- no more than 64 bytes of a line are kept
 pub clip-place : (r : Replay) → length (r .line) ≡ 64 → 64 < r .len

@@ -33,7 +33,7 @@ countedUp n by = min (n + by) 18446744073709551615
 -- what an answer writes, how many outputs it gives, and whether the replay goes on
 abbrev pub replyBytes : ℕ → Reply → List ℕ
 replyBytes line Reply.Silent = []
-replyBytes line (Reply.Output y) = outputLine (y .value) (y .settled)
+replyBytes line (Reply.Output y) = outputLine (y .value) (y .told)
 replyBytes line (Reply.Bad number) = badLine line number
 
 abbrev pub givenBy : Reply → ℕ
@@ -104,13 +104,14 @@ replayOf p = record {
   going = p .going;
 }
 
--- 20: the output slice is shorter than an answer may need, 36 bytes, or than a part may. A line gives at most 4 bytes out for
--- each of its own, of which 64 may have come before the part, and a refusal at most 36.
+-- 20: the output slice is shorter than an answer may need, 36 bytes, or than a part may. A line gives at most 5 bytes out for
+-- each of its own (`x`, a tab, a digit and the newline: 17 bytes, since no output tells more than 64), of which 64 may have come before
+-- the part, and a refusal at most 36.
 abbrev pub answerNumber : List ℕ → ℕ
 answerNumber out = cond (ltb (length out) 36) 20 0
 
 abbrev pub feedNumber : List ℕ → List ℕ → ℕ
-feedNumber input out = cond (ltb (length out) (4 * length input + 292)) 20 0
+feedNumber input out = cond (ltb (length out) (5 * length input + 356)) 20 0
 
 -- the front of a lent slice is written and the rest stays as it was; where the call has a number, all of it stays
 abbrev pub frontWritten : ℕ → List ℕ → List ℕ → List ℕ

@@ -1,11 +1,11 @@
 -- 01, 'The replay program': the whole output as a function of the whole input, both as bytes.
-use mathlib.Core.Bool.{Bool, false, cond}
+use mathlib.Core.Bool.{false, cond}
 use mathlib.Core.List.{List, [], _∷_, _++_}
 use Prim.Native.Nat.{ℕ, suc}
 use lib.Dec.{ltb, eqb}
 use lib.IntN.{ℤ}
 use lib.ListN.{length}
-use Rattle.text.specs.Letters.{byte, bytes, tab, newline}
+use Rattle.text.specs.Letters.{bytes, tab, newline}
 use Rattle.text.specs.Numbers.{decimalOf, signedOf}
 use Rattle.text.specs.Parts.{parted}
 use Rattle.sums.specs.State.{blank}
@@ -16,9 +16,9 @@ use Rattle.records.specs.declared.session.Session.{Session}
 use Rattle.records.specs.declared.session.Reply.{Reply}
 use Rattle.records.specs.declared.session.Reply.the-variants as Reply
 
--- Each output gives `y`, value, 1 for settled or 0.
-unfoldable pub outputLine : ℤ → Bool → List ℕ
-outputLine value settled = bytes "y\t" ++ (signedOf value ++ (tab ∷ cond settled (byte "1") (byte "0") ∷ newline ∷ []))
+-- 02, A3: each output gives `y`, value and the count that it tells, 0 where it is settled.
+unfoldable pub outputLine : ℤ → ℕ → List ℕ
+outputLine value told = bytes "y\t" ++ (signedOf value ++ (tab ∷ (decimalOf told ++ (newline ∷ []))))
 
 -- At the end of input: `end` and the count of outputs.
 unfoldable pub endLine : ℕ → List ℕ
@@ -31,7 +31,7 @@ badLine line number = bytes "bad\t" ++ (decimalOf line ++ (tab ∷ (decimalOf nu
 -- and it stops without `end`. Else the rest follows, told how many outputs there were.
 abbrev pub answered : Reply → ℕ → ℕ → (ℕ → List ℕ) → List ℕ
 answered Reply.Silent line outputs rest = rest outputs
-answered (Reply.Output y) line outputs rest = outputLine (y .value) (y .settled) ++ rest (suc outputs)
+answered (Reply.Output y) line outputs rest = outputLine (y .value) (y .told) ++ rest (suc outputs)
 answered (Reply.Bad number) line outputs rest = badLine line number
 
 -- Each line is ended by a newline: what follows the last one is an unterminated line, unless it is empty.

@@ -7,11 +7,13 @@ use text::writing::put_decimal;
 use text::writing::put_signed;
 ghost use mathlib.Core.Path.{_≡_};
 ghost use mathlib.Core.Bool.{true};
-ghost use Prim.Native.Nat.{_+_, _*_, _≤_};
+ghost use Prim.Native.Nat.{_+_, _≤_};
 ghost use lib.ListN.{length};
+ghost use Rattle.text.specs.Numbers.{decimalOf};
 ghost use Rattle.text.specs.Writing.{Wrote};
 ghost use Rattle.playback.specs.Replays.{outputLine, endLine, badLine};
-ghost use Rattle.playback.specs.Places.{replyBytes, givenBy, goesOn, answerNumber, Writes};
+ghost use Rattle.playback.specs.Places.{replyBytes, goesOn, answerNumber, Writes};
+ghost use Rattle.playback.specs.Inner.Advances.{lineRoom};
 
 // How many bytes were written to the front of a lent slice, and whether it was long enough.
 pub struct BytesPut {
@@ -19,17 +21,20 @@ pub struct BytesPut {
     pub verdict: Verdict,
 }
 
-// `y`, value, 1 for settled or 0.
-pub(crate) fn put_output(out: &mut [u8], at: usize, value: i32, settled: bool) -> usize
-    requires { ⌜ at + 16 ≤ length (now out) ⌝ }
-    ensures { λ r. ⌜ Wrote (now (out .entry)) at (outputLine value settled) r (now (out .exit)) × (r ≤ at + 16) ⌝ }
+// `y`, value, the count told.
+pub(crate) fn put_output(out: &mut [u8], at: usize, value: i32, told: usize) -> usize
+    requires { ⌜ at + 15 + length (decimalOf told) ≤ length (now out) ⌝ }
+    ensures { λ r. ⌜ Wrote (now (out .entry)) at (outputLine value told) r (now (out .exit))
+        × (r ≤ at + 15 + length (decimalOf told)) ⌝ }
 {
     let a = put_bytes(out, at, b"y\t");
     let b = put_signed(out, a, value);
-    if settled {
-        return put_bytes(out, b, b"\t1\n");
+    if told == 0 {
+        return put_bytes(out, b, b"\t0\n");
     }
-    put_bytes(out, b, b"\t0\n")
+    let c = put_byte(out, b, b'\t');
+    let d = put_decimal(out, c, told as u64);
+    put_byte(out, d, b'\n')
 }
 
 // `bad`, line number from 1, refusal number.
@@ -58,11 +63,11 @@ pub(crate) fn put_end(out: &mut [u8], at: usize, outputs: u64) -> usize
 pub(crate) fn put_reply(out: &mut [u8], at: usize, line: u64, reply: Reply) -> usize
     requires { ⌜ at + 36 ≤ length (now out) ⌝ }
     ensures { λ r. ⌜ Wrote (now (out .entry)) at (replyBytes line reply) r (now (out .exit)) × (r ≤ at + 36)
-        × (goesOn reply ≡ true → r ≤ at + 16 * givenBy reply) ⌝ }
+        × (goesOn reply ≡ true → r ≤ at + lineRoom reply) ⌝ }
 {
     match reply {
         Reply::Silent => at,
-        Reply::Output(y) => put_output(out, at, y.value, y.settled),
+        Reply::Output(y) => put_output(out, at, y.value, y.told),
         Reply::Bad(number) => put_bad(out, at, line, number),
     }
 }

@@ -50,12 +50,12 @@ fn padded(line: [u8; 64], len: usize) -> [u8; 64]
 
 // Whether a part of n bytes may need more than len bytes of output.
 fn short_of(len: usize, n: usize) -> bool
-    ensures { λ r. ⌜ r ≡ ltb len (4 * n + 292) ⌝ }
+    ensures { λ r. ⌜ r ≡ ltb len (5 * n + 356) ⌝ }
 {
-    if len < 292 {
+    if len < 356 {
         return true;
     }
-    (len - 292) / 4 < n
+    (len - 356) / 5 < n
 }
 
 // What the end of the input gives out.
@@ -96,7 +96,7 @@ impl Replay {
     }
 
     // A part of the input, of any length and cut anywhere: what it gives out goes to the front of out, and the rest of
-    // out stays. Refused with 20 where out is shorter than 4 bytes for each of the part's and 292 more; a refused part
+    // out stays. Refused with 20 where out is shorter than 5 bytes for each of the part's and 356 more; a refused part
     // changes nothing.
     pub fn feed(self, input: &[u8], out: &mut [u8]) -> Fed
         ensures { λ r. ⌜ PartFed self (now (input .entry)) (now (out .entry)) r (now (out .exit)) ⌝ }
@@ -175,7 +175,7 @@ impl Replay {
 }
 
 // The replay of an input that is there as a whole, to the front of out; the rest of out stays. Refused with 20, nothing
-// written, where out is shorter than 4 bytes for each of the input's and 292 more.
+// written, where out is shorter than 5 bytes for each of the input's and 356 more.
 pub fn replay_whole(input: &[u8], out: &mut [u8]) -> BytesPut
     ensures { λ r. ⌜ Writes (feedNumber (now (input .entry)) (now (out .entry))) (replay (now (input .entry))) (now (out .entry)) r
         (now (out .exit)) ⌝ }

@@ -4,7 +4,8 @@ use records::parse::Integer;
 use records::parse::integer_of;
 use text::numbers::parsed;
 use text::parts::part_end;
-ghost use Prim.Native.Nat.{_+_, _*_, _≤_};
+ghost use mathlib.Core.Path.{_≡_};
+ghost use Prim.Native.Nat.{_+_, _-_, _*_, _≤_};
 ghost use lib.ListN.{length, take};
 ghost use Rattle.text.specs.Writing.{Wrote};
 ghost use Rattle.playback.specs.Inner.Advances.{finds, Gathers, outputLines};
@@ -69,23 +70,33 @@ pub(crate) fn gather(input: &[u8], from: usize, samples: &mut [i32]) -> Gathered
     Gathered { count: k, next: i }
 }
 
-// The output lines of a block that gave the first count of given and found so many outputs unsettled before it.
+// The count told with the output i places after one that tells `told`.
+fn told_after(told: usize, i: usize) -> usize
+    ensures { λ r. ⌜ r ≡ told - i ⌝ }
+{
+    if told <= i {
+        return 0;
+    }
+    told - i
+}
+
+// The output lines of a block that gave the first count of given and told this count with its first.
 pub(crate) fn put_outputs(
     out: &mut [u8],
     at: usize,
     given: &[i32],
     count: usize,
-    unsettled: usize,
+    told: usize,
 ) -> usize
-    requires { ⌜ (count ≤ length (now given)) × (at + 16 * count ≤ length (now out)) ⌝ }
-    ensures { λ r. ⌜ Wrote (now (out .entry)) at (outputLines unsettled (take count (now (given .entry)))) r (now (out .exit))
-        × (r ≤ at + 16 * count) ⌝ }
+    requires { ⌜ (told ≤ 64) × (count ≤ length (now given)) × (at + 17 * count ≤ length (now out)) ⌝ }
+    ensures { λ r. ⌜ Wrote (now (out .entry)) at (outputLines told (take count (now (given .entry)))) r (now (out .exit))
+        × (r ≤ at + 17 * count) ⌝ }
 {
     let mut w = at;
     let mut i: usize = 0;
     while i < count {
         let y = given[i];
-        w = put_output(out, w, y, unsettled <= i);
+        w = put_output(out, w, y, told_after(told, i));
         i += 1;
     }
     w

@@ -222,7 +222,7 @@ fn take_samples(
     let cic::runs::Wrote::Outputs(w) = wrote else {
         return same;
     };
-    let end = put_outputs(out, at, given, w.count, w.unsettled);
+    let end = put_outputs(out, at, given, w.count, w.told);
     let state = d.state;
     Advanced {
         replay: after_block(r, state, count, w.count),

@@ -41,7 +41,7 @@ toldBy s f (Verdict.Refused number) = refuse s number
 abbrev pub ordered : Session → ℕ → State ℤ → Taken
 ordered s number t = toldBy s (cicOf t) (verdictOf number)
 
--- a step: its number, its state, and one output with its mark or nothing at all
+-- a step: its number, its state, and one output with what it tells or nothing at all
 abbrev pub replied : Option (Output ℤ) → Reply
 replied (some y) = Reply.Output (answerOutput y)
 replied none = Reply.Silent

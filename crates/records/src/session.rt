@@ -14,7 +14,7 @@ pub struct Session {
     pub filter: Cic,
 }
 
-// What a line is answered: nothing, an output and whether it is settled, or the number of its refusal.
+// What a line is answered: nothing, an output with the count that it tells, or the number of its refusal.
 pub enum Reply {
     Silent,
     Output(Output),

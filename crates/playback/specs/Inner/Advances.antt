@@ -3,19 +3,21 @@ use mathlib.Core.Path.{_≡_}
 use mathlib.Core.Bool.{true}
 use mathlib.Core.List.{List, [], _∷_, _++_}
 use Prim.Native.Nat.{ℕ, _+_, _-_, _*_, _≤_, _<_}
-use lib.Dec.{eqb}
 use lib.IntN.{ℤ}
 use lib.ListN.{length, getD, take, drop}
 use Rattle.text.specs.Letters.{newline}
+use Rattle.text.specs.Numbers.{decimalOf}
 use Rattle.text.specs.Parts.{count}
 use Rattle.text.specs.Writing.{Wrote}
 use Rattle.records.specs.Lines.{recordOf}
 use Rattle.playback.specs.Replays.{outputLine}
-use Rattle.playback.specs.Places.{Place, countedUp, replyBytes, givenBy, goesOn, lineEnds, ended, fedOf, bytesOf, placeOf}
+use Rattle.playback.specs.Places.{Place, countedUp, replyBytes, goesOn, lineEnds, ended, fedOf, bytesOf, placeOf}
 use Rattle.records.specs.declared.parse.Record.the-variants.{Sample}
 use Rattle.playback.specs.declared.samples.Found.{Found}
 use Rattle.playback.specs.declared.samples.Found.the-variants as Found
 use Rattle.records.specs.declared.session.Taken.{Taken}
+use Rattle.records.specs.declared.session.Reply.{Reply}
+use Rattle.records.specs.declared.session.Reply.the-variants as Reply
 use Rattle.cic.specs.declared.state.Cic.{Cic}
 use Rattle.playback.specs.declared.driver.Replay.{Replay}
 
@@ -46,10 +48,16 @@ pub record Gathers (l : List ℕ) (from : ℕ) (samples : List ℤ) (n next : �
   pub within : next ≤ length l
   pub lines : Sampled (drop from l) (take n samples) (drop next l)
 
--- the output lines of a block: a mark is 1 once the unsettled count found before it is used up
+-- the output lines of a block that told this count: each output one less than the one before, not below 0
 unfoldable pub outputLines : ℕ → List ℤ → List ℕ
-outputLines unsettled [] = []
-outputLines unsettled (y ∷ ys) = outputLine y (eqb unsettled 0) ++ outputLines (unsettled - 1) ys
+outputLines told [] = []
+outputLines told (y ∷ ys) = outputLine y told ++ outputLines (told - 1) ys
+
+-- the most bytes of an answer after which the replay goes on: `y`, a tab, a value of 11, a tab, the count and a newline
+abbrev pub lineRoom : Reply → ℕ
+lineRoom Reply.Silent = 0
+lineRoom (Reply.Output y) = 15 + length (decimalOf (y .told))
+lineRoom (Reply.Bad number) = 0
 
 -- a place after a block of `x` lines: its filter, and so many lines and outputs more
 abbrev pub afterBlock : Place → Cic → ℕ → ℕ → Place
@@ -86,13 +94,13 @@ pub record Answers (r : Replay) (t : Taken) (o : List ℕ) (at : ℕ) (a : Repla
   pub place : placeOf a ≡ ended (placeOf r) t
   pub none : a .len ≡ 0
   pub most : w ≤ at + 36
-  pub few : goesOn (t .reply) ≡ true → w ≤ at + 16 * givenBy (t .reply)
+  pub few : goesOn (t .reply) ≡ true → w ≤ at + lineRoom (t .reply)
   pub wrote : Wrote o at (replyBytes (countedUp (r .lines) 1) (t .reply)) w o'
 
 -- There is room for whatever bs may give out.
 pub record Room (p : Place) (bs o : List ℕ) (at : ℕ) : Type 0 where
   pub within : at ≤ length o
-  pub fits : p .going ≡ true → at + 4 * (length (p .line) + length bs) + 36 ≤ length o
+  pub fits : p .going ≡ true → at + 5 * (length (p .line) + length bs) + 36 ≤ length o
 
 -- A turn of the driver: from r, the input from `from` on and the output at a place to t, `next` and r'.
 pub record Advances (r : Replay) (input : List ℕ) (from : ℕ) (o : List ℕ) (at : ℕ) (t : Replay) (next w : ℕ) (o' : List ℕ) : Type 0 where

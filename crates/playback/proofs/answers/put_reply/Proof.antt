@@ -6,7 +6,10 @@ use native.Mathlib.Omega.{arith}
 use mir.Syntax.{w32}
 use mir.ValLaws.{toZ-ofZ}
 use borrow.Author.Needs.{needs}
-use Rattle.playback.specs.Places.{givenBy, goesOn, replyBytes}
+use Rattle.playback.specs.Places.{goesOn, replyBytes}
+use Rattle.playback.specs.Inner.Advances.{lineRoom}
+use Rattle.records.specs.declared.session.Reply.the-variants.{Output}
+use Rattle.playback.proofs.Answering.{short}
 use Rattle.text.proofs.Putting.{wrote-same, nothing}
 use Rattle.playback.proofs.answers.put_reply.Statement.{statement}
 use Rattle.playback.proofs.answers.put_reply.Tie as tie
@@ -16,6 +19,13 @@ returns c =
     let a = c .before .before .before .args in
     (wrote-same (sym (ap (replyBytes (a .line)) (c .enum-told .given .1))) (nothing (a .out .now) (a .at)), omega arith, λ z. omega arith)
 
+put-output-requires : tie.Need-put-output-requires
+put-output-requires c κs =
+    let at-reply : tie.After-reply = search in
+    let begin : tie.Start = search in
+    let d = short (at-reply .reply .given .0 .0 .told) in
+    omega (arith, begin .pre)
+
 returns-2 : tie.Need-returns-2
 returns-2 c =
     let at-struct-told : tie.After-struct-told = search in
@@ -24,7 +34,8 @@ returns-2 c =
     let a = begin .args in
     let y = toZ-ofZ w32 (at-reply .reply .given .0 .0 .value) (record { sfits = at-struct-told .struct-told .given .0 .1 }) in
     let p = rw y at (c .before .before .put-output .ensures) in
-    let g : givenBy (a .reply) ≡ 1 = ap givenBy (at-reply .reply .given .1) in
+    let g : lineRoom (a .reply) ≡ lineRoom (Output (at-reply .reply .given .0 .0)) = ap lineRoom (at-reply .reply .given .1) in
+    let d = short (at-reply .reply .given .0 .0 .told) in
     (wrote-same (sym (ap (replyBytes (a .line)) (at-reply .reply .given .1))) (p .0), omega (arith, p .1), λ z. omega (arith, p .1))
 
 returns-3 : tie.Need-returns-3
@@ -40,5 +51,5 @@ returns-3 c =
 
 pub put-reply-spec : {M : Type 1} → statement M
 put-reply-spec =
-    tie.close (tie.spec (λ c. search needs) (λ c. search needs) (λ c κs. search needs) (λ c. search needs)
+    tie.close (tie.spec (λ c. search needs) (λ c. search needs) put-output-requires (λ c. search needs)
     (λ c κs. search needs) returns (λ c. search needs) returns-2 (λ c. search needs) returns-3)

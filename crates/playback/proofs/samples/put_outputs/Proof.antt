@@ -1,4 +1,4 @@
--- The lines of the first i outputs are written, and the marks of the rest count on (Gathering).
+-- The lines of the first i outputs are written, and the rest tell one less each (Gathering).
 use lib.IntN.{ℤ, pos}
 use lib.ListN.{getD, length, take}
 use lib.Seq.{getD-take, length-take-le}
@@ -9,36 +9,41 @@ use Prim.Native.Nat.{_-_}
 use mir.Syntax.{w32}
 use borrow.Author.Needs.{needs}
 use Rattle.words.proofs.Reading.{read}
+use Rattle.text.proofs.Spelling.{spelt-most}
 use Rattle.playback.proofs.Gathering.{Writing, writing-start, writing-on, writing-done}
 use Rattle.playback.proofs.samples.put_outputs.Statement.{statement}
 use Rattle.playback.proofs.samples.put_outputs.Tie as tie
 
 abbrev Inv-loop : tie.InvT-loop
-Inv-loop out₀ at given count unsettled w₀ i₀ out w i = (length out ≡ length out₀) × Writing out₀ at (take count given) unsettled out w i
+Inv-loop out₀ at given count told w₀ i₀ out w i = (length out ≡ length out₀) × Writing out₀ at (take count given) told out w i
 
 abbrev μ-loop : tie.MeasureT-loop
-μ-loop out₀ at given count unsettled w₀ i₀ out w i = count - i
+μ-loop out₀ at given count told w₀ i₀ out w i = count - i
 
 loop-holds : tie.Need-loop-holds Inv-loop μ-loop
 loop-holds c = (
   refl,
   writing-start (c .before .args .out .now) (c .before .args .at) (take (c .before .args .count)
-      (c .before .args .given .now)) (c .before .args .unsettled) (omega (arith, c .before .pre)),
+      (c .before .args .given .now)) (c .before .args .told) (omega (arith, c .before .pre)),
 )
 
 mul-y : tie.Need-mul-y Inv-loop μ-loop
 mul-y c =
     let l = c .before .loop .inv .1 in
-    omega (arith, c .before .before .before .pre .0)
+    omega (arith, c .before .before .before .pre .1)
 
 shared-slice-copy-out-y : tie.Need-shared-slice-copy-out-y Inv-loop μ-loop
-shared-slice-copy-out-y c = omega (arith, c .before .before .before .pre .0)
+shared-slice-copy-out-y c = omega (arith, c .before .before .before .pre .1)
 
 put-output-requires : tie.Need-put-output-requires Inv-loop μ-loop
 put-output-requires c κs =
     let begin : tie.Start Inv-loop μ-loop = search in
-    let l = c .before .before .before .loop in
-    omega (arith, l .inv .0, l .inv .1 .near, begin .pre .1, c .before .before .loop-test .taken)
+    let in-loop : tie.In-loop Inv-loop μ-loop = search in
+    let turn : tie.At-loop Inv-loop μ-loop = search in
+    let l = turn .loop in
+    let t = c .told-after in
+    let d = spelt-most 1 20 (t .result) (omega (arith, t .ensures, begin .pre .0)) in
+    omega (arith, l .inv .0, l .inv .1 .near, begin .pre .2, in-loop .loop-test .taken)
 
 loop-again : tie.Need-loop-again Inv-loop μ-loop
 loop-again c =
@@ -49,14 +54,18 @@ loop-again c =
     let a = begin .args in
     let l = turn .loop in
     let p = c .before .before .put-output in
+    let at-told-after : tie.After-told-after Inv-loop μ-loop = search in
+    let t = at-told-after .told-after in
+    let d = spelt-most 1 20 (t .result) (omega (arith, t .ensures, begin .pre .0)) in
     let y : ℤ = getD (a .given .now) (l .i) (pos 0) in
     let ys = take (a .count) (a .given .now) in
-    let n : length ys ≡ a .count = length-take-le (a .count) (a .given .now) (begin .pre .0) in
+    let n : length ys ≡ a .count = length-take-le (a .count) (a .given .now) (begin .pre .1) in
     let e : toZ w32 (ofZ w32 y) ≡ getD ys (l .i) (pos 0) = read w32 y (at-y .y .given)
     ∙ sym (getD-take (a .count) (a .given .now) (l .i) (pos 0) (in-loop .loop-test .taken)) in (
       p .kept .0 ∙ l .inv .0,
-      writing-on (a .out .now) (a .at) ys (a .unsettled) (omega (arith, begin .pre .1)) (l .out) (p .last .0)
-          (l .w) (p .result) (l .i) _ (omega (arith, in-loop .loop-test .taken)) e (l .inv .1) (p .ensures .0) (p .ensures .1),
+      writing-on (a .out .now) (a .at) ys (a .told) (omega (arith, begin .pre .2)) (l .out) (p .last .0)
+          (l .w) (p .result) (l .i) _ (omega (arith, in-loop .loop-test .taken)) e (l .inv .1) (rw (t .ensures) at (p .ensures .0))
+          (omega (arith, p .ensures .1, d)),
     )
 
 same-length : tie.Need-same-length Inv-loop μ-loop
@@ -67,13 +76,13 @@ returns c =
     let a = c .before .before .before .args in
     let l = c .before .loop in
     let ys = take (a .count) (a .given .now) in
-    let n : length ys ≡ a .count = length-take-le (a .count) (a .given .now) (c .before .before .before .pre .0) in (
-      writing-done (a .out .now) (a .at) ys (a .unsettled) (omega (arith, c .before .before .before .pre .1)) (l .out) (l .w) (l .i)
+    let n : length ys ≡ a .count = length-take-le (a .count) (a .given .now) (c .before .before .before .pre .1) in (
+      writing-done (a .out .now) (a .at) ys (a .told) (omega (arith, c .before .before .before .pre .2)) (l .out) (l .w) (l .i)
           (omega arith) (l .inv .1),
       omega (arith, l .inv .1 .near, l .inv .1 .small),
     )
 
 pub put-outputs-spec : {M : Type 1} → statement M
 put-outputs-spec =
-    tie.close (tie.spec Inv-loop μ-loop loop-holds mul-y shared-slice-copy-out-y put-output-requires (λ c. search needs)
+    tie.close (tie.spec Inv-loop μ-loop loop-holds mul-y shared-slice-copy-out-y (λ c κs. search needs) put-output-requires (λ c. search needs)
     (λ c. search needs) loop-again same-length returns)

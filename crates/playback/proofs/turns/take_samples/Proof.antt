@@ -11,7 +11,7 @@ use borrow.Author.Tests.{not-false}
 use borrow.Author.Needs.{needs}
 use Rattle.text.proofs.Putting.{wrote-same}
 use Rattle.playback.specs.Inner.Advances.{outputLines}
-use Rattle.playback.proofs.Blocks.{turn-same, all-ready, block-few, turn-block}
+use Rattle.playback.proofs.Blocks.{turn-same, all-ready, block-few, block-most, turn-block}
 use Rattle.playback.proofs.turns.take_samples.Statement.{statement}
 use Rattle.playback.proofs.turns.take_samples.Tie as tie
 
@@ -71,7 +71,10 @@ put-outputs-requires c κs =
     let w = at-wrote .wrote .given in
     let few = block-few (a .r .session .filter) (g .last .1 .1 .0) (a .given .now) (g .result .count) (enough m) (long8 s)
     (long64 s) (d .result) (d .ensures .0) (w .0 .0) (w .1) in
+    let most = block-most (a .r .session .filter) (g .last .1 .1 .0) (a .given .now) (g .result .count) (enough m) (long8 s)
+    (long64 s) (d .result) (d .ensures .0) (w .0 .0) (w .1) in
     let fits = s .pre .2 .fits (was-ready m .0) in (
+      most,
       omega (arith, few, g .ensures .few, d .kept .1 .1 .0, s .pre .4),
       omega (arith, few, fits, g .ensures .far, g .ensures .within, length-drop (a .from) (a .input .now)),
     )
@@ -98,8 +101,7 @@ returns-3 c =
     (a .r) refl (a .input .now) (a .out .now) (a .from) (a .at) (was-ready m .1) (was-ready m .0) (was-ready m .2) (lines s)
     (outs s) (s .pre .2) (g .result .next) (g .ensures)
     (c .after-block .result) (c .after-block .ensures .0) (c .after-block .ensures .1) (p .result) (p .last .0) (p .kept .0)
-    (wrote-same (ap (λ (l : List ℤ). outputLines (w .0 .0 .unsettled) (take (w .0 .0 .count) l)) (d .ensures .1)) (p .ensures .0))
-    (p .ensures .1)
+    (wrote-same (ap (λ (l : List ℤ). outputLines (w .0 .0 .told) (take (w .0 .0 .count) l)) (d .ensures .1)) (p .ensures .0)) (p .ensures .1)
 
 pub take-samples-spec : {M : Type 1} → statement M
 take-samples-spec =
