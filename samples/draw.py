@@ -1,5 +1,6 @@
 #!/usr/bin/env python3
-"""Draws what a replay gave out as a picture (SVG): the trace, unsettled outputs on a shaded ground, a refusal as a message.
+"""Draws what a replay gave out as a picture (SVG): the trace, on a band that fades as the unsettled outputs count down, each with the
+count that it tells, and a refusal as a message.
 
     samples/replay < samples/pulled_plug.txt | python3 samples/draw.py > plug.svg
 """
@@ -17,12 +18,12 @@ MEANING = {
 
 
 def read(text):
-    """The outputs as (value, settled), and the last line's message."""
+    """The outputs as (value, told), and the last line's message."""
     outputs, message = [], "cut short: neither `end` nor `bad`"
     for line in text.split("\n"):
         fields = line.split("\t")
         if fields[0] == "y":
-            outputs.append((int(fields[1]), fields[2] == "1"))
+            outputs.append((int(fields[1]), int(fields[2])))
         elif fields[0] == "bad":
             message = "refused at line %s: %s, %s" % (fields[1], fields[2], MEANING.get(fields[2], "no number of the program's"))
         elif fields[0] == "end":
@@ -38,15 +39,15 @@ def scales(values):
     return (lambda i: EDGE + step * (i + 0.5)), (lambda v: HEIGHT - EDGE - (HEIGHT - 2 * EDGE) * (v - low) / span), step, low, high
 
 
-def unsettled(outputs):
-    """The stretches of outputs that are not to be believed, as (first, behind the last)."""
-    first = None
-    for i, (_, settled) in enumerate(outputs + [(0, True)]):
-        if not settled and first is None:
-            first = i
-        elif settled and first is not None:
-            yield first, i
-            first = None
+def countdown(outputs):
+    """The outputs that are not to be believed, as (place, told, the count at which their countdown began)."""
+    began = before = 0
+    for i, (_, told) in enumerate(outputs):
+        if told != before - 1:
+            began = told
+        before = told
+        if told:
+            yield i, told, began
 
 
 def text(x, y, words, anchor="start", size=13):
@@ -57,19 +58,21 @@ def draw(outputs, message):
     at, level, step, low, high = scales([v for v, _ in outputs])
     parts = ['<svg xmlns="http://www.w3.org/2000/svg" width="%d" height="%d">' % (WIDTH, HEIGHT)]
     parts.append('<rect width="%d" height="%d" fill="white"/>' % (WIDTH, HEIGHT))
-    for first, stop in unsettled(outputs):
-        place = (at(first) - step / 2, EDGE, step * (stop - first), HEIGHT - 2 * EDGE)
-        parts.append('<rect x="%.1f" y="%d" width="%.1f" height="%d" fill="#f3c9a5"/>' % place)
+    for i, told, began in countdown(outputs):
+        place = (at(i) - step / 2, EDGE, step, HEIGHT - 2 * EDGE, 0.15 + 0.85 * told / began)
+        parts.append('<rect x="%.1f" y="%d" width="%.1f" height="%d" fill="#f0a868" fill-opacity="%.2f"/>' % place)
+        if step >= 7 * len(str(told)):
+            parts.append(text(at(i), EDGE + 14, str(told), "middle", 11))
     parts.append('<rect x="%d" y="%d" width="%d" height="%d" fill="none" stroke="#888"/>' % (EDGE, EDGE, WIDTH - 2 * EDGE, HEIGHT - 2 * EDGE))
     if outputs:
         points = " ".join("%.1f,%.1f" % (at(i), level(v)) for i, (v, _) in enumerate(outputs))
         parts.append('<polyline points="%s" fill="none" stroke="#1f4e79" stroke-width="1.4"/>' % points)
         parts.append(text(EDGE, EDGE - 6, str(high), size=11))
         parts.append(text(EDGE, HEIGHT - EDGE + 14, str(low), size=11))
-    shaded = sum(not settled for _, settled in outputs)
+    banded = sum(told > 0 for _, told in outputs)
     parts.append(text(WIDTH - EDGE, HEIGHT - 12, message, "end"))
-    if shaded:
-        parts.append(text(WIDTH - EDGE, EDGE - 6, "shaded: %d outputs not to be believed" % shaded, "end", 11))
+    if banded:
+        parts.append(text(WIDTH - EDGE, EDGE - 6, "band: %d outputs not to be believed, counting down" % banded, "end", 11))
     return "\n".join(parts + ["</svg>", ""])
 
 

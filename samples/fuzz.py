@@ -109,9 +109,9 @@ def live(program):
     """What has been answered is there before more is asked for; a line is refused at its 65th byte, the pipe still open."""
     run = subprocess.Popen([program], stdin=subprocess.PIPE, stdout=subprocess.PIPE, bufsize=0)
     run.stdin.write(b"cic\t0\t1\t0\nx\t5\nx")
-    assert run.stdout.readline() == b"y\t5\t1\n"
+    assert run.stdout.readline() == b"y\t5\t0\n"
     run.stdin.write(b"\t6\n")
-    assert run.stdout.readline() == b"y\t6\t1\n"
+    assert run.stdout.readline() == b"y\t6\t0\n"
     run.stdin.write(b"a" * 65)
     assert run.stdout.readline() == b"bad\t4\t72\n" and run.wait() == 0
     run.stdin.close()
@@ -125,7 +125,7 @@ def failing(program):
     into, out_of = os.pipe2(os.O_NONBLOCK)
     os.write(out_of, b"cic\t0\t1\t0\nx\t5\nx")
     run = subprocess.Popen([program], stdin=into, stdout=subprocess.PIPE)
-    assert run.communicate(timeout=60)[0] == b"y\t5\t1\n"
+    assert run.communicate(timeout=60)[0] == b"y\t5\t0\n"
     os.close(out_of)
     os.close(into)
     with open("/dev/full", "wb") as full:

@@ -43,7 +43,7 @@ def torsion():
 
 def pulled_plug():
     """The plug is pulled for a quarter turn: the samples freeze, and jump when it is pushed back. The operator's `rate` record
-    follows; the next N·M = 6 outputs are marked 0, and after them the trace may be believed again."""
+    follows; the next N·M = 6 outputs tell 6 down to 1, and after them the trace may be believed again."""
     before = counts(0, TURN, ORDERS)
     frozen = [before[-1]] * 160
     after = counts(TURN + 160, 2 * TURN, ORDERS)

@@ -1,4 +1,4 @@
-"""The replay program in plain Python, written from document 01 alone: a model to hold the proved program against.
+"""The replay program in plain Python, written from documents 01 and 02 alone: a model to hold the proved program against.
 
 replay(input) takes and gives bytes.
 """
@@ -48,9 +48,9 @@ class Cic:
         for line in self.lines:
             line.append(x)
             x = signed(x - line.pop(0))
-        settled = self.unsettled == 0
-        self.unsettled = max(0, self.unsettled - 1)
-        return x, settled
+        told = self.unsettled
+        self.unsettled = max(0, told - 1)
+        return x, told
 
 
 def number(field, low, high):
@@ -96,7 +96,7 @@ def taken(cic, line, out):
     else:
         given = cic.step(*numbers)
         if given is not None:
-            out.append(b"y\t%d\t%d\n" % (given[0], given[1]))
+            out.append(b"y\t%d\t%d\n" % given)
     return cic
 
 

@@ -50,7 +50,7 @@ impl Cic {
         self.combs = [[0; 8]; 8];
     }
 
-    fn decimate(&mut self, x: i32) -> Option<(i32, bool)> {
+    fn decimate(&mut self, x: i32) -> Option<(i32, usize)> {
         let mut acc = x;
         for cell in self.integrators[..self.order].iter_mut() {
             *cell = cell.wrapping_add(acc);
@@ -67,9 +67,9 @@ impl Cic {
             line[self.delay - 1] = acc;
             acc = acc.wrapping_sub(oldest);
         }
-        let settled = self.unsettled == 0;
-        self.unsettled = self.unsettled.saturating_sub(1);
-        Some((acc, settled))
+        let told = self.unsettled;
+        self.unsettled = told.saturating_sub(1);
+        Some((acc, told))
     }
 }
 
@@ -117,13 +117,19 @@ fn put_decimal(out: &mut Vec<u8>, n: u64) {
     out.extend_from_slice(&text[i..]);
 }
 
-fn put_output(out: &mut Vec<u8>, value: i32, settled: bool) {
+fn put_output(out: &mut Vec<u8>, value: i32, told: usize) {
     out.extend_from_slice(b"y\t");
     if value < 0 {
         out.push(b'-');
     }
     put_decimal(out, value.unsigned_abs() as u64);
-    out.extend_from_slice(if settled { b"\t1\n" } else { b"\t0\n" });
+    if told == 0 {
+        out.extend_from_slice(b"\t0\n");
+        return;
+    }
+    out.push(b'\t');
+    put_decimal(out, told as u64);
+    out.push(b'\n');
 }
 
 struct Replay {
@@ -143,9 +149,9 @@ impl Replay {
                 let (Some(v), None) = (fields.next(), fields.next()) else { return Err(70) };
                 let v = integer(v).ok_or(70u32)?;
                 let filter = self.filter.as_mut().ok_or(71u32)?;
-                if let Some((value, settled)) = filter.decimate(v) {
+                if let Some((value, told)) = filter.decimate(v) {
                     self.outputs += 1;
-                    put_output(out, value, settled);
+                    put_output(out, value, told);
                 }
             }
             b"rate" => {

@@ -14,7 +14,7 @@ fn after_the_plug(filter: Cic, input: &[i32], out: &mut [i32]) -> usize {
     let Wrote::Outputs(written) = wrote else {
         return 0;
     };
-    settled_part(out, written.count, written.unsettled).len()
+    settled_part(out, written.count, written.told).len()
 }
 
 fn main() {

@@ -51,29 +51,27 @@ computed (difference y x delta sign) = difference y x (differenceOf y x .delta) 
 computed (unwrapper xs y count) = unwrapper xs (unwrapperAfter (record { y = pos 0 }) xs .y)
     (turnsOf (unwrapperAfter (record { y = pos 0 }) xs .y))
 
-abbrev pub settledOutput : ℤ → Output ℤ
-settledOutput v = record { value = v; settled = true }
-
-abbrev pub unsettledOutput : ℤ → Output ℤ
-unsettledOutput v = record { value = v; settled = false }
+-- an output with the count it is told
+abbrev pub told : ℤ → ℕ → Output ℤ
+told v n = record { value = v; told = n }
 
 unfoldable pub table : List Figure
 table =
     -- T1 N 0, rate 0: input 7 gives 7.
-    decimator (newState i32 0 1 0) (pos 7 ∷ []) (settledOutput (pos 7) ∷ [])
-    -- T2 the whole case: `cic 1 1 1`, `x 3`, `x 5`, `x -2` gives `y 3 1`, `y 3 1`, `end 2`; the filter's part, then the bytes.
-    ∷ decimator (newState i32 1 1 1) (pos 3 ∷ pos 5 ∷ negsuc 1 ∷ []) (settledOutput (pos 3) ∷ settledOutput (pos 3) ∷ [])
+    decimator (newState i32 0 1 0) (pos 7 ∷ []) (told (pos 7) 0 ∷ [])
+    -- T2 the whole case: `cic 1 1 1`, `x 3`, `x 5`, `x -2` gives `y 3 0`, `y 3 0`, `end 2`; the filter's part, then the bytes.
+    ∷ decimator (newState i32 1 1 1) (pos 3 ∷ pos 5 ∷ negsuc 1 ∷ []) (told (pos 3) 0 ∷ told (pos 3) 0 ∷ [])
     ∷ program
     (bytes "cic\t1\t1\t1\nx\t3\nx\t5\nx\t-2\n")
-    (bytes "y\t3\t1\ny\t3\t1\nend\t2\n")
+    (bytes "y\t3\t0\ny\t3\t0\nend\t2\n")
     -- T3 N 2, M 1, rate 1, inputs 1,0,0,0,0: outputs 1, 1, 0.
     ∷ decimator (newState i32 2 1 1) (pos 1 ∷ pos 0 ∷ pos 0 ∷ pos 0 ∷ pos 0 ∷ [])
-    (settledOutput (pos 1) ∷ settledOutput (pos 1) ∷ settledOutput (pos 0) ∷ [])
+    (told (pos 1) 0 ∷ told (pos 1) 0 ∷ told (pos 0) 0 ∷ [])
     -- T4 N 1, rate 1, three inputs 2147483647: outputs 2147483647, -2.
-    ∷ decimator (newState i32 1 1 1) (replicate 3 (pos 2147483647)) (settledOutput (pos 2147483647) ∷ settledOutput (negsuc 1) ∷ [])
-    -- T5 resume N 1, M 1, rate 1, countdown 0, integrator 100, cell 40; inputs 3, 5, -2: 63 unsettled, 3 settled.
+    ∷ decimator (newState i32 1 1 1) (replicate 3 (pos 2147483647)) (told (pos 2147483647) 0 ∷ told (negsuc 1) 0 ∷ [])
+    -- T5 resume N 1, M 1, rate 1, countdown 0, integrator 100, cell 40; inputs 3, 5, -2: 63 told 1, 3 told 0.
     ∷ decimator (resumeState i32 1 1 1 (pos 100 ∷ replicate 7 (pos 0)) (pos 40 ∷ replicate 63 (pos 0)) (pos 0) 0)
-    (pos 3 ∷ pos 5 ∷ negsuc 1 ∷ []) (unsettledOutput (pos 63) ∷ settledOutput (pos 3) ∷ [])
+    (pos 3 ∷ pos 5 ∷ negsuc 1 ∷ []) (told (pos 63) 1 ∷ told (pos 3) 0 ∷ [])
     -- T6 interpolator N 1, rate 1, samples 4 and 6: 4, 8, 10, 12.
     ∷ interpolator (newState i32 1 1 1) (pos 4 ∷ pos 6 ∷ []) (pos 4 ∷ pos 8 ∷ pos 10 ∷ pos 12 ∷ [])
     -- T7 K 1, x 2^31: 0, 1, 0, 1. T8 K 2, same x: 0, 1, 1, 0.
