@@ -62,7 +62,7 @@ def draw(outputs, message):
         place = (at(i) - step / 2, EDGE, step, HEIGHT - 2 * EDGE, 0.15 + 0.85 * told / began)
         parts.append('<rect x="%.1f" y="%d" width="%.1f" height="%d" fill="#f0a868" fill-opacity="%.2f"/>' % place)
         if step >= 7 * len(str(told)):
-            parts.append(text(at(i), EDGE + 14, str(told), "middle", 11))
+            parts.append(text(at(i), HEIGHT - EDGE + 14, str(told), "middle", 11))
     parts.append('<rect x="%d" y="%d" width="%d" height="%d" fill="none" stroke="#888"/>' % (EDGE, EDGE, WIDTH - 2 * EDGE, HEIGHT - 2 * EDGE))
     if outputs:
         points = " ".join("%.1f,%.1f" % (at(i), level(v)) for i, (v, _) in enumerate(outputs))
