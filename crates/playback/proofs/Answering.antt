@@ -1,7 +1,7 @@
 -- The output's lines: how long they are, and that they are put together from their fields.
 use native.Mathlib.Omega.{arith}
 use mathlib.Core.Path.{_≡_, sym, ap, _∙_}
-use mathlib.Core.List.{List, [], _∷_, _++_, append-assoc}
+use mathlib.Core.List.{List, [], _∷_, _++_}
 use Prim.Native.Nat.{ℕ, _+_, _-_, _^_, _≤_, _<_}
 use lib.IntN.{ℤ}
 use lib.ListN.{length, drop, length-append}
@@ -11,9 +11,9 @@ use borrow.Author.Tests.{lt-ltb, le-ltb}
 use Rattle.text.specs.Letters.{bytes, tab, newline}
 use Rattle.text.specs.Numbers.{spelt, decimalOf, signedOf}
 use Rattle.text.specs.Writing.{overlaid, Wrote, Puts}
-use Rattle.text.proofs.Putting.{written, then-puts, wrote-same}
+use Rattle.text.proofs.Putting.{written, then, then-puts}
 use Rattle.text.proofs.Spelling.{spelt-short, decimal-most, signed-most}
-use Rattle.playback.specs.Replays.{outputLine, endLine, badLine}
+use Rattle.playback.specs.Replays.{lastField, outputLine, endLine, badLine}
 use Rattle.playback.specs.Places as Places
 use Rattle.playback.specs.Places.{frontWritten, answerNumber}
 use Rattle.playback.specs.declared.answers.BytesPut.{BytesPut}
@@ -37,24 +37,32 @@ module _ (o : List ℕ) (at : ℕ) where
       let w₃ : Wrote o at (bytes "y\t" ++ (signedOf v ++ bytes "\t0\n")) r o₃ = then-puts (omega arith) w₂ z in
       (rw e w₃, omega (arith, w₃ .next, length-append (signedOf v) (bytes "\t0\n")))
 
-  pub output-wrote : (v : ℤ) (told a b c d r : ℕ) (o₁ o₂ o₃ o₄ o₅ : List ℕ) → SFits w32 v → at + 15 + length (decimalOf told) ≤ length o
-      → Puts o at (bytes "y\t") a o₁ → Puts o₁ a (signedOf v) b o₂ → Puts o₂ b (tab ∷ []) c o₃
-      → Puts o₃ c (decimalOf told) d o₄ → Puts o₄ d (newline ∷ []) r o₅
-      → Wrote o at (outputLine v told) r o₅ × (r ≤ at + 15 + length (decimalOf told))
+  pub last-wrote : (n a b r : ℕ) (o₁ o₂ o₃ : List ℕ) → at + 2 + length (decimalOf n) ≤ length o
+      → Puts o at (tab ∷ []) a o₁ → Puts o₁ a (decimalOf n) b o₂ → Puts o₂ b (newline ∷ []) r o₃ → Wrote o at (lastField n) r o₃
+  last-wrote n a b r o₁ o₂ o₃ h x y z =
+      let w₁ : Wrote o at (tab ∷ []) a o₁ = written o at (tab ∷ []) a o₁ (omega arith) x in
+      let w₂ : Wrote o at ((tab ∷ []) ++ decimalOf n) b o₂ = then-puts (omega arith) w₁ y in
+      then-puts (omega arith) w₂ z
+
+  pub output-wrote : (v : ℤ) (told a b r : ℕ) (o₁ o₂ o₃ : List ℕ) → SFits w32 v → at + 15 + length (decimalOf told) ≤ length o
+      → Puts o at (bytes "y\t") a o₁ → Puts o₁ a (signedOf v) b o₂ → Wrote o₂ b (lastField told) r o₃
+      → Wrote o at (outputLine v told) r o₃ × (r ≤ at + 15 + length (decimalOf told))
   unfolding outputLine
-  output-wrote v told a b c d r o₁ o₂ o₃ o₄ o₅ f h x y z s t =
+  output-wrote v told a b r o₁ o₂ o₃ f h x y z =
       let n = signed-most v f in
-      let p₂ : List ℕ = bytes "y\t" ++ signedOf v in
-      let p₃ : List ℕ = p₂ ++ (tab ∷ []) in
-      let n₃ : length p₃ ≡ length p₂ + 1 = length-append p₂ (tab ∷ []) in
-      let p₄ : List ℕ = p₃ ++ decimalOf told in
-      let n₄ : length p₄ ≡ length p₃ + length (decimalOf told) = length-append p₃ (decimalOf told) in
       let w₁ : Wrote o at (bytes "y\t") a o₁ = written o at (bytes "y\t") a o₁ (omega arith) x in
-      let w₂ : Wrote o at p₂ b o₂ = then-puts (omega arith) w₁ y in
-      let w₃ : Wrote o at p₃ c o₃ = then-puts (omega arith) w₂ z in
-      let w₄ : Wrote o at p₄ d o₄ = then-puts (omega arith) w₃ s in
-      let w₅ : Wrote o at (p₄ ++ (newline ∷ [])) r o₅ = then-puts (omega arith) w₄ t in
-      (wrote-same (simp append-assoc) w₅, omega (arith, w₅ .next, length-append p₄ (newline ∷ [])))
+      let w₂ : Wrote o at (bytes "y\t" ++ signedOf v) b o₂ = then-puts (omega arith) w₁ y in
+      let w₃ : Wrote o at (bytes "y\t" ++ (signedOf v ++ lastField told)) r o₃ = then (omega arith) w₂ z in
+      (w₃, omega (arith, w₃ .next, length-append (signedOf v) (lastField told), length-append (decimalOf told) (newline ∷ [])))
+
+  -- where the part before the last field ends
+  pub field-place : (v : ℤ) (a b : ℕ) (o₁ o₂ : List ℕ) → SFits w32 v → at + 15 ≤ length o → Puts o at (bytes "y\t") a o₁
+      → Puts o₁ a (signedOf v) b o₂ → b ≤ at + 13
+  field-place v a b o₁ o₂ f h x y =
+      let n = signed-most v f in
+      let w₁ : Wrote o at (bytes "y\t") a o₁ = written o at (bytes "y\t") a o₁ (omega arith) x in
+      let w₂ : Wrote o at (bytes "y\t" ++ signedOf v) b o₂ = then-puts (omega arith) w₁ y in
+      omega (arith, w₂ .next)
 
   pub end-wrote : (n a b r : ℕ) (o₁ o₂ o₃ : List ℕ) → at + 36 ≤ length o
       → Puts o at (bytes "end\t") a o₁ → Puts o₁ a (decimalOf n) b o₂ → Puts o₂ b (newline ∷ []) r o₃ → Wrote o at (endLine n) r o₃
@@ -67,25 +75,25 @@ module _ (o : List ℕ) (at : ℕ) where
       let w₃ : Wrote o at (bytes "end\t" ++ (decimalOf n ++ (newline ∷ []))) r o₃ = then-puts (omega arith) w₂ z in
       (w₃, omega (arith, w₃ .next, length-append (decimalOf n) (newline ∷ [])))
 
-  pub bad-wrote : (line number a b c d r : ℕ) (o₁ o₂ o₃ o₄ o₅ : List ℕ) → number < 2 ^ 32 → at + 36 ≤ length o
-      → Puts o at (bytes "bad\t") a o₁ → Puts o₁ a (decimalOf line) b o₂ → Puts o₂ b (tab ∷ []) c o₃
-      → Puts o₃ c (decimalOf number) d o₄ → Puts o₄ d (newline ∷ []) r o₅
-      → Wrote o at (badLine line number) r o₅ × (r ≤ at + 36)
+  pub bad-wrote : (line number a b r : ℕ) (o₁ o₂ o₃ : List ℕ) → number < 2 ^ 32 → at + 36 ≤ length o
+      → Puts o at (bytes "bad\t") a o₁ → Puts o₁ a (decimalOf line) b o₂ → Wrote o₂ b (lastField number) r o₃
+      → Wrote o at (badLine line number) r o₃ × (r ≤ at + 36)
   unfolding badLine
-  bad-wrote line number a b c d r o₁ o₂ o₃ o₄ o₅ f h x y z u v =
+  bad-wrote line number a b r o₁ o₂ o₃ f h x y z =
       let k = short line in
       let l = decimal-most number f in
-      let p₂ : List ℕ = bytes "bad\t" ++ decimalOf line in
-      let p₃ : List ℕ = p₂ ++ (tab ∷ []) in
-      let n₃ : length p₃ ≡ length p₂ + 1 = length-append p₂ (tab ∷ []) in
-      let p₄ : List ℕ = p₃ ++ decimalOf number in
-      let n₄ : length p₄ ≡ length p₃ + length (decimalOf number) = length-append p₃ (decimalOf number) in
       let w₁ : Wrote o at (bytes "bad\t") a o₁ = written o at (bytes "bad\t") a o₁ (omega arith) x in
-      let w₂ : Wrote o at p₂ b o₂ = then-puts (omega arith) w₁ y in
-      let w₃ : Wrote o at p₃ c o₃ = then-puts (omega arith) w₂ z in
-      let w₄ : Wrote o at p₄ d o₄ = then-puts (omega arith) w₃ u in
-      let w₅ : Wrote o at (p₄ ++ (newline ∷ [])) r o₅ = then-puts (omega arith) w₄ v in
-      (wrote-same (simp append-assoc) w₅, omega (arith, w₅ .next, length-append p₄ (newline ∷ [])))
+      let w₂ : Wrote o at (bytes "bad\t" ++ decimalOf line) b o₂ = then-puts (omega arith) w₁ y in
+      let w₃ : Wrote o at (bytes "bad\t" ++ (decimalOf line ++ lastField number)) r o₃ = then (omega arith) w₂ z in
+      (w₃, omega (arith, w₃ .next, length-append (decimalOf line) (lastField number), length-append (decimalOf number) (newline ∷ [])))
+
+  pub bad-place : (line a b : ℕ) (o₁ o₂ : List ℕ) → at + 36 ≤ length o → Puts o at (bytes "bad\t") a o₁ → Puts o₁ a (decimalOf line) b o₂
+      → b ≤ at + 24
+  bad-place line a b o₁ o₂ h x y =
+      let k = short line in
+      let w₁ : Wrote o at (bytes "bad\t") a o₁ = written o at (bytes "bad\t") a o₁ (omega arith) x in
+      let w₂ : Wrote o at (bytes "bad\t" ++ decimalOf line) b o₂ = then-puts (omega arith) w₁ y in
+      omega (arith, w₂ .next)
 
 -- at the front of a slice
 pub front : (o bs o' : List ℕ) (r : ℕ) → Wrote o 0 bs r o' → (r ≡ length bs) × (o' ≡ bs ++ drop (length bs) o)

@@ -16,9 +16,13 @@ use Rattle.records.specs.declared.session.Session.{Session}
 use Rattle.records.specs.declared.session.Reply.{Reply}
 use Rattle.records.specs.declared.session.Reply.the-variants as Reply
 
+-- A line's last field, where it is a number.
+abbrev pub lastField : ℕ → List ℕ
+lastField n = tab ∷ (decimalOf n ++ (newline ∷ []))
+
 -- 02, A3: each output gives `y`, value and the count that it tells, 0 where it is settled.
 unfoldable pub outputLine : ℤ → ℕ → List ℕ
-outputLine value told = bytes "y\t" ++ (signedOf value ++ (tab ∷ (decimalOf told ++ (newline ∷ []))))
+outputLine value told = bytes "y\t" ++ (signedOf value ++ lastField told)
 
 -- At the end of input: `end` and the count of outputs.
 unfoldable pub endLine : ℕ → List ℕ
@@ -26,7 +30,7 @@ endLine outputs = bytes "end\t" ++ (decimalOf outputs ++ (newline ∷ []))
 
 -- At a refusal: `bad`, line number from 1, refusal number,
 unfoldable pub badLine : ℕ → ℕ → List ℕ
-badLine line number = bytes "bad\t" ++ (decimalOf line ++ (tab ∷ (decimalOf number ++ (newline ∷ []))))
+badLine line number = bytes "bad\t" ++ (decimalOf line ++ lastField number)
 
 -- and it stops without `end`. Else the rest follows, told how many outputs there were.
 abbrev pub answered : Reply → ℕ → ℕ → (ℕ → List ℕ) → List ℕ

@@ -11,7 +11,7 @@ ghost use Prim.Native.Nat.{_+_, _≤_};
 ghost use lib.ListN.{length};
 ghost use Rattle.text.specs.Numbers.{decimalOf};
 ghost use Rattle.text.specs.Writing.{Wrote};
-ghost use Rattle.playback.specs.Replays.{outputLine, endLine, badLine};
+ghost use Rattle.playback.specs.Replays.{lastField, outputLine, endLine, badLine};
 ghost use Rattle.playback.specs.Places.{replyBytes, goesOn, answerNumber, Writes};
 ghost use Rattle.playback.specs.Inner.Advances.{lineRoom};
 
@@ -19,6 +19,16 @@ ghost use Rattle.playback.specs.Inner.Advances.{lineRoom};
 pub struct BytesPut {
     pub count: usize,
     pub verdict: Verdict,
+}
+
+// A line's last field: a tab, a number and the newline.
+fn put_last(out: &mut [u8], at: usize, n: u64) -> usize
+    requires { ⌜ at + 2 + length (decimalOf n) ≤ length (now out) ⌝ }
+    ensures { λ r. ⌜ Wrote (now (out .entry)) at (lastField n) r (now (out .exit)) ⌝ }
+{
+    let a = put_byte(out, at, b'\t');
+    let b = put_decimal(out, a, n);
+    put_byte(out, b, b'\n')
 }
 
 // `y`, value, the count told.
@@ -32,9 +42,7 @@ pub(crate) fn put_output(out: &mut [u8], at: usize, value: i32, told: usize) -> 
     if told == 0 {
         return put_bytes(out, b, b"\t0\n");
     }
-    let c = put_byte(out, b, b'\t');
-    let d = put_decimal(out, c, told as u64);
-    put_byte(out, d, b'\n')
+    put_last(out, b, told as u64)
 }
 
 // `bad`, line number from 1, refusal number.
@@ -44,9 +52,7 @@ pub(crate) fn put_bad(out: &mut [u8], at: usize, line: u64, number: u32) -> usiz
 {
     let a = put_bytes(out, at, b"bad\t");
     let b = put_decimal(out, a, line);
-    let c = put_byte(out, b, b'\t');
-    let d = put_decimal(out, c, number as u64);
-    put_byte(out, d, b'\n')
+    put_last(out, b, number as u64)
 }
 
 // `end` and the count of outputs.

@@ -1,8 +1,9 @@
 -- Each part is put behind the one before; a count of 0 with its tab and newline in one.
+use native.Mathlib.Omega.{arith}
 use mir.Syntax.{w32}
 use mir.ValLaws.{toZ-ofZ}
 use borrow.Author.Needs.{needs}
-use Rattle.playback.proofs.Answering.{settled-wrote, output-wrote}
+use Rattle.playback.proofs.Answering.{settled-wrote, output-wrote, field-place}
 use Rattle.playback.proofs.answers.put_output.Statement.{statement}
 use Rattle.playback.proofs.answers.put_output.Tie as tie
 
@@ -17,20 +18,27 @@ returns c =
     (at-put-bytes .put-bytes .ensures) (rw (toZ-ofZ w32 (a .value) (begin .fits .value)) at (at-put-signed .put-signed .ensures))
     (c .before .before .put-bytes2 .ensures)
 
-returns-2 : tie.Need-returns-2
-returns-2 c =
-    let at-put-decimal : tie.After-put-decimal = search in
-    let at-put-byte : tie.After-put-byte = search in
+put-last-requires : tie.Need-put-last-requires
+put-last-requires c κs =
     let at-put-signed : tie.After-put-signed = search in
     let at-put-bytes : tie.After-put-bytes = search in
     let begin : tie.Start = search in
     let a = begin .args in
-    output-wrote (a .out .now) (a .at) (a .value) (a .told) _ _ _ _ _ _ _ _ _ _ (begin .fits .value) (begin .pre)
+    let place = field-place (a .out .now) (a .at) (a .value) _ _ _ _ (begin .fits .value) (omega (arith, begin .pre))
+    (at-put-bytes .put-bytes .ensures) (rw (toZ-ofZ w32 (a .value) (begin .fits .value)) at (at-put-signed .put-signed .ensures)) in
+    omega (arith, place, begin .pre, at-put-signed .put-signed .kept .0, at-put-bytes .put-bytes .kept .0)
+
+returns-2 : tie.Need-returns-2
+returns-2 c =
+    let at-put-signed : tie.After-put-signed = search in
+    let at-put-bytes : tie.After-put-bytes = search in
+    let begin : tie.Start = search in
+    let a = begin .args in
+    output-wrote (a .out .now) (a .at) (a .value) (a .told) _ _ _ _ _ _ (begin .fits .value) (begin .pre)
     (at-put-bytes .put-bytes .ensures) (rw (toZ-ofZ w32 (a .value) (begin .fits .value)) at (at-put-signed .put-signed .ensures))
-    (at-put-byte .put-byte .ensures) (at-put-decimal .put-decimal .ensures) (c .before .before .put-byte2 .ensures)
+    (c .before .before .put-last .ensures)
 
 pub put-output-spec : {M : Type 1} → statement M
 put-output-spec =
     tie.close (tie.spec (λ c. search needs) (λ c κs. search needs) (λ c κs. search needs) (λ c. search needs)
-    (λ c κs. search needs) (λ c. search needs) returns (λ c κs. search needs) (λ c κs. search needs) (λ c κs. search needs)
-    (λ c. search needs) returns-2)
+    (λ c κs. search needs) (λ c. search needs) returns put-last-requires (λ c. search needs) returns-2)
