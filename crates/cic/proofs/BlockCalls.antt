@@ -16,7 +16,8 @@ use Rattle.cic.specs.Answers.{decimatedOf, filledOf}
 
 module _ (s : Cic) (xs out : List ℤ) (t : State ℤ) (left : List ℤ) where
   pub decimated : (w : Wrote)
-      → (t ≡ blockState wordOps (stateOf s) xs out) × (w ≡ blockWrote wordOps (stateOf s) xs out) × (left ≡ blockOut wordOps (stateOf s) xs out)
+      → (t ≡ blockState wordOps (stateOf s) xs out) × (w ≡ blockWrote wordOps (stateOf s) xs out)
+      × (left ≡ blockOut wordOps (stateOf s) xs out)
       → (_≡_ {A = Decimated} (record { state = cicOf t; wrote = w }) (decimatedOf s xs out)) × (left ≡ blockOut wordOps (stateOf s) xs out)
   decimated w h = (rw (h .0, h .1), h .2)
 

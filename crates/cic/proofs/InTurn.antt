@@ -48,7 +48,10 @@ module _ (s : Cic) (f : Fit (stateOf s)) (xs out : List ℤ) (e : blockNumber (s
   block-count = sym (ap length (outputs-is s xs) ∙ outputs-length wordOps (stateOf s) f xs)
 
   pub block-answer : decimatedOf s xs out
-      ≡ record { state = inTurn s xs; wrote = Outputs (record { count = length (outputsInTurn s xs); told = firstTold (outputsInTurn s xs) }) }
+      ≡ record {
+        state = inTurn s xs;
+        wrote = Outputs (record { count = length (outputsInTurn s xs); told = firstTold (outputsInTurn s xs) });
+      }
   unfolding blockState wroteOf
   block-answer = rw (e, ← inTurn-is s xs, block-count, outputs-is s xs)
 

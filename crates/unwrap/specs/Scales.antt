@@ -1,4 +1,4 @@
--- 02, A11: saturating_scale is (hi · 2 ^ 32 + lo) divided by 2 ^ shift, rounded down, then clamped to the i32 range, for all shifts 1 .. 32.
+-- 02, A11: saturating_scale is (hi · 2 ^ 32 + lo) divided by 2 ^ shift, rounded down, then clamped to the i32 range, for shifts 1 .. 32.
 use mathlib.Core.Path.{_≡_}
 use mathlib.Core.Bool.{cond, _||_}
 use Prim.Native.Nat.{ℕ, _^_}

@@ -101,7 +101,8 @@ returns-3 c =
     (a .r) refl (a .input .now) (a .out .now) (a .from) (a .at) (was-ready m .1) (was-ready m .0) (was-ready m .2) (lines s)
     (outs s) (s .pre .2) (g .result .next) (g .ensures)
     (c .after-block .result) (c .after-block .ensures .0) (c .after-block .ensures .1) (p .result) (p .last .0) (p .kept .0)
-    (wrote-same (ap (λ (l : List ℤ). outputLines (w .0 .0 .told) (take (w .0 .0 .count) l)) (d .ensures .1)) (p .ensures .0)) (p .ensures .1)
+    (wrote-same (ap (λ (l : List ℤ). outputLines (w .0 .0 .told) (take (w .0 .0 .count) l)) (d .ensures .1)) (p .ensures .0))
+    (p .ensures .1)
 
 pub take-samples-spec : {M : Type 1} → statement M
 take-samples-spec =
