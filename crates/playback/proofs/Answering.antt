@@ -1,6 +1,6 @@
 -- The output's lines: how long they are, and that they are put together from their fields.
 use native.Mathlib.Omega.{arith}
-use mathlib.Core.Path.{_≡_, sym, ap, _∙_}
+use mathlib.Core.Path.{_≡_, refl, sym, ap, _∙_}
 use mathlib.Core.List.{List, [], _∷_, _++_}
 use Prim.Native.Nat.{ℕ, _+_, _-_, _^_, _≤_, _<_}
 use lib.IntN.{ℤ}
@@ -36,6 +36,15 @@ module _ (o : List ℕ) (at : ℕ) where
       let w₂ : Wrote o at (bytes "y\t" ++ signedOf v) b o₂ = then-puts (omega arith) w₁ y in
       let w₃ : Wrote o at (bytes "y\t" ++ (signedOf v ++ bytes "\t0\n")) r o₃ = then-puts (omega arith) w₂ z in
       (rw e w₃, omega (arith, w₃ .next, length-append (signedOf v) (bytes "\t0\n")))
+
+  pub zero-wrote : (v : ℤ) (a b r : ℕ) (o₁ o₂ o₃ : List ℕ) → SFits w32 v → at + 16 ≤ length o
+      → Puts o at (bytes "y\t") a o₁ → Puts o₁ a (signedOf v) b o₂ → Puts o₂ b (bytes "\t0\n") r o₃
+      → Wrote o at (outputLine v 0) r o₃ × (r ≤ at + 16)
+  unfolding spelt
+  zero-wrote v a b r o₁ o₂ o₃ f h x y z =
+      let d : length (decimalOf 0) ≡ 1 = refl in
+      let w = settled-wrote v 0 a b r o₁ o₂ o₃ f refl (omega (arith, h, d)) x y z in
+      (w .0, omega (arith, w .1, d))
 
   pub last-wrote : (n a b r : ℕ) (o₁ o₂ o₃ : List ℕ) → at + 2 + length (decimalOf n) ≤ length o
       → Puts o at (tab ∷ []) a o₁ → Puts o₁ a (decimalOf n) b o₂ → Puts o₂ b (newline ∷ []) r o₃ → Wrote o at (lastField n) r o₃

@@ -45,6 +45,16 @@ pub(crate) fn put_output(out: &mut [u8], at: usize, value: i32, told: usize) -> 
     put_last(out, b, told as u64)
 }
 
+// The same where the count told is 0.
+pub(crate) fn put_settled(out: &mut [u8], at: usize, value: i32) -> usize
+    requires { ⌜ at + 16 ≤ length (now out) ⌝ }
+    ensures { λ r. ⌜ Wrote (now (out .entry)) at (outputLine value 0) r (now (out .exit)) × (r ≤ at + 16) ⌝ }
+{
+    let a = put_bytes(out, at, b"y\t");
+    let b = put_signed(out, a, value);
+    put_bytes(out, b, b"\t0\n")
+}
+
 // `bad`, line number from 1, refusal number.
 pub(crate) fn put_bad(out: &mut [u8], at: usize, line: u64, number: u32) -> usize
     requires { ⌜ at + 36 ≤ length (now out) ⌝ }

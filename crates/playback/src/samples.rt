@@ -1,13 +1,14 @@
 // Runs of `x` lines: their samples gathered for one block of the filter, and the block's outputs written.
 use crate::answers::put_output;
+use crate::answers::put_settled;
 use records::parse::Integer;
 use records::parse::integer_of;
 use text::numbers::parsed;
 use text::parts::part_end;
-ghost use mathlib.Core.Path.{_≡_};
 ghost use Prim.Native.Nat.{_+_, _-_, _*_, _≤_};
 ghost use lib.ListN.{length, take};
 ghost use Rattle.text.specs.Writing.{Wrote};
+ghost use Rattle.playback.specs.Replays.{outputLine};
 ghost use Rattle.playback.specs.Inner.Advances.{finds, Gathers, outputLines};
 
 // A whole line that is a sample: its value, and where the next line starts.
@@ -70,14 +71,15 @@ pub(crate) fn gather(input: &[u8], from: usize, samples: &mut [i32]) -> Gathered
     Gathered { count: k, next: i }
 }
 
-// The count told with the output i places after one that tells `told`.
-fn told_after(told: usize, i: usize) -> usize
-    ensures { λ r. ⌜ r ≡ told - i ⌝ }
+// The line of the output i places after one that tells `told`.
+fn put_next(out: &mut [u8], at: usize, value: i32, told: usize, i: usize) -> usize
+    requires { ⌜ (told ≤ 64) × (at + 17 ≤ length (now out)) ⌝ }
+    ensures { λ r. ⌜ Wrote (now (out .entry)) at (outputLine value (told - i)) r (now (out .exit)) × (r ≤ at + 17) ⌝ }
 {
     if told <= i {
-        return 0;
+        return put_settled(out, at, value);
     }
-    told - i
+    put_output(out, at, value, told - i)
 }
 
 // The output lines of a block that gave the first count of given and told this count with its first.
@@ -96,7 +98,7 @@ pub(crate) fn put_outputs(
     let mut i: usize = 0;
     while i < count {
         let y = given[i];
-        w = put_output(out, w, y, told_after(told, i));
+        w = put_next(out, w, y, told, i);
         i += 1;
     }
     w

@@ -9,7 +9,6 @@ use Prim.Native.Nat.{_-_}
 use mir.Syntax.{w32}
 use borrow.Author.Needs.{needs}
 use Rattle.words.proofs.Reading.{read}
-use Rattle.text.proofs.Spelling.{spelt-most}
 use Rattle.playback.proofs.Gathering.{Writing, writing-start, writing-on, writing-done}
 use Rattle.playback.proofs.samples.put_outputs.Statement.{statement}
 use Rattle.playback.proofs.samples.put_outputs.Tie as tie
@@ -35,15 +34,13 @@ mul-y c =
 shared-slice-copy-out-y : tie.Need-shared-slice-copy-out-y Inv-loop μ-loop
 shared-slice-copy-out-y c = omega (arith, c .before .before .before .pre .1)
 
-put-output-requires : tie.Need-put-output-requires Inv-loop μ-loop
-put-output-requires c κs =
+put-next-requires : tie.Need-put-next-requires Inv-loop μ-loop
+put-next-requires c κs =
     let begin : tie.Start Inv-loop μ-loop = search in
     let in-loop : tie.In-loop Inv-loop μ-loop = search in
     let turn : tie.At-loop Inv-loop μ-loop = search in
     let l = turn .loop in
-    let t = c .told-after in
-    let d = spelt-most 1 20 (t .result) (omega (arith, t .ensures, begin .pre .0)) in
-    omega (arith, l .inv .0, l .inv .1 .near, begin .pre .2, in-loop .loop-test .taken)
+    (begin .pre .0, omega (arith, l .inv .0, l .inv .1 .near, begin .pre .2, in-loop .loop-test .taken))
 
 loop-again : tie.Need-loop-again Inv-loop μ-loop
 loop-again c =
@@ -53,10 +50,7 @@ loop-again c =
     let begin : tie.Start Inv-loop μ-loop = search in
     let a = begin .args in
     let l = turn .loop in
-    let p = c .before .before .put-output in
-    let at-told-after : tie.After-told-after Inv-loop μ-loop = search in
-    let t = at-told-after .told-after in
-    let d = spelt-most 1 20 (t .result) (omega (arith, t .ensures, begin .pre .0)) in
+    let p = c .before .before .put-next in
     let y : ℤ = getD (a .given .now) (l .i) (pos 0) in
     let ys = take (a .count) (a .given .now) in
     let n : length ys ≡ a .count = length-take-le (a .count) (a .given .now) (begin .pre .1) in
@@ -64,8 +58,7 @@ loop-again c =
     ∙ sym (getD-take (a .count) (a .given .now) (l .i) (pos 0) (in-loop .loop-test .taken)) in (
       p .kept .0 ∙ l .inv .0,
       writing-on (a .out .now) (a .at) ys (a .told) (omega (arith, begin .pre .2)) (l .out) (p .last .0)
-          (l .w) (p .result) (l .i) _ (omega (arith, in-loop .loop-test .taken)) e (l .inv .1) (rw (t .ensures) at (p .ensures .0))
-          (omega (arith, p .ensures .1, d)),
+          (l .w) (p .result) (l .i) _ (omega (arith, in-loop .loop-test .taken)) e (l .inv .1) (p .ensures .0) (p .ensures .1),
     )
 
 same-length : tie.Need-same-length Inv-loop μ-loop
@@ -84,6 +77,5 @@ returns c =
 
 pub put-outputs-spec : {M : Type 1} → statement M
 put-outputs-spec =
-    tie.close (tie.spec Inv-loop μ-loop loop-holds mul-y shared-slice-copy-out-y (λ c κs. search needs) put-output-requires
-    (λ c. search needs)
+    tie.close (tie.spec Inv-loop μ-loop loop-holds mul-y shared-slice-copy-out-y put-next-requires (λ c. search needs)
     (λ c. search needs) loop-again same-length returns)
