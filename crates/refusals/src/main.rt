@@ -9,6 +9,7 @@ mod modulator;
 mod print;
 mod sections;
 mod states;
+mod waves;
 
 fn main() {
     figures::print_all();
@@ -19,4 +20,5 @@ fn main() {
     limits::print_all();
     sections::print_all();
     lines::print_all();
+    waves::print_all();
 }
