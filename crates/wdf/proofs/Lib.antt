@@ -3,3 +3,5 @@ pub mod Passes
 pub mod Steps
 pub mod Adapters
 pub mod Filters
+pub mod Halves
+pub mod Nearest
