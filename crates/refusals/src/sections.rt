@@ -1,4 +1,4 @@
-// Numbers 50 to 65: wave digital sections, the reciprocal loop, and the scale.
+// Numbers 50 to 65: wave digital sections and coefficients, the reciprocal loop, and the scale.
 use crate::print::refusal;
 use crate::print::row;
 use rpll::Estimate;
@@ -8,6 +8,8 @@ use rpll::Timestamp;
 use unwrap::scale::Scaled;
 use unwrap::scale::saturating_scale;
 use wdf::filter::Wdf;
+use wdf::quantize::Quantized;
+use wdf::tpa::Tpa;
 
 fn scale(shift: u32) -> u32 {
     match saturating_scale(0, 1, shift) {
@@ -20,6 +22,13 @@ fn sections(count: usize, architecture: u32) -> u32 {
     let made = Wdf::new(count, architecture, [0; 8]);
     let verdict = made.verdict;
     refusal(verdict)
+}
+
+fn coefficient(code: Tpa, g: f64) -> u32 {
+    match code.quantize(g) {
+        Quantized::Bits(_) => 0,
+        Quantized::Refused(n) => n,
+    }
 }
 
 fn loops(dt2: u8, shift_frequency: u8, shift_phase: u8) -> u32 {
@@ -49,6 +58,18 @@ pub(crate) fn print_all() {
         sections(1, 0x11),
         b"0",
         sections(1, 0x01),
+    );
+    row(
+        b"coefficient C at 5e-324",
+        coefficient(Tpa::C, 5e-324),
+        b"at 0",
+        coefficient(Tpa::C, 0.0),
+    );
+    row(
+        b"coefficient C at a NaN",
+        coefficient(Tpa::C, 0.0 / 0.0),
+        b"Z at a NaN",
+        coefficient(Tpa::Z, 0.0 / 0.0),
     );
     row(b"dt2 31", loops(31, 32, 31), b"30", loops(30, 32, 31));
     row(
