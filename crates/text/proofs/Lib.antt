@@ -1,4 +1,5 @@
 pub mod Numerals
+pub mod HexDigits
 pub mod Parting
 pub mod Putting
 pub mod Spelling
