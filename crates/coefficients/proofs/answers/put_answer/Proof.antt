@@ -1,0 +1,30 @@
+-- By the answer.
+use mathlib.Core.Path.{sym, ap}
+use mir.Syntax.{w32}
+use mir.ValLaws.{toZ-ofZ}
+use borrow.Author.Needs.{needs}
+use Rattle.text.proofs.Putting.{wrote-same}
+use Rattle.coefficients.specs.Lines.{answerBytes}
+use Rattle.coefficients.proofs.answers.put_answer.Statement.{statement}
+use Rattle.coefficients.proofs.answers.put_answer.Tie as tie
+
+returns : tie.Need-returns
+returns c =
+    let begin : tie.Start = search in
+    let at-answer : tie.After-answer = search in
+    let at-known : tie.After-known-told = search in
+    let b = toZ-ofZ w32 (at-answer .answer .given .0 .0) (record { sfits = at-known .known-told .given .0 .1 }) in
+    let p = rw b at (c .before .before .put-bits .ensures) in
+    (wrote-same (sym (ap (answerBytes (begin .args .number)) (at-answer .answer .given .1))) (p .0), p .1)
+
+returns-2 : tie.Need-returns-2
+returns-2 c =
+    let begin : tie.Start = search in
+    let at-answer2 : tie.After-answer2 = search in
+    let p = c .before .before .put-refused .ensures in
+    (wrote-same (sym (ap (answerBytes (begin .args .number)) (at-answer2 .answer2 .given .1))) (p .0), p .1)
+
+pub put-answer-spec : {M : Type 1} → statement M
+put-answer-spec =
+    tie.close (tie.spec (λ c. search needs) (λ c κs. search needs) (λ c. search needs) (λ c κs. search needs)
+    (λ c. search needs) returns (λ c. search needs) returns-2)

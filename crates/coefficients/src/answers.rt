@@ -1,0 +1,127 @@
+// A line and its answer.
+use rust_answers::doubles::from_bits;
+use text::comparing::same_bytes;
+use text::hex::Pattern;
+use text::hex::hex_word;
+use text::parts::part_end;
+use text::writing::put_byte;
+use text::writing::put_bytes;
+use text::writing::put_decimal;
+use text::writing::put_signed;
+use wdf::quantize::Quantized;
+use wdf::tpa::Tpa;
+ghost use mathlib.Core.Path.{_≡_};
+ghost use Prim.Native.Nat.{_≤_};
+ghost use lib.ListN.{length};
+ghost use Rattle.text.specs.Writing.{Wrote};
+ghost use Rattle.coefficients.specs.Lines.{letterOf, adapterOf, lineBits, poleBits, bitsLine, refusedLine, answerBytes};
+
+// What a malformed line is refused with, an unterminated last one too, and a line over 64 bytes.
+pub(crate) const MALFORMED: u32 = 70;
+
+const LONG: u32 = 72;
+
+// An adapter by its name, or a name that is none.
+pub enum Adapter {
+    Named(Tpa),
+    Unknown,
+}
+
+// The adapter that one letter names.
+fn named_by_letter(name: &[u8]) -> Adapter
+    ensures { λ r. ⌜ r ≡ letterOf (now (name .entry)) ⌝ }
+{
+    if same_bytes(name, b"A") {
+        return Adapter::Named(Tpa::A);
+    }
+    if same_bytes(name, b"B") {
+        return Adapter::Named(Tpa::B);
+    }
+    if same_bytes(name, b"C") {
+        return Adapter::Named(Tpa::C);
+    }
+    if same_bytes(name, b"D") {
+        return Adapter::Named(Tpa::D);
+    }
+    if same_bytes(name, b"Z") {
+        return Adapter::Named(Tpa::Z);
+    }
+    if same_bytes(name, b"X") {
+        return Adapter::Named(Tpa::X);
+    }
+    Adapter::Unknown
+}
+
+fn named_by(name: &[u8]) -> Adapter
+    ensures { λ r. ⌜ r ≡ adapterOf (now (name .entry)) ⌝ }
+{
+    if same_bytes(name, b"B1") {
+        return Adapter::Named(Tpa::B1);
+    }
+    if same_bytes(name, b"C1") {
+        return Adapter::Named(Tpa::C1);
+    }
+    named_by_letter(name)
+}
+
+// The bits of an adapter's coefficient for the pole of these digits.
+fn pole_bits(named: Adapter, digits: Pattern) -> Quantized
+    ensures { λ r. ⌜ r ≡ poleBits named digits ⌝ }
+{
+    let Adapter::Named(code) = named else {
+        return Quantized::Refused(MALFORMED);
+    };
+    let Pattern::Bits(bits) = digits else {
+        return Quantized::Refused(MALFORMED);
+    };
+    code.quantize(from_bits(bits))
+}
+
+// A line's bits, or the number of its refusal: 72 where it has over 64 bytes, 70 where it is malformed, else 52.
+fn line_bits(line: &[u8]) -> Quantized
+    ensures { λ r. ⌜ r ≡ lineBits (now (line .entry)) ⌝ }
+{
+    if 64 < line.len() {
+        return Quantized::Refused(LONG);
+    }
+    let e = part_end(line, 0, b'\t');
+    if line.len() <= e {
+        return Quantized::Refused(MALFORMED);
+    }
+    let named = named_by(&line[..e]);
+    let from = e + 1;
+    let digits = hex_word(&line[from..]);
+    pole_bits(named, digits)
+}
+
+// The bits in decimal on a line.
+fn put_bits(out: &mut [u8], bits: i32) -> usize
+    requires { ⌜ 36 ≤ length (now out) ⌝ }
+    ensures { λ r. ⌜ Wrote (now (out .entry)) 0 (bitsLine bits) r (now (out .exit)) × (r ≤ 36) ⌝ }
+{
+    let a = put_signed(out, 0, bits);
+    put_byte(out, a, b'\n')
+}
+
+// `bad`, line number from 1, refusal number.
+fn put_refused(out: &mut [u8], line: u64, number: u32) -> usize
+    requires { ⌜ 36 ≤ length (now out) ⌝ }
+    ensures { λ r. ⌜ Wrote (now (out .entry)) 0 (refusedLine line number) r (now (out .exit)) × (r ≤ 36) ⌝ }
+{
+    let a = put_bytes(out, 0, b"bad\t");
+    let b = put_decimal(out, a, line);
+    let c = put_byte(out, b, b'\t');
+    let d = put_decimal(out, c, number as u64);
+    put_byte(out, d, b'\n')
+}
+
+// What is answered for a line with this number, at the front of out.
+pub(crate) fn put_answer(out: &mut [u8], number: u64, answer: Quantized) -> usize
+    requires { ⌜ 36 ≤ length (now out) ⌝ }
+    ensures { λ r. ⌜ Wrote (now (out .entry)) 0 (answerBytes number answer) r (now (out .exit)) × (r ≤ 36) ⌝ }
+{
+    match answer {
+        Quantized::Bits(bits) => put_bits(out, bits),
+        Quantized::Refused(refused) => put_refused(out, number, refused),
+    }
+}
