@@ -78,7 +78,7 @@ fn pole_bits(named: Adapter, digits: Pattern) -> Quantized
 }
 
 // A line's bits, or the number of its refusal: 72 where it has over 64 bytes, 70 where it is malformed, else 52.
-fn line_bits(line: &[u8]) -> Quantized
+pub(crate) fn line_bits(line: &[u8]) -> Quantized
     ensures { λ r. ⌜ r ≡ lineBits (now (line .entry)) ⌝ }
 {
     if 64 < line.len() {
