@@ -71,6 +71,18 @@ pub(crate) fn print_all() {
         b"Z at a NaN",
         coefficient(Tpa::Z, 0.0 / 0.0),
     );
+    row(
+        b"coefficient C at -infinity",
+        coefficient(Tpa::C, -1.0 / 0.0),
+        b"at -0.5",
+        coefficient(Tpa::C, -0.5),
+    );
+    row(
+        b"coefficient B at infinity",
+        coefficient(Tpa::B, 1.0 / 0.0),
+        b"X at infinity",
+        coefficient(Tpa::X, 1.0 / 0.0),
+    );
     row(b"dt2 31", loops(31, 32, 31), b"30", loops(30, 32, 31));
     row(
         b"dt2 8, shift_frequency 8",
