@@ -14,20 +14,17 @@ slice-aggregate-end-line c =
     sym (length-take-le (begin .args .p .len) (begin .args .line .now) (omega (arith, begin .pre .0, begin .pre .1)))
 
 -- the array with a byte more
-longer : (c : tie.Then2) → c .before .before .before .args .p .len + 1
-    ≤ length (set (c .before .before .before .args .line .now) (c .before .before .before .args .p .len) (c .before .before .before .args .b))
-longer c =
-    let begin : tie.Start = search in
-    simp length-set (omega (arith, begin .pre .0, begin .pre .1))
+longer : (s : tie.Start) → s .args .p .len + 1 ≤ length (set (s .args .line .now) (s .args .p .len) (s .args .b))
+longer s = simp length-set (omega (arith, s .pre .0, s .pre .1))
 
 slice-reshare-prefix-end-line-2 : tie.Need-slice-reshare-prefix-end-line-2
-slice-reshare-prefix-end-line-2 c = longer c
+slice-reshare-prefix-end-line-2 c = let begin : tie.Start = search in longer begin
 
 slice-aggregate-end-line-2 : tie.Need-slice-aggregate-end-line-2
 slice-aggregate-end-line-2 c =
     let begin : tie.Start = search in
     let a = begin .args in
-    sym (length-take-le (a .p .len + 1) (set (a .line .now) (a .p .len) (a .b)) (longer (c .before)))
+    sym (length-take-le (a .p .len + 1) (set (a .line .now) (a .p .len) (a .b)) (longer begin))
 
 pub take-byte-spec : {M : Type 1} → statement M
 take-byte-spec =
