@@ -55,20 +55,20 @@ module _ (l : List ℕ) where
         let name : take e l ≡ before tab l = ap (λ (k : ℕ). take k l) first ∙ before-take tab l in
         rw (n, d, all, name, first) (sym (rw (le-ltb 64 (length l) short)))
 
-module _ (o : List ℕ) where
-  pub bits-wrote : (v : ℤ) (a r : ℕ) (o₁ o₂ : List ℕ) → SFits w32 v → 36 ≤ length o
-      → Puts o 0 (signedOf v) a o₁ → Puts o₁ a (newline ∷ []) r o₂ → Wrote o 0 (bitsLine v) r o₂ × (r ≤ 36)
+module _ (o : List ℕ) (at : ℕ) where
+  pub bits-wrote : (v : ℤ) (a r : ℕ) (o₁ o₂ : List ℕ) → SFits w32 v → at + 36 ≤ length o
+      → Puts o at (signedOf v) a o₁ → Puts o₁ a (newline ∷ []) r o₂ → Wrote o at (bitsLine v) r o₂ × (r ≤ at + 12)
   unfolding bitsLine
   bits-wrote v a r o₁ o₂ f h x y =
       let n = signed-most v f in
-      let w₁ : Wrote o 0 (signedOf v) a o₁ = written o 0 (signedOf v) a o₁ (omega arith) x in
-      let w₂ : Wrote o 0 (signedOf v ++ (newline ∷ [])) r o₂ = then-puts (omega arith) w₁ y in
+      let w₁ : Wrote o at (signedOf v) a o₁ = written o at (signedOf v) a o₁ (omega arith) x in
+      let w₂ : Wrote o at (signedOf v ++ (newline ∷ [])) r o₂ = then-puts (omega arith) w₁ y in
       (w₂, omega (arith, w₂ .next, length-append (signedOf v) (newline ∷ [])))
 
-  pub refused-wrote : (line number a b c d r : ℕ) (o₁ o₂ o₃ o₄ o₅ : List ℕ) → number < 2 ^ 32 → 36 ≤ length o
-      → Puts o 0 (bytes "bad\t") a o₁ → Puts o₁ a (decimalOf line) b o₂ → Puts o₂ b (tab ∷ []) c o₃
+  pub refused-wrote : (line number a b c d r : ℕ) (o₁ o₂ o₃ o₄ o₅ : List ℕ) → number < 2 ^ 32 → at + 36 ≤ length o
+      → Puts o at (bytes "bad\t") a o₁ → Puts o₁ a (decimalOf line) b o₂ → Puts o₂ b (tab ∷ []) c o₃
       → Puts o₃ c (decimalOf number) d o₄ → Puts o₄ d (newline ∷ []) r o₅
-      → Wrote o 0 (refusedLine line number) r o₅ × (r ≤ 36)
+      → Wrote o at (refusedLine line number) r o₅ × (r ≤ at + 36)
   unfolding refusedLine
   refused-wrote line number a b c d r o₁ o₂ o₃ o₄ o₅ f h x y z u v =
       let k = spelt-short 20 line in
@@ -78,9 +78,9 @@ module _ (o : List ℕ) where
       let n₃ : length p₃ ≡ length p₂ + 1 = length-append p₂ (tab ∷ []) in
       let p₄ : List ℕ = p₃ ++ decimalOf number in
       let n₄ : length p₄ ≡ length p₃ + length (decimalOf number) = length-append p₃ (decimalOf number) in
-      let w₁ : Wrote o 0 (bytes "bad\t") a o₁ = written o 0 (bytes "bad\t") a o₁ (omega arith) x in
-      let w₂ : Wrote o 0 p₂ b o₂ = then-puts (omega arith) w₁ y in
-      let w₃ : Wrote o 0 p₃ c o₃ = then-puts (omega arith) w₂ z in
-      let w₄ : Wrote o 0 p₄ d o₄ = then-puts (omega arith) w₃ u in
-      let w₅ : Wrote o 0 (p₄ ++ (newline ∷ [])) r o₅ = then-puts (omega arith) w₄ v in
+      let w₁ : Wrote o at (bytes "bad\t") a o₁ = written o at (bytes "bad\t") a o₁ (omega arith) x in
+      let w₂ : Wrote o at p₂ b o₂ = then-puts (omega arith) w₁ y in
+      let w₃ : Wrote o at p₃ c o₃ = then-puts (omega arith) w₂ z in
+      let w₄ : Wrote o at p₄ d o₄ = then-puts (omega arith) w₃ u in
+      let w₅ : Wrote o at (p₄ ++ (newline ∷ [])) r o₅ = then-puts (omega arith) w₄ v in
       (wrote-same (simp append-assoc) w₅, omega (arith, w₅ .next, length-append p₄ (newline ∷ [])))

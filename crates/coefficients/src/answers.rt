@@ -11,15 +11,17 @@ use text::writing::put_signed;
 use wdf::quantize::Quantized;
 use wdf::tpa::Tpa;
 ghost use mathlib.Core.Path.{_≡_};
-ghost use Prim.Native.Nat.{_≤_};
+ghost use mathlib.Core.Bool.{true};
+ghost use Prim.Native.Nat.{_+_, _≤_};
 ghost use lib.ListN.{length};
 ghost use Rattle.text.specs.Writing.{Wrote};
 ghost use Rattle.coefficients.specs.Lines.{letterOf, adapterOf, lineBits, poleBits, bitsLine, refusedLine, answerBytes};
+ghost use Rattle.coefficients.specs.Parts.{isAccepted};
 
 // What a malformed line is refused with, an unterminated last one too, and a line over 64 bytes.
 pub(crate) const MALFORMED: u32 = 70;
 
-const LONG: u32 = 72;
+pub(crate) const LONG: u32 = 72;
 
 // An adapter by its name, or a name that is none.
 pub enum Adapter {
@@ -95,33 +97,34 @@ pub(crate) fn line_bits(line: &[u8]) -> Quantized
 }
 
 // The bits in decimal on a line.
-fn put_bits(out: &mut [u8], bits: i32) -> usize
-    requires { ⌜ 36 ≤ length (now out) ⌝ }
-    ensures { λ r. ⌜ Wrote (now (out .entry)) 0 (bitsLine bits) r (now (out .exit)) × (r ≤ 36) ⌝ }
+fn put_bits(out: &mut [u8], at: usize, bits: i32) -> usize
+    requires { ⌜ at + 36 ≤ length (now out) ⌝ }
+    ensures { λ r. ⌜ Wrote (now (out .entry)) at (bitsLine bits) r (now (out .exit)) × (r ≤ at + 12) ⌝ }
 {
-    let a = put_signed(out, 0, bits);
+    let a = put_signed(out, at, bits);
     put_byte(out, a, b'\n')
 }
 
 // `bad`, line number from 1, refusal number.
-fn put_refused(out: &mut [u8], line: u64, number: u32) -> usize
-    requires { ⌜ 36 ≤ length (now out) ⌝ }
-    ensures { λ r. ⌜ Wrote (now (out .entry)) 0 (refusedLine line number) r (now (out .exit)) × (r ≤ 36) ⌝ }
+fn put_refused(out: &mut [u8], at: usize, line: u64, number: u32) -> usize
+    requires { ⌜ at + 36 ≤ length (now out) ⌝ }
+    ensures { λ r. ⌜ Wrote (now (out .entry)) at (refusedLine line number) r (now (out .exit)) × (r ≤ at + 36) ⌝ }
 {
-    let a = put_bytes(out, 0, b"bad\t");
+    let a = put_bytes(out, at, b"bad\t");
     let b = put_decimal(out, a, line);
     let c = put_byte(out, b, b'\t');
     let d = put_decimal(out, c, number as u64);
     put_byte(out, d, b'\n')
 }
 
-// What is answered for a line with this number, at the front of out.
-pub(crate) fn put_answer(out: &mut [u8], number: u64, answer: Quantized) -> usize
-    requires { ⌜ 36 ≤ length (now out) ⌝ }
-    ensures { λ r. ⌜ Wrote (now (out .entry)) 0 (answerBytes number answer) r (now (out .exit)) × (r ≤ 36) ⌝ }
+// What is answered for a line with this number.
+pub(crate) fn put_answer(out: &mut [u8], at: usize, number: u64, answer: Quantized) -> usize
+    requires { ⌜ at + 36 ≤ length (now out) ⌝ }
+    ensures { λ r. ⌜ Wrote (now (out .entry)) at (answerBytes number answer) r (now (out .exit)) × (r ≤ at + 36)
+        × (isAccepted answer ≡ true → r ≤ at + 12) ⌝ }
 {
     match answer {
-        Quantized::Bits(bits) => put_bits(out, bits),
-        Quantized::Refused(refused) => put_refused(out, number, refused),
+        Quantized::Bits(bits) => put_bits(out, at, bits),
+        Quantized::Refused(refused) => put_refused(out, at, number, refused),
     }
 }

@@ -11,7 +11,7 @@ returns c =
     let at-put-signed : tie.After-put-signed = search in
     let begin : tie.Start = search in
     let a = begin .args in
-    bits-wrote (a .out .now) (a .bits) _ _ _ _ (begin .fits .bits) (begin .pre)
+    bits-wrote (a .out .now) (a .at) (a .bits) _ _ _ _ (begin .fits .bits) (begin .pre)
     (rw (toZ-ofZ w32 (a .bits) (begin .fits .bits)) at (at-put-signed .put-signed .ensures)) (c .before .before .put-byte .ensures)
 
 pub put-bits-spec : {M : Type 1} → statement M

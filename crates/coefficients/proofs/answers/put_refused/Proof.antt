@@ -13,7 +13,7 @@ returns c =
     let at-put-bytes : tie.After-put-bytes = search in
     let begin : tie.Start = search in
     let a = begin .args in
-    refused-wrote (a .out .now) (a .line) (a .number) _ _ _ _ _ _ _ _ _ _ (omega arith) (begin .pre)
+    refused-wrote (a .out .now) (a .at) (a .line) (a .number) _ _ _ _ _ _ _ _ _ _ (omega arith) (begin .pre)
     (at-put-bytes .put-bytes .ensures) (at-put-decimal .put-decimal .ensures) (at-put-byte .put-byte .ensures)
     (at-put-decimal2 .put-decimal2 .ensures) (c .before .before .put-byte2 .ensures)
 
