@@ -27,15 +27,6 @@ same-eq (a ∷ l) (b ∷ k) h = by (eqb a b) refl (same-eq l k) h
     by true e f h = let p : a ≡ b = eqb-true a b e in let q : l ≡ k = f h in cc
     by false e f h = cc
 
--- a test that holds of equal lists alone is `same`
-pub same-is : (r : Bool) (l k : List ℕ) → (r ≡ true → l ≡ k) × (l ≡ k → r ≡ true) → same l k ≡ r
-same-is true l k f = rw (f .0 refl) (same-self k)
-same-is false l k f = by (same l k) refl
-  where
-    by : (t : Bool) → same l k ≡ t → t ≡ false
-    by true e = sym (f .1 (same-eq l k e))
-    by false e = refl
-
 pub same-length : (l k : List ℕ) → (length l ≡ length k → ⊥) → same l k ≡ false
 same-length l k h = by (same l k) refl
   where
