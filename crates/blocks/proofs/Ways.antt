@@ -8,7 +8,7 @@ use Rattle.blocks.specs.declared.Verdict.{Verdict}
 use Rattle.blocks.specs.declared.Verdict.the-variants.{Done, Refused}
 use Rattle.blocks.specs.Verdicts.{verdictOf}
 use Rattle.blocks.specs.Scan.{scan, ends}
-use Rattle.blocks.specs.Blocks.{unless, Blocked}
+use Rattle.blocks.specs.Blocks.{unless, Blocked, BlockSettled}
 
 -- a number that is none is a refusal
 pub refused : (k : ℕ) → (k ≡ 0 → ⊥) → Refused k ≡ verdictOf k
@@ -41,7 +41,9 @@ module _ {S A B : Type 0} (k : ℕ) (out : S → A → B) (next : S → A → S)
       let z = eq-eqb k 0 e in
       record { verdict = rw (l, e); state = rw (l, z) p; written = rw (l, z) q }
 
-  -- the promise settles the call: two results that it allows are one
-  pub settled : {t u : S} {v w : Verdict} {zs ws : List B} → Blocked k out next s xs ys t v zs → Blocked k out next s xs ys u w ws
-      → (t ≡ u) × ((v ≡ w) × (zs ≡ ws))
-  settled p q = (p .state ∙ sym (q .state), (p .verdict ∙ sym (q .verdict), p .written ∙ sym (q .written)))
+-- the promise gives each of the three results an equation
+pub settled : BlockSettled
+settled S A B k out next s t u xs ys zs ws v w p q = (
+  p .state ∙ sym (q .state),
+  (p .verdict ∙ sym (q .verdict), p .written ∙ sym (q .written)),
+)

@@ -24,3 +24,8 @@ pub record Blocked {S A B : Type 0} (k : ℕ) (out : S → A → B) (next : S �
   pub verdict : v ≡ verdictOf (lengthsNumber k xs ys)
   pub state : t ≡ unless (lengthsNumber k xs ys) s (ends out next s xs)
   pub written : zs ≡ unless (lengthsNumber k xs ys) ys (scan out next s xs)
+
+-- 01, 'Promises that bite': any two results that the promise allows are equal.
+abbrev pub BlockSettled : Type 1
+BlockSettled = (S A B : Type 0) (k : ℕ) (out : S → A → B) (next : S → A → S) (s t u : S) (xs : List A) (ys zs ws : List B) (v w : Verdict)
+    → Blocked k out next s xs ys t v zs → Blocked k out next s xs ys u w ws → (t ≡ u) × ((v ≡ w) × (zs ≡ ws))
