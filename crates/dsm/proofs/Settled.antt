@@ -9,18 +9,16 @@ use Rattle.blocks.specs.declared.Verdict.{Verdict}
 use Rattle.blocks.specs.Blocks.{Blocked}
 use Rattle.dsm.specs.declared.Dsm.{Dsm}
 use Rattle.dsm.specs.declared.Made.{Made}
-use Rattle.dsm.specs.declared.Stepped.{Stepped}
 use Rattle.dsm.specs.Modulator.{modulatorOut, nextOf}
-use Rattle.dsm.specs.Calls.{cellsNumber, runNumber, Steps, Runs}
+use Rattle.dsm.specs.Calls.{cellsNumber, runNumber, Runs, StepSettled, RunSettled}
 
-pub steps-settled : (s : Dsm) (x : ℕ) (q r : Stepped) → Steps s x q → Steps s x r → q ≡ r
+pub steps-settled : StepSettled
 steps-settled s x q r p t = p .step ∙ sym (t .step)
 
 same : (s t : Dsm) (v w : Verdict) → s ≡ t → v ≡ w → _≡_ {A = Made} (record { state = s; verdict = v }) (record { state = t; verdict = w })
 same s t v w e f = rw (e, f)
 
-pub runs-settled : (s : Dsm) (xs : List ℕ) (ys : List ℤ) (q r : Made) (us vs : List ℤ) → Runs s xs ys q us → Runs s xs ys r vs
-    → (q ≡ r) × (us ≡ vs)
+pub runs-settled : RunSettled
 runs-settled s xs ys q r us vs p t = (
   same (q .state) (r .state) (q .verdict) (r .verdict) (p .state ∙ sym (t .state)) (p .verdict ∙ sym (t .verdict)),
   p .written
