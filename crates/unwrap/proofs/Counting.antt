@@ -12,10 +12,10 @@ use mir.Val.{SFits}
 use Rattle.words.specs.Words as W
 use Rattle.words.specs.Words.{word, wrap, floorDiv}
 use Rattle.words.proofs.Reading.{wrap-is}
-use Rattle.words.proofs.Sums.{Same, equal, _and_, wrapped, same-add}
+use Rattle.words.proofs.Sums.{Same, equal, _and_, wrapped, same-add, wrap-same}
 use Rattle.words.proofs.Sizes.{high-fits}
 use Rattle.words.proofs.Floors.{halves, floor-exact, wrap-low, wrap-high, same-scaled}
-use Rattle.unwrap.specs.Phases.{phaseOf, turnsOf}
+use Rattle.unwrap.specs.Phases.{phaseOf, turnsOf, MadeUp}
 
 -- the whole turns of y less its phase: one more where the phase lies below zero
 abbrev onward : Bool → ℤ → ℤ
@@ -68,12 +68,12 @@ one-more y t = sym (turns-are y true t)
 pub as-it-is : (y : ℤ) → SFits w64 y → ltZ (phaseOf y) (pos 0) ≡ false → floorDiv y (2 ^ 32) ≡ turnsOf y
 as-it-is y f t = sym (turns-are y false t ∙ wrap-is w32 (floorDiv y (2 ^ 32)) (high-fits y f))
 
--- y = count · 2 ^ 32 + phase, modulo 2 ^ 64
-pub made-up : (y : ℤ) → Same w64 (turnsOf y *ℤ pos (2 ^ 32) +ℤ phaseOf y) y
-made-up y = whole (ltZ (phaseOf y) (pos 0)) refl
-  where
-    whole : (b : Bool) → ltZ (phaseOf y) (pos 0) ≡ b → Same w64 (turnsOf y *ℤ pos (2 ^ 32) +ℤ phaseOf y) y
-    whole b t =
-        let T : ℤ = onward b (floorDiv y (2 ^ 32)) in
-        same-add (same-scaled w32 w64 32 refl (equal (turns-are y b t) and wrapped w32 T)) (equal refl)
-        and equal (ap (λ (z : ℤ). z +ℤ phaseOf y) (sym (apart y b t)) ∙ -ℤ-+ℤ-cancel y (phaseOf y))
+-- the turns are told modulo 2 ^ 32, so they make up y modulo 2 ^ 64
+alike : (y : ℤ) (b : Bool) → ltZ (phaseOf y) (pos 0) ≡ b → Same w64 (turnsOf y *ℤ pos (2 ^ 32) +ℤ phaseOf y) y
+alike y b t =
+    let T : ℤ = onward b (floorDiv y (2 ^ 32)) in
+    same-add (same-scaled w32 w64 32 refl (equal (turns-are y b t) and wrapped w32 T)) (equal refl)
+    and equal (ap (λ (z : ℤ). z +ℤ phaseOf y) (sym (apart y b t)) ∙ -ℤ-+ℤ-cancel y (phaseOf y))
+
+pub made-up : MadeUp
+made-up y f = wrap-same (alike y (ltZ (phaseOf y) (pos 0)) refl) ∙ wrap-is w64 y f

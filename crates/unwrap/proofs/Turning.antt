@@ -17,7 +17,7 @@ use Rattle.words.proofs.Sums.{equal, turn, _and_, wrapped, same-add, turns, sam
 use Rattle.words.proofs.Sizes.{mag-minus}
 use Rattle.unwrap.specs.declared.wrapping.Wrap.{Wrap}
 use Rattle.unwrap.specs.declared.wrapping.Wrap.the-variants.{Negative, None, Positive}
-use Rattle.unwrap.specs.Phases.{signOf, caseOf, differenceOf}
+use Rattle.unwrap.specs.Phases.{signOf, caseOf, differenceOf, DeltaIs, OnlySign}
 
 -- the code's tests: whether the wrapped number lies below zero, and whether the number does
 abbrev pub byTests : Bool → Bool → Wrap
@@ -110,24 +110,24 @@ module _ (y x : ℤ) (hy : SFits w32 y) (hx : SFits w32 x) where
       → _≡_ {A = Wrap} (byTests b d) (differenceOf y x .wrap)
   tested b d p q = sym (sign-is ∙ sym (wraps (y -ℤ x) within .tests) ∙ rw (p, minus-below y x, q))
 
-  -- delta = y - x + sign · 2 ^ 32, as whole numbers
-  pub delta-is : differenceOf y x .delta ≡ (y -ℤ x) +ℤ signOf (differenceOf y x .wrap) *ℤ pos (2 ^ 32)
-  unfolding differenceOf
-  delta-is =
-      sym (-ℤ-+ℤ-cancel (wrap w32 (y -ℤ x)) (y -ℤ x))
-      ∙ ap (λ (d : ℤ). d +ℤ (y -ℤ x)) (wraps (y -ℤ x) within .apart ∙ ap (λ (s : Wrap). signOf s *ℤ pos (2 ^ 32)) (sym sign-is))
-      ∙ +ℤ-comm (signOf (differenceOf y x .wrap) *ℤ pos (2 ^ 32)) (y -ℤ x)
+-- delta is what the wrap added, and the difference
+pub delta-is : DeltaIs
+unfolding differenceOf
+delta-is y x hy hx =
+    let t = wraps (y -ℤ x) (within y x hy hx) in
+    sym (-ℤ-+ℤ-cancel (wrap w32 (y -ℤ x)) (y -ℤ x))
+    ∙ ap (λ (d : ℤ). d +ℤ (y -ℤ x)) (t .apart ∙ ap (λ (s : Wrap). signOf s *ℤ pos (2 ^ 32)) (sym (sign-is y x hy hx)))
+    ∙ +ℤ-comm (signOf (differenceOf y x .wrap) *ℤ pos (2 ^ 32)) (y -ℤ x)
 
-  -- and the sign is the only one for which that fits
-  pub only-sign : (s : Wrap) → SFits w32 ((y -ℤ x) +ℤ signOf s *ℤ pos (2 ^ 32)) → s ≡ differenceOf y x .wrap
-  unfolding differenceOf
-  only-sign s f =
-      let d : ℤ = (y -ℤ x) +ℤ signOf s *ℤ pos (2 ^ 32) in
-      let e : d ≡ wrap w32 (y -ℤ x) =
-      same-is (same-add {a = y -ℤ x} (equal refl) (turns w32 (signOf s)) and equal (zero-off (y -ℤ x)) and turn
-      (wrapped w32 (y -ℤ x))) f (wrap-fits w32 (y -ℤ x)) in
-      sym (case-turns s) ∙ ap caseOf (sym (+ℤ-negℤ-cancel (signOf s *ℤ pos (2 ^ 32)) (y -ℤ x)) ∙ ap (λ (z : ℤ). z -ℤ (y -ℤ x))
-      (+ℤ-comm (signOf s *ℤ pos (2 ^ 32)) (y -ℤ x) ∙ e))
-    where
-      zero-off : (z : ℤ) → z +ℤ pos 0 ≡ z
-      zero-off z = +ℤ-idr z
+-- what fits is the wrapped difference, so it is as many turns away
+pub only-sign : OnlySign
+unfolding differenceOf
+only-sign y x hy hx s f =
+    let d : ℤ = y -ℤ x +ℤ signOf s *ℤ pos (2 ^ 32) in
+    let e : d ≡ wrap w32 (y -ℤ x) =
+    same-is (same-add {a = y -ℤ x} (equal refl) (turns w32 (signOf s)) and equal (+ℤ-idr (y -ℤ x)) and turn (wrapped w32 (y -ℤ x))) f
+    (wrap-fits w32 (y -ℤ x)) in
+    sym (case-turns s)
+    ∙ ap caseOf
+    (sym (+ℤ-negℤ-cancel (signOf s *ℤ pos (2 ^ 32)) (y -ℤ x))
+    ∙ ap (λ (z : ℤ). z -ℤ (y -ℤ x)) (+ℤ-comm (signOf s *ℤ pos (2 ^ 32)) (y -ℤ x) ∙ e))
