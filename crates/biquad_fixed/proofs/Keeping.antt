@@ -1,7 +1,7 @@
 -- What the shifts keep, once over the fraction bits f with g = 32 - f: a sum moved g bits up loses what lies past 32 + f bits,
 -- and its low word is the f bits below the output, moved g bits up.
 use mathlib.Core.Path.{_≡_, refl, sym, ap, _∙_}
-use mathlib.Core.List.{List, [], _∷_}
+use mathlib.Core.List.{[], _∷_}
 use Prim.Native.Nat.{ℕ, _+_, _-_, _*_, _/_, _^_, _<_}
 use native.Mathlib.Nat.{mul-div-left, eq-of-mul-eq-mul-right}
 use native.Mathlib.Omega.{arith}
@@ -13,16 +13,15 @@ use Rattle.words.specs.Words.{modℤ, word, wrap, floorDiv}
 use Rattle.words.proofs.Products.{spread, group}
 use Rattle.words.proofs.Floors.{halves, mod-scaled}
 use Rattle.words.proofs.Reading.{mod-below, word-narrow, word-wrap}
-use Rattle.blocks.specs.Scan.{ends}
 use Rattle.biquad_fixed.specs.declared.coefficients.Biquad.{Biquad}
 use Rattle.biquad_fixed.specs.declared.coefficients.BiquadClamp.{BiquadClamp}
 use Rattle.biquad_fixed.specs.declared.wide.DirectForm1Wide.{DirectForm1Wide}
-use Rattle.biquad_fixed.specs.declared.dither.DirectForm1Dither.{DirectForm1Dither}
 use Rattle.biquad_fixed.specs.Forms.{aligned, ditherError, wideSum, wideOut, wideNext, wideHeld, wideOnward, ditherSum}
-use Rattle.biquad_fixed.specs.Forms.{ditherOut, ditherNext, ditherOnward}
+use Rattle.biquad_fixed.specs.Forms.{ditherNext, ditherOnward}
 use Rattle.biquad_fixed.specs.Answers.{fractionNumber}
+use Rattle.biquad_fixed.specs.Keeping.{DitherKept, ClampKept, BlockBelow, ClampBlockBelow}
 use Rattle.biquad_fixed.proofs.Halves.{high-is, low-stays}
-use Rattle.biquad_fixed.proofs.Numbers.{in-range}
+use Rattle.biquad_fixed.proofs.Numbers.{in-range, accepted}
 
 -- the low word of a wrapped number
 low-word : (z : ℤ) → word w32 (wrap w64 z) ≡ word w32 z
@@ -94,23 +93,23 @@ module _ (least : ℕ) (c : Biquad) (ok : fractionNumber least c ≡ 0) where
   pub low-is : (sum : ℤ) → word w32 (aligned c sum) ≡ modℤ sum (2 ^ c .f) * 2 ^ (32 - c .f)
   low-is sum = low-kept (c .f) (32 - c .f) together sum
 
--- 01, dither: wrapped sum modulo 2 ^ (32 + F) equals y 2 ^ F + e modulo 2 ^ (32 + F), with e below 2 ^ F after each step
-module _ (c : Biquad) (ok : fractionNumber 1 c ≡ 0) where
-  pub dither-kept : (s : DirectForm1Dither) (x : ℤ)
-      → modℤ (ditherSum c s x) (2 ^ (32 + c .f)) ≡ modℤ (ditherOut c s x *ℤ pos (2 ^ c .f) +ℤ pos (ditherNext c s x .e)) (2 ^ (32 + c .f))
-  dither-kept s x = sum-kept 1 c ok (ditherSum c s x)
-
-  pub dither-below : (s : DirectForm1Dither) (x : ℤ) → ditherNext c s x .e < 2 ^ c .f
-  dither-below s x = error-below 1 c ok (ditherSum c s x)
-
-  -- also after a block, from a state that has it so
-  pub block-below : (s : DirectForm1Dither) (xs : List ℤ) → s .e < 2 ^ c .f → ends (ditherOut c) (ditherNext c) s xs .e < 2 ^ c .f
-  block-below s [] h = h
-  block-below s (x ∷ xs) h = block-below (ditherNext c s x) xs (dither-below s x)
+pub dither-kept : DitherKept
+dither-kept c s x ok = record { sum = sum-kept 1 c ok (ditherSum c s x); below = error-below 1 c ok (ditherSum c s x) }
 
 -- offset and clamp come after: they leave the error
-pub dither-stays : (c : BiquadClamp) (s : DirectForm1Dither) (x : ℤ) → ditherOnward c s x .e ≡ ditherNext (c .coeff) s x .e
-dither-stays c s x = refl
+pub clamp-kept : ClampKept
+clamp-kept c s x ok =
+    let k = dither-kept (c .coeff) s x (accepted 1 c ok) in
+    record { sum = k .sum; below = k .below }
+
+-- a block ends with a step, or where it began
+pub block-below : BlockBelow
+block-below c s [] ok h = h
+block-below c s (x ∷ xs) ok h = block-below c (ditherNext c s x) xs ok (dither-kept c s x ok .below)
+
+pub clamp-block-below : ClampBlockBelow
+clamp-block-below c s [] ok h = h
+clamp-block-below c s (x ∷ xs) ok h = clamp-block-below c (ditherOnward c s x) xs ok (clamp-kept c s x ok .below)
 
 -- wide: the low word that is kept is the sum's F bits below the output, at its top; with the output they make up the sum
 module _ (c : Biquad) (ok : fractionNumber 0 c ≡ 0) (s : DirectForm1Wide) (x : ℤ) where

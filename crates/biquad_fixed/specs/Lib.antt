@@ -1,3 +1,4 @@
--- What a reader must believe: the two forms, and every call.
+-- What a reader must believe: the two forms, every call, and what dither keeps.
 pub mod Forms
 pub mod Answers
+pub mod Keeping
