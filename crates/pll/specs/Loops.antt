@@ -1,9 +1,9 @@
 -- 01, 'Sections and loops': the PLL's step follows the code, every sum and product modulo its width.
 -- Each line of the code stands here by its meaning.
 use Prim.Native.Nat.{_^_}
-use lib.IntN.{ℤ, pos, _+ℤ_, _*ℤ_}
+use lib.IntN.{ℤ, _+ℤ_, _*ℤ_}
 use mir.Syntax.{w32, w64}
-use Rattle.words.specs.Words.{word, wrap, floorDiv}
+use Rattle.words.specs.Words.{wrap, floorDiv}
 use Rattle.unwrap.specs.declared.clamp_wrap.Clamped.{Clamped}
 use Rattle.unwrap.specs.Phases.{clampedOf}
 use Rattle.pll.specs.declared.PLL.{PLL}
@@ -35,9 +35,9 @@ halvedError s x = floorDiv (clampedSum s x .y) 2
 abbrev pub afterZero : PLLState → ℤ → ℤ
 afterZero s x = wrap w32 (halvedError s x +ℤ s .z0)
 
--- a1 times the wide state, over 2 ^ 32, by its high and its low word
+-- a1 times the wide state, divided by 2 ^ 32, rounded down
 abbrev pub lagProduct : ℤ → ℤ → ℤ
-lagProduct a1 f0 = a1 *ℤ floorDiv f0 (2 ^ 32) +ℤ floorDiv (a1 *ℤ pos (word w32 f0)) (2 ^ 32)
+lagProduct a1 f0 = floorDiv (a1 *ℤ f0) (2 ^ 32)
 
 -- lead lag, wide state
 unfoldable pub leadLag : PLL → ℤ → ℤ → ℤ → ℤ

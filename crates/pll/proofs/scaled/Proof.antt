@@ -1,13 +1,15 @@
--- A word times a word of 32 bits fits 64 (low-fits), so the shift is the definition's floor.
+-- A word times a word of 32 bits fits 64 (low-fits), so the shift is a floor; the two halves' products make up the whole (Splitting).
+use mathlib.Core.Path.{ap}
 use Prim.Native.Nat.{_^_}
 use lib.IntN.{pos, _*ℤ_}
 use lib.Signed.{shrZ, mag-shr}
 use borrow.Author.Needs.{needs}
 use mir.Syntax.{w32, w64}
 use mir.ValLaws.{toZ-ofZ, sfits-le}
-use Rattle.words.specs.Words.{word}
+use Rattle.words.specs.Words.{word, wrap}
 use Rattle.words.proofs.Reading.{read}
 use Rattle.pll.proofs.Sums.{low-fits}
+use Rattle.pll.proofs.Splitting.{split-whole}
 use Rattle.pll.proofs.scaled.Statement.{statement}
 use Rattle.pll.proofs.scaled.Tie as tie
 
@@ -53,6 +55,7 @@ returns c =
       toZ-ofZ w64 m f,
       toZ-ofZ w64 (shrZ m (2 ^ 32)) (sfits-le (mag-shr m (2 ^ 32)) f),
     )
+    (ap (wrap w64) (split-whole (a .a1) (a .f0)))
 
 pub scaled-spec : {M : Type 1} → statement M
 scaled-spec =
