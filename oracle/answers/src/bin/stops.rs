@@ -1,4 +1,4 @@
-//! Where a checked build stops: one small case per place, as oracle/README.md lists them. Built with overflow
+//! Where a checked build stops: one small case per place, as docs/DIFFERENCES.md lists them. Built with overflow
 //! checks and debug assertions on; tells for each case where it stopped, or that it went on.
 
 use dsp_fixedpoint::{Q, Q32};
@@ -24,7 +24,7 @@ fn main() {
         };
         println!("{file}:{}: {}", place.line(), said.lines().next().unwrap_or(""));
     }));
-    let cases: [(&str, fn()); 32] = [
+    let cases: [(&str, fn()); 42] = [
         ("saturating_scale shift 0", || scale(0, 0, 0)),
         ("saturating_scale shift 33", || scale(0, 0, 33)),
         ("saturating_scale hi -2^31 at every shift: goes on", || {
@@ -52,14 +52,27 @@ fn main() {
         }),
         ("wdf nibble a, x 1, -2^31", || adapt(0xa, [1, MIN])),
         ("wdf nibble b, x -2^31, 1", || adapt(0xb, [MIN, 1])),
+        ("wdf nibble c, x 1, -2^31", || adapt(0xc, [1, MIN])),
+        ("wdf nibble d, x -2^31, 1", || adapt(0xd, [MIN, 1])),
+        ("wdf nibble e, x -2^31, 1", || adapt(0xe, [MIN, 1])),
+        ("wdf nibble f, x 1, -2^31", || adapt(0xf, [1, MIN])),
         ("wdf no sections, architecture 1", || {
             black_box(Wdf::<0, 1>::default().process(&mut WdfState::default(), 0));
         }),
         ("wide F 0 b0 = b1 = x0 = x1 = -2^31 (our shim's sum)", || {
-            wide::<0>([MIN, MIN, 0, 0, 0], [MIN, 0], 0, MIN)
+            wide::<0>([MIN, MIN, 0, 0, 0], [MIN, 0], [0, 0], MIN)
         }),
         ("wide F 0 b0 = a1 = x0 = -2^31, y1 = -2^63", || {
-            wide::<0>([MIN, 0, 0, MIN, 0], [0, 0], i64::MIN, MIN)
+            wide::<0>([MIN, 0, 0, MIN, 0], [0, 0], [i64::MIN, 0], MIN)
+        }),
+        ("wide F 0 b0 = a2 = x0 = -2^31, y2 = -2^63", || {
+            wide::<0>([MIN, 0, 0, 0, MIN], [0, 0], [0, i64::MIN], MIN)
+        }),
+        ("wide F 0 b0 = b1 = x0 = -2^31, x1 = 1 - 2^31, b2 1, x2 2^31 - 1, a1 2, y1 2^31", || {
+            wide::<0>([MIN, MIN, 1, 2, 0], [-MAX, MAX], [1 << 31, 0], MIN)
+        }),
+        ("wide F 0, the same with a2 and y2", || {
+            wide::<0>([MIN, MIN, 1, 0, 2], [-MAX, MAX], [0, 1 << 31], MIN)
         }),
         ("wide clamped F 0 b0 1, u 1, x 2^31 - 1", || wide_clamped(MAX, MIN, MAX)),
         ("wide clamped limits 1, 0", || wide_clamped(0, 1, 0)),
@@ -67,12 +80,14 @@ fn main() {
             dither::<31>([MIN, MIN, 1, 0, 0], [-MAX, MAX], 1, MIN)
         }),
         ("dither F 0", || dither::<0>([0; 5], [0; 2], 0, 0)),
+        ("dither clamped F 1 b0 2, u 1, x 2^31 - 1", || dither_clamped::<1>(2)),
+        ("dither clamped F 0 b0 1, u 1, x 2^31 - 1", || dither_clamped::<0>(1)),
         ("f64 clamped limits 1.0, 0.0", || {
             let mut filter = BiquadClamp::<f64>::from(Biquad::IDENTITY);
             (filter.min, filter.max) = (1.0, 0.0);
             black_box(filter.process(&mut DirectForm1::default(), 0.0));
         }),
-        ("pll z0 2^31 - 1, x 2", || pll([0; 3], PLLState { z0: MAX, ..PLLState::default() })),
+        ("pll z0 2^31 - 1, x 2", || pll([0; 3], PLLState { z0: MAX, ..PLLState::default() }, 2)),
         ("pll from zero, b0 = b1 = 2^31 - 1, a1 0, x 2^31 - 1 three times", || {
             let ba = [MAX, MAX, 0].map(Q32::from_bits);
             let mut state = PLLState::default();
@@ -80,7 +95,13 @@ fn main() {
                 black_box(PLL { ba }.process(&mut state, W(MAX)));
             }
         }),
-        ("pll f0 2^63 - 1, b0 1, x 2", || pll([1, 0, 0], PLLState { f0: i64::MAX, ..PLLState::default() })),
+        ("pll f0 2^63 - 1, b0 1, x 2", || {
+            pll([1, 0, 0], PLLState { f0: i64::MAX, ..PLLState::default() }, 2)
+        }),
+        ("pll b0 = b1 = -2^31, a1 2^31 - 1, z0 -2^30, y0 1 - 2^31, f0 2^33 - 1, x -2^31", || {
+            let state = PLLState { z0: MIN / 2, y0: -MAX, f0: (1 << 33) - 1, ..PLLState::default() };
+            pll([MIN, MIN, MAX], state, MIN)
+        }),
         ("rpll dt2 0, shifts 1, 0; timestamps 0, -1", || rpll([0, 1, 0], [0, -1])),
         ("rpll dt2 1, shifts 0, 1", || rpll([1, 0, 1], [0, 0])),
         ("rpll dt2 1, shifts 2, 0", || rpll([1, 2, 0], [0, 0])),
@@ -120,9 +141,9 @@ fn adapt(nibble: u8, x: [i32; 2]) {
     black_box(Tpa::from(nibble).adapt(x, Q32::from_bits(0)));
 }
 
-fn wide<const F: i8>(ba: [i32; 5], x: [i32; 2], y: i64, x0: i32) {
+fn wide<const F: i8>(ba: [i32; 5], x: [i32; 2], y: [i64; 2], x0: i32) {
     let filter = Biquad { ba: ba.map(Q::<i32, i64, F>::from_bits) };
-    black_box(filter.process(&mut DirectForm1Wide { x, y: [y, 0] }, x0));
+    black_box(filter.process(&mut DirectForm1Wide { x, y }, x0));
 }
 
 fn wide_clamped(x0: i32, min: i32, max: i32) {
@@ -137,9 +158,15 @@ fn dither<const F: i8>(ba: [i32; 5], x: [i32; 2], e: u32, x0: i32) {
     black_box(filter.process(&mut DirectForm1Dither { xy, e }, x0));
 }
 
-fn pll(ba: [i32; 3], mut state: PLLState) {
+fn dither_clamped<const F: i8>(b0: i32) {
+    let ba = [b0, 0, 0, 0, 0].map(Q::<i32, i64, F>::from_bits);
+    let filter = BiquadClamp { coeff: Biquad { ba }, u: 1, min: MIN, max: MAX };
+    black_box(filter.process(&mut DirectForm1Dither::default(), MAX));
+}
+
+fn pll(ba: [i32; 3], mut state: PLLState, x: i32) {
     let ba = ba.map(Q32::from_bits);
-    black_box(PLL { ba }.process(&mut state, W(2)));
+    black_box(PLL { ba }.process(&mut state, W(x)));
 }
 
 fn rpll([dt2, shift_frequency, shift_phase]: [u8; 3], timestamps: [i32; 2]) {
