@@ -1,6 +1,7 @@
 pub mod Wraps
 pub mod Halves
 pub mod Numbers
+pub mod Shifts
 pub mod Keeping
 pub mod Opening
 pub mod Figures

@@ -31,7 +31,7 @@ module _ (c : Biquad) (x : ℤ) where
   wide-with s y = record { x1 = x; x2 = s .x1; y1 = y; y2 = s .y1 }
 
   abbrev dither-with : DirectForm1Dither → ℤ → DirectForm1Dither
-  dither-with s y = record { x1 = x; x2 = s .x1; y1 = y; y2 = s .y1; e = ditherError c (ditherSum c s x) }
+  dither-with s y = record { x1 = x; x2 = s .x1; y1 = y; y2 = s .y1; e = ditherError c s x }
 
   pub wide-open : (s : DirectForm1Wide) → wideHeld (openOf c) s x ≡ wideOut c s x
   wide-open s = passes c (wideOut c s x) (output-fits c (wideSum c s x))
@@ -42,7 +42,7 @@ module _ (c : Biquad) (x : ℤ) where
       (ap (overwritten (wideNext c s x .y1)) (wide-open s) ∙ halves (wideNext c s x .y1))
 
   pub dither-open : (s : DirectForm1Dither) → ditherHeld (openOf c) s x ≡ ditherOut c s x
-  dither-open s = passes c (ditherOut c s x) (output-fits c (ditherSum c s x))
+  dither-open s = passes c (ditherOut c s x) (wrap-fits w32 (floorDiv (ditherSum c s x) (2 ^ c .f)))
 
   pub dither-open-next : (s : DirectForm1Dither) → ditherOnward (openOf c) s x ≡ ditherNext c s x
   dither-open-next s = ap (dither-with s) (dither-open s)

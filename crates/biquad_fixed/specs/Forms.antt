@@ -1,10 +1,11 @@
--- 01, 'Sections and loops', wide and dither: i64 sums wrap, then the code's shifts. A coefficient times a word is the whole product.
+-- 01, 'Sections and loops', wide and dither: i64 sums wrap, then the code's shifts, here by what they give. A coefficient times a word is
+-- the whole product.
 use mathlib.Core.Bool.{cond}
-use Prim.Native.Nat.{ℕ, _-_, _/_, _^_}
+use Prim.Native.Nat.{ℕ, _-_, _^_}
 use lib.IntN.{ℤ, pos, _+ℤ_, _*ℤ_}
 use lib.Signed.{ltZ}
 use mir.Syntax.{w32, w64}
-use Rattle.words.specs.Words.{word, wrap, floorDiv}
+use Rattle.words.specs.Words.{modℤ, word, wrap, floorDiv}
 use Rattle.biquad_fixed.specs.declared.coefficients.Biquad.{Biquad}
 use Rattle.biquad_fixed.specs.declared.coefficients.BiquadClamp.{BiquadClamp}
 use Rattle.biquad_fixed.specs.declared.wide.DirectForm1Wide.{DirectForm1Wide}
@@ -14,7 +15,7 @@ use Rattle.biquad_fixed.specs.declared.dither.DirectForm1Dither.{DirectF
 abbrev pub forward : Biquad → ℤ → ℤ → ℤ → ℤ
 forward c x0 x1 x2 = c .b0 *ℤ x0 +ℤ c .b1 *ℤ x1 +ℤ c .b2 *ℤ x2
 
--- a wrapped sum, its F fraction bits moved to the top of the low word
+-- a sum with F fraction bits as one with 32, modulo 2 ^ 64
 abbrev pub aligned : Biquad → ℤ → ℤ
 aligned c sum = wrap w64 (sum *ℤ pos (2 ^ (32 - c .f)))
 
@@ -31,18 +32,18 @@ wideOut c s x = floorDiv (aligned c (wideSum c s x)) (2 ^ 32)
 abbrev pub wideNext : Biquad → DirectForm1Wide → ℤ → DirectForm1Wide
 wideNext c s x = record { x1 = x; x2 = s .x1; y1 = aligned c (wideSum c s x); y2 = s .y1 }
 
--- Dither: the error joins the sum; the output is the high word, and the next error is the low word, shifted back.
-abbrev pub ditherError : Biquad → ℤ → ℕ
-ditherError c sum = word w32 (aligned c sum) / 2 ^ (32 - c .f)
-
+-- Dither: the error joins the sum. The output is the sum divided by 2 ^ F, rounded down, modulo 2 ^ 32; what is left is the next error.
 unfoldable pub ditherSum : Biquad → DirectForm1Dither → ℤ → ℤ
 ditherSum c s x = wrap w64 (pos (s .e) +ℤ (forward c x (s .x1) (s .x2) +ℤ (c .a1 *ℤ s .y1 +ℤ c .a2 *ℤ s .y2)))
 
 abbrev pub ditherOut : Biquad → DirectForm1Dither → ℤ → ℤ
-ditherOut c s x = floorDiv (aligned c (ditherSum c s x)) (2 ^ 32)
+ditherOut c s x = wrap w32 (floorDiv (ditherSum c s x) (2 ^ c .f))
+
+abbrev pub ditherError : Biquad → DirectForm1Dither → ℤ → ℕ
+ditherError c s x = modℤ (ditherSum c s x) (2 ^ c .f)
 
 abbrev pub ditherNext : Biquad → DirectForm1Dither → ℤ → DirectForm1Dither
-ditherNext c s x = record { x1 = x; x2 = s .x1; y1 = ditherOut c s x; y2 = s .y1; e = ditherError c (ditherSum c s x) }
+ditherNext c s x = record { x1 = x; x2 = s .x1; y1 = ditherOut c s x; y2 = s .y1; e = ditherError c s x }
 
 -- Offset addition wraps in i32; the limits hold below the lower, then above the upper.
 abbrev pub heldTo : ℤ → ℤ → ℤ → ℤ
@@ -76,5 +77,5 @@ ditherOnward c s x = record {
   x2 = s .x1;
   y1 = ditherHeld c s x;
   y2 = s .y1;
-  e = ditherError (c .coeff) (ditherSum (c .coeff) s x);
+  e = ditherError (c .coeff) s x;
 }

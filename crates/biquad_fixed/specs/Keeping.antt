@@ -10,26 +10,23 @@ use Rattle.biquad_fixed.specs.declared.coefficients.Biquad.{Biquad}
 use Rattle.biquad_fixed.specs.declared.coefficients.BiquadClamp.{BiquadClamp}
 use Rattle.biquad_fixed.specs.declared.dither.DirectForm1Dither.{DirectForm1Dither}
 use Rattle.biquad_fixed.specs.Forms.{ditherSum, ditherOut, ditherNext, ditherHeld, ditherOnward}
-use Rattle.biquad_fixed.specs.Answers.{fractionNumber, clampNumber}
 
 -- A step of c on s and x whose output is y before offset and clamp, and t the state after.
 pub record Kept (c : Biquad) (s : DirectForm1Dither) (x y : ℤ) (t : DirectForm1Dither) : Type 0 where
   pub sum : modℤ (ditherSum c s x) (2 ^ (32 + c .f)) ≡ modℤ (y *ℤ pos (2 ^ c .f) +ℤ pos (t .e)) (2 ^ (32 + c .f))
   pub below : t .e < 2 ^ c .f
 
--- Every accepted step, plain and clamped.
+-- Every step, plain and clamped.
 abbrev pub DitherKept : Type 0
-DitherKept = (c : Biquad) (s : DirectForm1Dither) (x : ℤ) → fractionNumber 1 c ≡ 0 → Kept c s x (ditherOut c s x) (ditherNext c s x)
+DitherKept = (c : Biquad) (s : DirectForm1Dither) (x : ℤ) → Kept c s x (ditherOut c s x) (ditherNext c s x)
 
 abbrev pub ClampKept : Type 0
-ClampKept = (c : BiquadClamp) (s : DirectForm1Dither) (x : ℤ) → clampNumber 1 c ≡ 0
-    → Kept (c .coeff) s x (ditherOut (c .coeff) s x) (ditherOnward c s x)
+ClampKept = (c : BiquadClamp) (s : DirectForm1Dither) (x : ℤ) → Kept (c .coeff) s x (ditherOut (c .coeff) s x) (ditherOnward c s x)
 
--- Every accepted block, plain and clamped, from an error below 2 ^ F.
+-- Every block, plain and clamped, from an error below 2 ^ F.
 abbrev pub BlockBelow : Type 0
-BlockBelow = (c : Biquad) (s : DirectForm1Dither) (xs : List ℤ) → fractionNumber 1 c ≡ 0
-    → s .e < 2 ^ c .f → ends (ditherOut c) (ditherNext c) s xs .e < 2 ^ c .f
+BlockBelow = (c : Biquad) (s : DirectForm1Dither) (xs : List ℤ) → s .e < 2 ^ c .f → ends (ditherOut c) (ditherNext c) s xs .e < 2 ^ c .f
 
 abbrev pub ClampBlockBelow : Type 0
-ClampBlockBelow = (c : BiquadClamp) (s : DirectForm1Dither) (xs : List ℤ) → clampNumber 1 c ≡ 0
-    → s .e < 2 ^ c .coeff .f → ends (ditherHeld c) (ditherOnward c) s xs .e < 2 ^ c .coeff .f
+ClampBlockBelow = (c : BiquadClamp) (s : DirectForm1Dither) (xs : List ℤ) → s .e < 2 ^ c .coeff .f
+    → ends (ditherHeld c) (ditherOnward c) s xs .e < 2 ^ c .coeff .f

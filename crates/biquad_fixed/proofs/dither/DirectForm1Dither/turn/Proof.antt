@@ -1,4 +1,4 @@
--- Shifts from 1 to 31 are those that the definition writes as powers (Numbers).
+-- The shifts are by 1 to 31, and give the sum's quotient and what is left (Shifts).
 use borrow.Author.Needs.{needs}
 use mathlib.Core.Path.{_≡_, refl}
 use Prim.Native.Nat.{_-_, _%_}
@@ -7,7 +7,9 @@ use native.Mathlib.Omega.{arith}
 use mir.Syntax.{w32, w64}
 use mir.ValLaws.{toZ-ofZ}
 use Rattle.words.proofs.Reading.{read}
+use Rattle.biquad_fixed.specs.Forms.{ditherSum}
 use Rattle.biquad_fixed.proofs.Numbers.{in-range}
+use Rattle.biquad_fixed.proofs.Shifts.{output, error}
 use Rattle.biquad_fixed.proofs.dither.DirectForm1Dither.turn.Statement.{statement}
 use Rattle.biquad_fixed.proofs.dither.DirectForm1Dither.turn.Tie as tie
 
@@ -37,6 +39,8 @@ returns c =
       toZ-ofZ w32 (a .x0) (s .fits .x0),
       read w32 (a .self .x1) (g .0 .1),
       read w32 (a .self .y1) (g .1 .1 .0 .1),
+      output 1 (a .c) (s .pre) (ditherSum (a .c) (a .self) (a .x0)),
+      error 1 (a .c) (s .pre) (ditherSum (a .c) (a .self) (a .x0)),
     )
     (refl, refl)
 
