@@ -10,7 +10,7 @@ use lib.Dec.{leb}
 use lib.ListN.{length, take, drop, set, getD, length-append, length-take, length-drop, take-append-drop}
 use lib.Seq.{set-split, drop-drop, take-at, take-suc, length-take-le, drop-append-add}
 use borrow.Author.Tests.{le-leb, lt-leb, leb-true, leb-false, not-true, not-false}
-use Rattle.text.specs.Writing.{overlaid, Wrote, Puts}
+use Rattle.text.specs.Writing.{overlaid, Wrote, Puts, PutSettled}
 
 pub put-one : (l : List ℕ) (at b : ℕ) → at < length l → set l at b ≡ overlaid l at (b ∷ [])
 unfolding overlaid
@@ -110,6 +110,6 @@ module _ (t : Bool) (len at n : ℕ) (e : t ≡ leb (at + n) len) where
 pub puts-same : {o o' : List ℕ} {at r : ℕ} {xs ys : List ℕ} → xs ≡ ys → Puts o at xs r o' → Puts o at ys r o'
 puts-same e w = rw e at w
 
--- a writer's promise settles it: two results that it allows are one
-pub settled : {o : List ℕ} {at : ℕ} {bs : List ℕ} {q r : ℕ} {us vs : List ℕ} → Puts o at bs q us → Puts o at bs r vs → (q ≡ r) × (us ≡ vs)
-settled p t = (p .next ∙ sym (t .next), p .text ∙ sym (t .text))
+-- the promise gives both results an equation
+pub settled : PutSettled
+settled o bs us vs at q r p t = (p .next ∙ sym (t .next), p .text ∙ sym (t .text))

@@ -19,3 +19,7 @@ pub record Wrote (o : List ℕ) (at : ℕ) (bs : List ℕ) (r : ℕ) (o' : List 
 pub record Puts (o : List ℕ) (at : ℕ) (bs : List ℕ) (r : ℕ) (o' : List ℕ) : Type 0 where
   pub next : r ≡ cond (leb (at + length bs) (length o)) (at + length bs) at
   pub text : o' ≡ cond (leb (at + length bs) (length o)) (overlaid o at bs) o
+
+-- 01, 'Promises that bite': any two results that the promise allows are equal.
+abbrev pub PutSettled : Type 0
+PutSettled = (o bs us vs : List ℕ) (at q r : ℕ) → Puts o at bs q us → Puts o at bs r vs → (q ≡ r) × (us ≡ vs)
