@@ -1,5 +1,5 @@
 // Runs the proved decimator and interpolator over the Rust's stored answers (oracle/README.md, cic) and prints what
-// differs: short runs by steps with the whole state after each, long runs by blocks.
+// differs: runs by steps and runs by blocks of drawn lengths, with the whole state after each.
 use blocks::Verdict;
 use cic::questions::Fitting;
 use cic::questions::Interpolated;
@@ -19,16 +19,18 @@ use rust_answers::lines::unlike;
 use rust_answers::lines::unlike_double;
 use rust_answers::runs::digest;
 use rust_answers::runs::digest_first;
+use rust_answers::runs::draw;
 use rust_answers::runs::spread;
 use words::casts::i32_as_u32;
 use words::casts::u32_as_i32;
 use words::casts::u64_as_u32;
 use words::unsigned::add_u64;
+ghost use Prim.Native.Nat.{_≤_};
 
-const LINES: u32 = 1800;
+const LINES: u32 = 1820;
 
 const WIDTH: u32 = 12;
-// The inputs of a block in a long run.
+// The most inputs of a decimator's block, or outputs of an interpolator's.
 const BLOCK: usize = 250;
 // No later rate.
 const NONE: u32 = 0xffff_ffff;
@@ -58,6 +60,14 @@ fn wrote_number(wrote: Wrote) -> u32 {
     match wrote {
         Wrote::Outputs(_) => 0,
         Wrote::Refused(k) => k,
+    }
+}
+
+// The number of an interpolator's block's refusal, 0 for none.
+fn read_number(read: Read) -> u32 {
+    match read {
+        Read::Inputs(_) => 0,
+        Read::Refused(k) => k,
     }
 }
 
@@ -197,96 +207,82 @@ fn interpolate_turn(r: Running) -> Running {
     }
 }
 
-// What 250 steps from this countdown feed: 1 and the next output where one falls, else 0.
-fn digest_outputs(d: u64, ys: &[i32; BLOCK], countdown: u32, rate: u32) -> u64 {
+// The length of the next block: one time in four 0, 1 or 2, else up to 250.
+fn block_length(u: u32) -> usize
+    ensures { λ r. ⌜ r ≤ 250 ⌝ }
+{
+    if u % 4 == 0 {
+        return size(u / 4 % 3);
+    }
+    size(u / 4 % 251)
+}
+
+// The digest grown by the first n values.
+fn digest_values(d: u64, ys: [i32; BLOCK], n: usize) -> u64 {
     let mut e = d;
-    let mut c = countdown;
-    let mut k: usize = 0;
-    for _ in 0..BLOCK {
-        if c == 0 {
-            let next = k % BLOCK;
-            e = digest(digest(e, 1), i32_as_u32(ys[next]));
-            k = next + 1;
-            c = rate;
-        } else {
-            e = digest(e, 0);
-            c -= 1;
+    for at in 0..BLOCK {
+        let y = ys[at];
+        if at < n {
+            e = digest(e, i32_as_u32(y));
         }
     }
     e
 }
 
+// What a block answers: its count, or no count that a block can have.
+fn wrote_count(wrote: Wrote) -> usize {
+    match wrote {
+        Wrote::Outputs(w) => w.count,
+        Wrote::Refused(_) => 251,
+    }
+}
+
+fn read_count(read: Read) -> usize {
+    match read {
+        Read::Inputs(n) => n,
+        Read::Refused(_) => 251,
+    }
+}
+
+fn digest_count(d: u64, n: usize) -> u64 {
+    digest(d, u64_as_u32(n as u64))
+}
+
 fn decimate_block_turn(r: Running) -> Running {
+    let first = draw(r.draws);
+    let n = block_length(first.value);
     let mut xs = [0i32; BLOCK];
     let mut ys = [0i32; BLOCK];
-    let draws = fill(&mut xs, r.draws);
+    let draws = fill(&mut xs, first.state);
     let s = r.state;
-    let t = s.decimate_block(&xs, &mut ys);
+    let t = s.decimate_block(&xs[..n], &mut ys[..n]);
     let state = t.state;
     let wrote = t.wrote;
-    let k = wrote_number(wrote);
-    let d = if k == 0 {
-        digest_outputs(r.digest, &ys, s.countdown, s.rate)
-    } else {
-        digest(r.digest, k)
-    };
+    let count = wrote_count(wrote);
+    let given = digest_values(digest_count(r.digest, count), ys, count);
     Running {
         state,
         draws,
-        digest: d,
-    }
-}
-
-// The samples that are due among 250 drawn ones, moved to the front.
-fn due(xs: &mut [i32; BLOCK], countdown: u32, rate: u32) {
-    let mut c = countdown;
-    let mut k: usize = 0;
-    for i in 0..BLOCK {
-        let x = xs[i];
-        if c == 0 {
-            let next = k % BLOCK;
-            xs[next] = x;
-            k = next + 1;
-            c = rate;
-        } else {
-            c -= 1;
-        }
-    }
-}
-
-fn read_number(read: Read) -> u32 {
-    match read {
-        Read::Inputs(_) => 0,
-        Read::Refused(k) => k,
-    }
-}
-
-// A block on these samples.
-fn interpolate_due(r: Running, xs: &[i32; BLOCK], draws: u64) -> Running {
-    let mut ys = [0i32; BLOCK];
-    let s = r.state;
-    let t = s.interpolate_block(xs, &mut ys);
-    let state = t.state;
-    let read = t.read;
-    let k = read_number(read);
-    let d = if k == 0 {
-        digest_outputs(r.digest, &ys, 0, 0)
-    } else {
-        digest(r.digest, k)
-    };
-    Running {
-        state,
-        draws,
-        digest: d,
+        digest: digest_state(given, state),
     }
 }
 
 fn interpolate_block_turn(r: Running) -> Running {
+    let first = draw(r.draws);
+    let n = block_length(first.value);
     let mut xs = [0i32; BLOCK];
-    let draws = fill(&mut xs, r.draws);
+    let mut ys = [0i32; BLOCK];
+    let draws = fill(&mut xs, first.state);
     let s = r.state;
-    due(&mut xs, s.countdown, s.rate);
-    interpolate_due(r, &xs, draws)
+    let t = s.interpolate_block(&xs[..n], &mut ys[..n]);
+    let state = t.state;
+    let read = t.read;
+    let given = digest_values(digest_count(r.digest, read_count(read)), ys, n);
+    Running {
+        state,
+        draws,
+        digest: digest_state(given, state),
+    }
 }
 
 fn turn(r: Running, code: u32) -> Running {
@@ -311,17 +307,10 @@ fn run(code: u32, first: Running, turns: u32, later: u32) -> Running {
     r
 }
 
-// A run by steps, whose digests have the whole state after each.
-fn steps_run(w: [u32; 40]) -> u64 {
+// A run, by steps or by blocks, whose digests have the whole state after each.
+fn whole_run(w: [u32; 40]) -> u64 {
     let r = run(w[0], started(w), w[6], w[7]);
     unlike_double(r.digest, double(w[8], w[9]))
-}
-
-// A run by blocks: the outputs, then the state.
-fn blocks_run(w: [u32; 40]) -> u64 {
-    let r = run(w[0], started(w), w[6] / 250, w[7]);
-    let state = r.state;
-    unlike_double(digest_state(r.digest, state), double(w[8], w[9]))
 }
 
 // ---- questions
@@ -389,8 +378,7 @@ fn clear(w: [u32; 40]) -> u64 {
 // 1 where the line differs from what the proved functions give.
 fn differs(w: [u32; 40]) -> u64 {
     match w[0] {
-        1 | 2 => steps_run(w),
-        3 | 4 => blocks_run(w),
+        1 | 2 | 3 | 4 => whole_run(w),
         5 => questions(w),
         6 => settle(w),
         _ => clear(w),
@@ -399,24 +387,53 @@ fn differs(w: [u32; 40]) -> u64 {
 
 // How many cases a line stands for: the steps of a run, else one.
 fn weight(w: [u32; 40]) -> u64 {
-    if w[0] < 5 {
-        return double(0, w[6]);
+    match w[0] {
+        1 | 2 => double(0, w[6]),
+        3 | 4 => double(0, w[10]),
+        _ => 1,
     }
-    1
+}
+
+// 1 where the gain is asked and refused: the Rust's is then not compared.
+fn past_the_cap(w: [u32; 40]) -> u64 {
+    if w[0] != 5 {
+        return 0;
+    }
+    let r = started(w);
+    let s = r.state;
+    match s.gain() {
+        Told::Number(_) => 0,
+        Told::Refused(_) => 1,
+    }
+}
+
+fn tell(past: u64) {
+    if past == 0 {
+        return;
+    }
+    io::write_all(
+        1,
+        b"  of which a gain refused with 14, that the crate wraps: ",
+    );
+    io::print_decimal(1, past);
+    io::write_all(1, b"\n");
 }
 
 // All lines with this code.
 fn compare(text: &[u8], code: u32, name: &[u8]) {
     let mut cases: u64 = 0;
     let mut differ: u64 = 0;
+    let mut past: u64 = 0;
     for i in 0..LINES {
         let w = line(text, i * WIDTH);
         if w[0] == code {
             cases = add_u64(cases, weight(w));
             differ = add_u64(differ, differs(w));
+            past = add_u64(past, past_the_cap(w));
         }
     }
     report(name, cases, differ);
+    tell(past);
 }
 
 // ---- refusals: each number at its boundary, and a neighbour that is accepted
@@ -599,8 +616,8 @@ fn main() {
     let text = &space[..n];
     compare(text, 1, b"decimator steps, whole state after each");
     compare(text, 2, b"interpolator steps, whole state after each");
-    compare(text, 3, b"decimator blocks, long runs");
-    compare(text, 4, b"interpolator blocks, long runs");
+    compare(text, 3, b"decimator blocks, whole state after each");
+    compare(text, 4, b"interpolator blocks, whole state after each");
     compare(text, 5, b"tick, outputs, gain, gain_log2, response_length");
     compare(text, 6, b"settle_interpolate");
     compare(text, 7, b"clear");

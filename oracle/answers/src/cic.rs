@@ -7,7 +7,8 @@ use idsp::Cic;
 const NONE: u32 = u32::MAX;
 const RATES: [u32; 7] = [0, 1, 2, 4, 63, 1023, 65535];
 
-/// A case: the filter's numbers, the seed of its cells and inputs, and a run's length and later rate.
+/// A case: the filter's numbers, the seed of its cells and inputs, and a run's length, in steps or blocks, and later
+/// rate.
 #[derive(Clone, Copy)]
 struct Case {
     order: u32,
@@ -23,7 +24,7 @@ pub fn write(root: &str) {
     let mut out = Answers::new(12);
     let mut draw = Draw::new(moved(3));
     short_runs(&mut out, &mut draw);
-    long_runs(&mut out);
+    block_runs(&mut out, &mut Draw::new(moved(4)));
     questions(&mut out, &mut draw);
     out.write(root, "cic");
 }
@@ -68,25 +69,36 @@ fn short_runs(out: &mut Answers, draw: &mut Draw) {
     });
 }
 
-/// 3, 4: as 1 and 2, the state digested at the end only.
-fn long_runs(out: &mut Answers) {
+/// 3, 4: runs by blocks. Every order with every delay, then nine longer ones.
+fn block_runs(out: &mut Answers, draw: &mut Draw) {
     for code in [3, 4] {
+        for (order, delay) in (0..=8).flat_map(|n| (1..=8).map(move |m| (n, m))) {
+            let rate = RATES[draw.below(6) as usize];
+            let later = if draw.below(2) == 0 { NONE } else { RATES[draw.below(6) as usize] };
+            let (countdown, seed, steps) = (draw.below(24), draw.word(), longer(60));
+            blocks(out, code, &Case { order, delay, rate, countdown, seed, steps, later });
+        }
         for (order, delay, rate, steps, later) in [
-            (3, 1, 4, 1_000_000, NONE),
-            (3, 1, 63, 1_000_000, NONE),
-            (0, 1, 7, 100_000, NONE),
-            (1, 1, 1023, 300_000, NONE),
-            (2, 3, 2, 300_000, 4),
-            (5, 2, 15, 300_000, NONE),
-            (8, 8, 0, 200_000, NONE),
-            (8, 5, 1, 100_000, 0),
-            (4, 1, 65535, 400_000, NONE),
+            (3, 1, 4, 10_000, NONE),
+            (3, 1, 63, 10_000, NONE),
+            (0, 1, 7, 1_000, NONE),
+            (1, 1, 1023, 3_000, NONE),
+            (2, 3, 2, 3_000, 4),
+            (5, 2, 15, 3_000, NONE),
+            (8, 8, 0, 2_000, NONE),
+            (8, 5, 1, 1_000, 0),
+            (4, 1, 65535, 4_000, NONE),
         ] {
             let (seed, steps) = (moved(40 + order), longer(steps));
-            let case = Case { order, delay, rate, countdown: order, seed, steps, later };
-            run(out, code, &case);
+            blocks(out, code, &Case { order, delay, rate, countdown: order, seed, steps, later });
         }
     }
+}
+
+fn blocks(out: &mut Answers, code: u32, c: &Case) {
+    let line = [c.order, c.delay, c.rate, c.countdown, c.seed, c.steps, c.later];
+    let (digest, taken) = by_blocks_filter(c, code);
+    out.line(code, &[&line, &digest, &taken]);
 }
 
 fn run(out: &mut Answers, code: u32, c: &Case) {
@@ -164,9 +176,7 @@ fn digest<const N: usize, const M: usize>(c: &Case, code: u32) -> Digest {
                     Some(y) => digest.feed(&[1, y]),
                     None => digest.feed(&0u32),
                 }
-                if code < 3 {
-                    feed_state(&mut digest, &cic);
-                }
+                feed_state(&mut digest, &cic);
             }
         }
     }
@@ -174,6 +184,42 @@ fn digest<const N: usize, const M: usize>(c: &Case, code: u32) -> Digest {
         feed_state(&mut digest, &cic);
     }
     digest
+}
+
+/// The length of a run's next block: one time in four 0, 1 or 2, else up to 250.
+fn length(draw: &mut Draw) -> u32 {
+    let u = draw.word();
+    if u % 4 == 0 { u / 4 % 3 } else { u / 4 % 251 }
+}
+
+/// A run by blocks, and its steps. The crate has none: a block is its steps in turn, the samples that are due taken
+/// from the front of its inputs; what it answers is the count of the outputs, or of the samples taken.
+fn by_blocks<const N: usize, const M: usize>(c: &Case, code: u32) -> (Digest, u32) {
+    let mut draw = Draw::new(c.seed);
+    let mut cic = filter::<N, M>(c, &mut draw);
+    let mut digest = Digest::default();
+    let mut taken = 0;
+    for i in 0..c.steps {
+        if i == c.steps / 2 && c.later != NONE {
+            cic.set_rate(c.later);
+        }
+        let len = length(&mut draw);
+        let words: [i32; 250] = draw.ints();
+        let xs = &words[..len as usize];
+        let (count, ys): (u32, Vec<i32>) = if code == 3 {
+            let ys: Vec<i32> = xs.iter().filter_map(|x| cic.process(*x)).collect();
+            (ys.len() as u32, ys)
+        } else {
+            let mut due = xs.iter();
+            let ys = (0..len).map(|_| cic.process(if cic.tick() { due.next().copied() } else { None })).collect();
+            (len - due.len() as u32, ys)
+        };
+        digest.feed(&count);
+        digest.feed(&ys[..]);
+        feed_state(&mut digest, &cic);
+        taken += len;
+    }
+    (digest, taken)
 }
 
 fn asked<const N: usize, const M: usize>(c: &Case) -> [u32; 6] {
@@ -224,6 +270,10 @@ macro_rules! of_order {
 
 fn of_filter(c: &Case, code: u32) -> Digest {
     of_order!(digest, c, code)
+}
+
+fn by_blocks_filter(c: &Case, code: u32) -> (Digest, u32) {
+    of_order!(by_blocks, c, code)
 }
 
 fn asked_filter(c: &Case) -> [u32; 6] {

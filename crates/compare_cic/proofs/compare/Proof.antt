@@ -5,14 +5,15 @@ use Rattle.compare_cic.proofs.compare.Statement.{statement}
 use Rattle.compare_cic.proofs.compare.Tie as tie
 
 abbrev Inv-loop : tie.InvT-loop
-Inv-loop text code name cases₀ differ₀ i₀ cases differ i = i ≤ 1800
+Inv-loop text code name cases₀ differ₀ past₀ i₀ cases differ past i = i ≤ 1820
 
 abbrev μ-loop : tie.MeasureT-loop
-μ-loop text code name cases₀ differ₀ i₀ cases differ i = 1800 - i
+μ-loop text code name cases₀ differ₀ past₀ i₀ cases differ past i = 1820 - i
 
 pub compare-spec : {M : Type 1} → statement M
 compare-spec =
     tie.close
     (tie.spec Inv-loop μ-loop (λ c. search needs) (λ c. search needs) (λ c κs. search needs) (λ c. search needs)
-    (λ c κs. search needs) (λ c κs. search needs) (λ c κs. search needs) (λ c κs. search needs) (λ c. search needs)
-    (λ c. search needs) (λ c. search needs) (λ c κs. search needs) (λ c. search needs))
+    (λ c κs. search needs) (λ c κs. search needs) (λ c κs. search needs) (λ c κs. search needs)
+    (λ c κs. search needs) (λ c κs. search needs) (λ c. search needs) (λ c. search needs) (λ c. search needs)
+    (λ c κs. search needs) (λ c κs. search needs) (λ c. search needs))
