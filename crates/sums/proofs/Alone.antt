@@ -13,7 +13,7 @@ use Rattle.sums.specs.State.{State}
 use Rattle.sums.specs.Calls.{stepState, stepGiven}
 use Rattle.sums.specs.Runs.{join, outputs, after, blockNumber, blockState}
 use Rattle.sums.specs.Signed.{signedOps}
-use Rattle.sums.specs.Demands.{InWord, Call, step, block, along, afterCalls, reads, leaves, gives, Decimates, Decimator}
+use Rattle.sums.specs.Demands.{Call, step, block, along, afterCalls, reads, leaves, gives, Decimates, Decimator}
 use Rattle.sums.proofs.Steps.{Fit, accepted, step-fit}
 
 join-append : {A : Type 0} (g : Option A) (l k : List A) → join g l ++ k ≡ join g (l ++ k)
@@ -49,7 +49,7 @@ module _ (o : Ops ℤ) where
   one s f (step x) = rw (accepted s f) (record { gave = refl; left = refl })
   one s f (block xs out) = took s xs (eqb (blockNumber s xs out) 0)
 
-  leaves-fit : (s : State ℤ) → Fit s → (c : Call) → Fit (leaves o s c)
+  pub leaves-fit : (s : State ℤ) → Fit s → (c : Call) → Fit (leaves o s c)
   leaves-fit s f c = subst (λ q. Fit q) (sym (one s f c .left)) (after-fit o s f (reads s c))
 
   -- a run
@@ -69,8 +69,8 @@ module _ (o : Ops ℤ) where
 
 -- what holds of the steps in turn holds of every run
 pub decimator : (w : Width) (N M r c u : ℕ) (s : State ℤ) → Fit s
-    → ((xs : List ℤ) → InWord w xs → Decimates w N M r c u xs (outputs (signedOps w) s xs)) → Decimator w N M r c u s
+    → ((xs : List ℤ) → Decimates w N M r c u xs (outputs (signedOps w) s xs)) → Decimator w N M r c u s
 decimator w N M r c u s f d calls = (
   accepted (afterCalls (leaves (signedOps w)) s calls) (calls-fit (signedOps w) s f calls),
-  λ b. rw (alone (signedOps w) s f calls) (d (along (leaves (signedOps w)) reads s calls) b),
+  rw (alone (signedOps w) s f calls) (d (along (leaves (signedOps w)) reads s calls)),
 )

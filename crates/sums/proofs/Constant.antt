@@ -1,6 +1,5 @@
 -- settle_interpolate on x: with the first line all x a stream of x leaves every comb at nothing, so the integrators stand still and the
--- last
--- one gives what it was set to, x times gain.
+-- last one gives what it was set to, x times gain.
 use mathlib.Core.Path.{_≡_, refl, sym, ap, ap₂, subst, fun-ext, _∙_}
 use mathlib.Core.List.{List, [], _∷_, _++_}
 use Prim.Native.Nat.{ℕ, zero, suc, _*_, _-_, _/_, _^_, _<_}
@@ -9,22 +8,21 @@ use native.Mathlib.Nat.{pow-zero}
 use lib.IntN.{ℤ, pos, _*ℤ_, zero-*ℤ, sucℤ-*ℤ, +ℤ-idl}
 use lib.ListN.{length, getD, take, replicate, length-replicate, length-append, getD-replicate}
 use mir.Syntax.{Width}
-use mir.Val.{SFits}
 use Rattle.words.specs.Words.{wrap}
-use Rattle.words.proofs.Reading.{wrap-is, wrap-fits, wrap-wrap}
+use Rattle.words.proofs.Sums.{wrap-same}
 use Rattle.sums.specs.Ops.{Ops, Laws, times}
 use Rattle.sums.specs.Signed.{signedOps, exactOps}
 use Rattle.sums.specs.Moving.{held}
 use Rattle.sums.specs.State.{State, rows, view}
 use Rattle.sums.specs.Calls.{gain, gainOf, settledAt}
-use Rattle.sums.specs.Demands.{InWord, Contents, along, lifts, samples, Stream}
+use Rattle.sums.specs.Demands.{modulo, along, lifts, samples, Stream}
 use Rattle.sums.proofs.Refusals.{Sound}
 use Rattle.sums.proofs.Steps.{Fit}
 use Rattle.sums.proofs.Groups.{sub-self}
 use Rattle.sums.proofs.Sequences.{pre, acc}
 use Rattle.sums.proofs.Cascade.{prep, lag, combVal, intVal}
-use Rattle.sums.proofs.Carried.{exactLaws, nil-in, wrap-hom, times-to}
-use Rattle.sums.proofs.Makers.{rows-first, replicate-in, append-in, zero-contents}
+use Rattle.sums.proofs.Carried.{exactLaws, times-alike}
+use Rattle.sums.proofs.Makers.{rows-first}
 use Rattle.sums.proofs.Interpolating.{given-is}
 
 prep-const : {A : Type 0} (M : ℕ) (a : A) (k : ℕ) → prep (replicate M a) (λ i. a) k ≡ a
@@ -69,32 +67,21 @@ unfolding times
 times-is zero x = sym (zero-*ℤ x)
 times-is (suc n) x = ap (λ y. exactOps .add y x) (times-is n x) ∙ sym (sucℤ-*ℤ (pos n) x)
 
-times-wraps : (w : Width) (n : ℕ) (x : ℤ) → SFits w x → times (signedOps w) n x ≡ wrap w (pos n *ℤ x)
-times-wraps w n x h =
-    ap (times (signedOps w) n) (sym (wrap-is w x h)) ∙ times-to exactOps (signedOps w) (wrap w) (wrap-hom w) n x
-    ∙ ap (wrap w) (times-is n x)
-
 take-front : {A : Type 0} (n : ℕ) (a b : A) (l : List A) → take (suc n) (replicate n b ++ (a ∷ l)) ≡ replicate n b ++ (a ∷ [])
 take-front zero a b l = refl
 take-front (suc n) a b l = ap (λ r. b ∷ r) (take-front n a b l)
 
 -- a state that gives v at every step over a stream of x
-record Still (w : Width) (x v : ℤ) (s : State ℤ) : Type 0 where
+record Still (x v : ℤ) (s : State ℤ) : Type 0 where
   pub fit : Fit s
   pub due : s .countdown ≡ 0
-  pub contents : Contents w (s .integrators) (s .combs)
   pub gives : (t : ℕ) → intVal exactOps (view s .integrators) (held (suc (s .rate)) (combVal exactOps (view s .lines) (λ i. x))) t ≡ v
 
-module _ (w : Width) (s : State ℤ) (x : ℤ) (hx : SFits w x) where
+module _ (w : Width) (s : State ℤ) (x : ℤ) where
   -- order 0
-  still-zero : Sound 0 (s .delay) (s .rate) 0 0 → Still w x x (settledAt (signedOps w) s x 0)
+  still-zero : Sound 0 (s .delay) (s .rate) 0 0 → Still x x (settledAt (signedOps w) s x 0)
   unfolding settledAt view rows intVal combVal held
-  still-zero q = record {
-    fit = record { good = q; long8 = refl; long64 = refl };
-    due = refl;
-    contents = zero-contents w;
-    gives = λ t. refl;
-  }
+  still-zero q = record { fit = record { good = q; long8 = refl; long64 = refl }; due = refl; gives = λ t. refl }
 
   -- order n + 1
   module _ (n : ℕ) (q : Sound (suc n) (s .delay) (s .rate) 0 0) where
@@ -107,56 +94,41 @@ module _ (w : Width) (s : State ℤ) (x : ℤ) (hx : SFits w x) where
     abbrev ints : List ℤ
     ints = replicate n (pos 0) ++ (top ∷ replicate (7 - n) (pos 0))
 
-    top-in : SFits w top
-    top-in = subst (SFits w) (sym (times-wraps w (gain s) x hx)) (wrap-fits w (pos (gain s) *ℤ x))
-
-    still-contents : Contents w ints cells
-    still-contents = record {
-      long8 = simp (length-append, length-replicate) (omega (arith, q .few));
-      long64 = simp (length-append, length-replicate) (omega (arith, q .short));
-      integrators-in = append-in w (replicate n (pos 0)) (top ∷ replicate (7 - n) (pos 0)) (replicate-in w n (pos 0) (nil-in w)) tail-in;
-      combs-in = append-in w (replicate (s .delay) x) (replicate (64 - s .delay) (pos 0)) (replicate-in w (s .delay) x hx)
-          (replicate-in w (64 - s .delay) (pos 0) (nil-in w));
-    }
-      where
-        tail-in : InWord w (top ∷ replicate (7 - n) (pos 0))
-        tail-in zero = top-in
-        tail-in (suc i) = replicate-in w (7 - n) (pos 0) (nil-in w) i
-
     first-ints : take (suc n) ints ≡ replicate n (pos 0) ++ (top ∷ [])
     first-ints = take-front n top (pos 0) (replicate (7 - n) (pos 0))
 
     first-rows : rows (s .delay) (suc n) cells ≡ replicate (s .delay) x ∷ replicate n (replicate (s .delay) (pos 0))
     first-rows = rows-first (s .delay) n (replicate (s .delay) x) (pos 0) (length-replicate (s .delay) x) (q .short) (omega (arith, q .few))
 
-    still-suc : Still w x top (settledAt (signedOps w) s x (suc n))
+    still-suc : Still x top (settledAt (signedOps w) s x (suc n))
     unfolding settledAt view
     still-suc = record {
-      fit = record { good = q; long8 = still-contents .long8; long64 = still-contents .long64 };
+      fit = record {
+        good = q;
+        long8 = simp (length-append, length-replicate) (omega (arith, q .few));
+        long64 = simp (length-append, length-replicate) (omega (arith, q .short));
+      };
       due = refl;
-      contents = still-contents;
       gives = λ t. ap₂ (λ is ls. intVal exactOps is (held (suc (s .rate)) (combVal exactOps ls (λ i. x))) t) first-ints first-rows
           ∙ ap (λ (f : ℕ → ℤ). f t) (still exactOps exactLaws (suc (s .rate)) (s .delay) n x top);
     }
 
 -- every output of a run over a stream of x
-stream-still : (w : Width) (x v : ℤ) (s : State ℤ) → SFits w x → Still w x v s → Stream w s x (wrap w v)
-stream-still w x v s hx k calls n e t y q =
+stream-still : (w : Width) (x v : ℤ) (s : State ℤ) → Still x v s → Stream w s x (modulo w (s .order) v)
+stream-still w x v s k calls n e t y q =
     let stream : (i : ℕ) → i < length (along (lifts (signedOps w)) samples s calls)
     → getD (along (lifts (signedOps w)) samples s calls) i (pos 0) ≡ x =
     λ i l. ap (λ r. getD r i (pos 0)) e ∙ getD-replicate n i x (pos 0) (subst (λ m. i < m) (ap length e ∙ length-replicate n x) l) in
-    given-is w s (k .fit) (k .due) (k .contents) calls (λ i. x) stream (λ i. hx) t y q ∙ ap (wrap w) (k .gives t)
+    given-is w s (k .fit) (k .due) calls (λ i. x) stream t y q ∙ ap (modulo w (s .order)) (k .gives t)
 
-pub settled-stream : (w : Width) (s : State ℤ) (x : ℤ) → SFits w x → (N : ℕ) → s .order ≡ N → Sound N (s .delay) (s .rate) 0 0
-    → Stream w (settledAt (signedOps w) s x N) x (wrap w (pos (gain s) *ℤ x))
-unfolding gainOf times
-settled-stream w s x hx zero o q =
+pub settled-stream : (w : Width) (s : State ℤ) (x : ℤ) (N : ℕ) → s .order ≡ N → Sound N (s .delay) (s .rate) 0 0
+    → Stream w (settledAt (signedOps w) s x N) x (modulo w N (pos (gain s) *ℤ x))
+unfolding gainOf times settledAt modulo
+settled-stream w s x zero o q =
     let one : gain s ≡ 1 = ap (λ k. (suc (s .rate) * s .delay) ^ k) o ∙ pow-zero (suc (s .rate) * s .delay) in
     let same : x ≡ pos (gain s) *ℤ x = sym (ap (λ k. pos k *ℤ x) one ∙ sym (times-is 1 x) ∙ +ℤ-idl x) in
-    subst (λ v. Stream w (settledAt (signedOps w) s x 0) x (wrap w v)) same
-    (stream-still w x x (settledAt (signedOps w) s x 0) hx (still-zero w s x hx q))
-settled-stream w s x hx (suc n) o q =
-    let same : wrap w (times (signedOps w) (gain s) x) ≡ wrap w (pos (gain s) *ℤ x) = ap (wrap w) (times-wraps w (gain s) x hx)
-    ∙ wrap-wrap w (pos (gain s) *ℤ x) in
-    subst (Stream w (settledAt (signedOps w) s x (suc n)) x) same
-    (stream-still w x (times (signedOps w) (gain s) x) (settledAt (signedOps w) s x (suc n)) hx (still-suc w s x hx n q))
+    subst (Stream w (settledAt (signedOps w) s x 0) x) same (stream-still w x x (settledAt (signedOps w) s x 0) (still-zero w s x q))
+settled-stream w s x (suc n) o q =
+    subst (Stream w (settledAt (signedOps w) s x (suc n)) x)
+    (wrap-same (times-alike w (gain s) x) ∙ ap (wrap w) (times-is (gain s) x))
+    (stream-still w x (times (signedOps w) (gain s) x) (settledAt (signedOps w) s x (suc n)) (still-suc w s x n q))

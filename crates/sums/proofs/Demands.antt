@@ -37,11 +37,11 @@ pub demand2-cleared : Demand2Cleared
 demand2-cleared w s e = rw (clear-is (signedOps w) s e) (from-zero w (s .order) (s .delay) (s .rate) (zero-sound s e))
 
 -- from any contents, N M outputs unsettled
-from-any : (w : Width) (s : State ℤ) → Good s → Contents w (s .integrators) (s .combs) → s .order * s .delay ≤ s .unsettled
+from-any : (w : Width) (s : State ℤ) → Good s → Contents (s .integrators) (s .combs) → s .order * s .delay ≤ s .unsettled
     → Decimator w (s .order) (s .delay) (s .rate) (s .countdown) (s .unsettled) s
 from-any w s g h l =
     let f : Fit s = record { good = g; long8 = h .long8; long64 = h .long64 } in
-    decimator w (s .order) (s .delay) (s .rate) (s .countdown) (s .unsettled) s f (λ xs b. decimates-settled w s f h xs b l)
+    decimator w (s .order) (s .delay) (s .rate) (s .countdown) (s .unsettled) s f (λ xs. decimates-settled w s f xs l)
 
 pub demand3 : Demand3
 demand3 w N M r c is ks hold e h =
@@ -63,8 +63,7 @@ told-in-block w s xs out h e =
     told-less (signedOps w) s (record { good = good s (block-asked s xs out e); long8 = h .long8; long64 = h .long64 }) xs
 
 pub settled : Settled
-settled w s x e h =
-    rw (settle-is (signedOps w) s x e) (settled-stream w s x h (s .order) refl (zero-sound s e))
+settled w s x e = rw (settle-is (signedOps w) s x e) (settled-stream w s x (s .order) refl (zero-sound s e))
 
 pub demand3-tight : Demand3Tight
 demand3-tight w zero M r c e h = absurd (omega arith)

@@ -1,4 +1,4 @@
--- The interpolator over words. From a state that is due: each output is what the integrators make of the held comb values, wrapped.
+-- The interpolator over words. From a state that is due: each output is what the integrators make of the held comb values, modulo 2 ^ w.
 -- From zero that is the moving sum of the held input; after settle_interpolate on x it is x times gain.
 use mathlib.Core.Path.{_≡_, refl, sym, ap, ap₂, subst, _∙_}
 use mathlib.Core.List.{List}
@@ -7,26 +7,25 @@ use Prim.Native.Nat.{ℕ, suc, _≤_, _<_}
 use native.Mathlib.Omega.{arith}
 use native.Mathlib.Nat.{zero-add}
 use lib.IntN.{ℤ}
-use lib.ListN.{length, getElem?, take}
+use lib.ListN.{length, getElem?}
 use mir.Syntax.{Width}
-use mir.Val.{SFits}
-use Rattle.words.specs.Words.{wrap}
 use Rattle.sums.specs.Signed.{signedOps, exactOps}
 use Rattle.sums.specs.Moving.{held}
 use Rattle.sums.specs.State.{State, view, refusal, zeroed}
 use Rattle.sums.specs.Runs.{needed}
-use Rattle.sums.specs.Demands.{input, Contents, along, afterCalls, Raise, samples, lifts, yields, Interpolator}
+use Rattle.sums.specs.Demands.{input, modulo, along, afterCalls, Raise, samples, lifts, yields, Interpolator}
 use Rattle.sums.proofs.Refusals.{Sound}
-use Rattle.sums.proofs.Steps.{Fit, accepted}
+use Rattle.sums.proofs.Arrays.{view-shaped}
+use Rattle.sums.proofs.Steps.{Fit, accepted, room}
 use Rattle.sums.proofs.Cascade.{combVal, intVal}
 use Rattle.sums.proofs.Zeros.{rises-from-zero}
-use Rattle.sums.proofs.Carried.{exactLaws, list-in, take-in, rows-in, rise-wraps}
+use Rattle.sums.proofs.Carried.{exactLaws, rises-modulo}
 use Rattle.sums.proofs.Settling.{elem-seg}
 use Rattle.sums.proofs.Climbs.{risings-are}
 use Rattle.sums.proofs.Rising.{risings-length, climbed, climbed-fit}
-use Rattle.sums.proofs.Makers.{zeroed-fit, zeroed-integrators, zeroed-lines, zero-contents}
+use Rattle.sums.proofs.Makers.{zeroed-fit, zeroed-integrators, zeroed-lines}
 
-module _ (w : Width) (s : State ℤ) (f : Fit s) (e : s .countdown ≡ 0) (h : Contents w (s .integrators) (s .combs)) (calls : List Raise)
+module _ (w : Width) (s : State ℤ) (f : Fit s) (e : s .countdown ≡ 0) (calls : List Raise)
   where
     abbrev pub read : List ℤ
     read = along (lifts (signedOps w)) samples s calls
@@ -40,11 +39,11 @@ module _ (w : Width) (s : State ℤ) (f : Fit s) (e : s .countdown ≡ 0) (h : C
         c .counts ∙ ap₂ (λ n d. needed n d (s .rate)) (sym (ap length (c .gave) ∙ risings-length (signedOps w) s (c .steps) read)) e
 
     -- output t of a run; x is any sequence in which the samples that it reads stand
-    pub given-is : (x : ℕ → ℤ) → ((i : ℕ) → i < length read → input read i ≡ x i) → ((t : ℕ) → SFits w (x t))
+    pub given-is : (x : ℕ → ℤ) → ((i : ℕ) → i < length read → input read i ≡ x i)
         → (t : ℕ) (y : ℤ) → getElem? given t ≡ some y
-        → y ≡ wrap w (intVal exactOps (view s .integrators) (held (suc (s .rate)) (combVal exactOps (view s .lines) x)) t)
+        → y ≡ modulo w (s .order) (intVal exactOps (view s .integrators) (held (suc (s .rate)) (combVal exactOps (view s .lines) x)) t)
     unfolding view
-    given-is x a b t y q =
+    given-is x a t y q =
         let c = climbed (signedOps w) s f calls in
         let F : ℕ → ℤ = intVal (signedOps w) (view s .integrators) (held (suc (s .rate)) (combVal (signedOps w) (view s .lines) x)) in
         let enough : needed (c .steps) 0 (s .rate) ≤ length read = subst (λ d. needed (c .steps) d (s .rate) ≤ length read) e
@@ -52,9 +51,8 @@ module _ (w : Width) (s : State ℤ) (f : Fit s) (e : s .countdown ≡ 0) (h : C
         elem-seg F 0 (c .steps) t y (ap (λ l. getElem? l t) (sym (c .gave ∙ risings-are (signedOps w) s f e (c .steps) read enough x a))
         ∙ q)
         ∙ ap F (zero-add t)
-        ∙ rise-wraps w (suc (s .rate)) (view s .integrators) (view s .lines) x
-        (list-in w (take (s .order) (s .integrators)) (take-in w (s .order) (s .integrators) (h .integrators-in)))
-        (rows-in w (s .delay) (s .order) (s .combs) (h .combs-in)) b t
+        ∙ rises-modulo w (s .order) (suc (s .rate)) (view s .integrators) (view s .lines) (view-shaped s (room s f) .order)
+        (view-shaped s (room s f) .lines-order) x t
 
     pub raised-sound : refusal (afterCalls (lifts (signedOps w)) s calls) ≡ 0
     raised-sound =
@@ -67,12 +65,12 @@ unfolding zeroed
 interpolates-zero w N M r q calls =
     let s : State ℤ = zeroed (signedOps w) N M r in
     let f = zeroed-fit (signedOps w) N M r q in
-    let x : ℕ → ℤ = input (read w s f refl (zero-contents w) calls) in (
-      raised-sound w s f refl (zero-contents w) calls,
-      λ b. record {
-        counts = read-count w s f refl (zero-contents w) calls;
-        sums = λ t y e. given-is w s f refl (zero-contents w) calls x (λ i l. refl) b t y e
-            ∙ ap (λ (F : ℕ → ℤ). wrap w (F t))
+    let x : ℕ → ℤ = input (read w s f refl calls) in (
+      raised-sound w s f refl calls,
+      record {
+        counts = read-count w s f refl calls;
+        sums = λ t y e. given-is w s f refl calls x (λ i l. refl) t y e
+            ∙ ap (λ (F : ℕ → ℤ). modulo w N (F t))
             (ap₂ (λ is ls. intVal exactOps is (held (suc r) (combVal exactOps ls x))) (zeroed-integrators (signedOps w) N M r q)
             (zeroed-lines (signedOps w) N M r q)
             ∙ rises-from-zero exactOps exactLaws N M r x);

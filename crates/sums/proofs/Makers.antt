@@ -17,7 +17,7 @@ use Rattle.sums.specs.State.{State, rows, view, refusal, zeroed}
 use Rattle.sums.specs.Calls.{newNumber, resumeNumber, rateNumber, newState, resumeState, rateState, clearState, settledAt}
 use Rattle.sums.specs.Calls.{settleState}
 use Rattle.sums.specs.Runs.{outputs}
-use Rattle.sums.specs.Demands.{input, InWord, Contents, Decimates}
+use Rattle.sums.specs.Demands.{input, InWord, Decimates}
 use Rattle.sums.proofs.Refusals.{Sound, sound}
 use Rattle.sums.proofs.Steps.{packed, Fit}
 use Rattle.sums.proofs.Zeros.{falls-from-zero}
@@ -119,14 +119,6 @@ append-in w [] k h q i = q i
 append-in w (a ∷ l) k h q zero = h 0
 append-in w (a ∷ l) k h q (suc i) = append-in w l k (λ j. h (suc j)) q i
 
-pub zero-contents : (w : Width) → Contents w (replicate 8 (pos 0)) (replicate 64 (pos 0))
-zero-contents w = record {
-  long8 = length-replicate 8 (pos 0);
-  long64 = length-replicate 64 (pos 0);
-  integrators-in = replicate-in w 8 (pos 0) (nil-in w);
-  combs-in = replicate-in w 64 (pos 0) (nil-in w);
-}
-
 -- from zero every output is the moving sum
 zero-output : (N M : ℕ) (s : Machine ℤ) → s .countdown ≡ 0 → s .integrators ≡ replicate N (pos 0) → s .lines
     ≡ replicate N (replicate M (pos 0))
@@ -135,10 +127,10 @@ unfolding output slow
 zero-output N M s ec ei el x k = rw (ec, ei, el) (falls-from-zero exactOps exactLaws N M (s .rate) x k
     ∙ ap (moving exactOps (suc (s .rate) * M) N x) (sym (zero-add (k * suc (s .rate)))))
 
-pub decimates-zero : (w : Width) (N M r : ℕ) → Sound N M r 0 0 → (xs : List ℤ) → InWord w xs
+pub decimates-zero : (w : Width) (N M r : ℕ) → Sound N M r 0 0 → (xs : List ℤ)
     → Decimates w N M r 0 0 xs (outputs (signedOps w) (zeroed (signedOps w) N M r) xs)
 unfolding zeroed view
-decimates-zero w N M r q xs b =
-    decimates w (zeroed (signedOps w) N M r) (zeroed-fit (signedOps w) N M r q) (zero-contents w) xs b
+decimates-zero w N M r q xs =
+    decimates w (zeroed (signedOps w) N M r) (zeroed-fit (signedOps w) N M r q) xs
     (λ k l. zero-output N M (view (zeroed (signedOps w) N M r)) refl (zeroed-integrators (signedOps w) N M r q)
     (zeroed-lines (signedOps w) N M r q) (input xs) k)

@@ -8,22 +8,21 @@ use native.Mathlib.Omega.{arith}
 use native.Mathlib.Nat.{zero-add}
 use lib.Dec.{ltb, leb·zero, leb·suc-zero, leb·suc-suc}
 use lib.IntN.{ℤ}
-use lib.ListN.{length, getD, getElem?, take}
+use lib.ListN.{length, getD, getElem?}
 use mir.Syntax.{Width}
-use Rattle.words.specs.Words.{wrap}
 use Rattle.sums.specs.Ops.{Ops}
 use Rattle.sums.specs.Signed.{signedOps, exactOps}
 use Rattle.sums.specs.Machine.{Output}
 use Rattle.sums.specs.Moving.{moving}
 use Rattle.sums.specs.State.{State, view}
 use Rattle.sums.specs.Runs.{needed, outputs}
-use Rattle.sums.specs.Demands.{input, InWord, Contents, Decimates}
+use Rattle.sums.specs.Demands.{input, modulo, Decimates}
 use Rattle.sums.proofs.Arrays.{view-shaped}
 use Rattle.sums.proofs.Steps.{Fit, room}
 use Rattle.sums.proofs.Counts.{needed-none, needed-wait, needed-give, outputs-length, outputs-told}
 use Rattle.sums.proofs.Cascade.{seg}
 use Rattle.sums.proofs.Traces.{output, outcome, outputs-are, output-settled}
-use Rattle.sums.proofs.Carried.{exactLaws, list-in, take-in, rows-in, output-wraps}
+use Rattle.sums.proofs.Carried.{exactLaws, output-modulo}
 
 -- the count, read backwards: output k is there exactly when input c + k R is
 pub needed-falls : (L c r k : ℕ) → ltb k (needed L c r) ≡ ltb (c + k * suc r) L
@@ -62,10 +61,10 @@ pub outputs-tell : {A : Type 0} (o : Ops A) (s : State A) → Fit s → (xs : Li
 outputs-tell o s f xs k y e =
     ap (λ q. q .told) (sym (elem-getD (outputs o s xs) k y y e)) ∙ outputs-told o s f xs k y (elem-below (outputs o s xs) k y e)
 
-module _ (w : Width) (s : State ℤ) (f : Fit s) (h : Contents w (s .integrators) (s .combs)) (xs : List ℤ) (b : InWord w xs) where
-  -- output k over words is the wrapped output k over the whole numbers
+module _ (w : Width) (s : State ℤ) (f : Fit s) (xs : List ℤ) where
+  -- output k over words is output k over the whole numbers, modulo 2 ^ w
   pub value-is : (k : ℕ) (y : Output ℤ) → getElem? (outputs (signedOps w) s xs) k ≡ some y → y .value
-      ≡ wrap w (output exactOps (view s) (input xs) k)
+      ≡ modulo w (s .order) (output exactOps (view s) (input xs) k)
   unfolding outcome view
   value-is k y e =
       let is : y ≡ outcome (signedOps w) (view s) (input xs) (0 + k) =
@@ -73,9 +72,7 @@ module _ (w : Width) (s : State ℤ) (f : Fit s) (h : Contents w (s .integrators
       (ap (λ l. getElem? l k) (sym (outputs-are (signedOps w) s f xs)) ∙ e) in
       ap (λ q. q .value) is
       ∙ ap (output (signedOps w) (view s) (input xs)) (zero-add k)
-      ∙ output-wraps w (view s) (input xs)
-      (list-in w (take (s .order) (s .integrators)) (take-in w (s .order) (s .integrators) (h .integrators-in)))
-      (rows-in w (s .delay) (s .order) (s .combs) (h .combs-in)) b k
+      ∙ output-modulo w (s .order) (view s) (view-shaped s (room s f) .order) (view-shaped s (room s f) .lines-order) (input xs) k
 
   -- what is left to show is that settled outputs over the whole numbers are the moving sum
   pub decimates : ((k : ℕ) → s .unsettled ≤ k
@@ -86,7 +83,7 @@ module _ (w : Width) (s : State ℤ) (f : Fit s) (h : Contents w (s .integrators
       record {
         falls = λ k. ap (ltb k) (outputs-length (signedOps w) s f xs) ∙ needed-falls (length xs) (s .countdown) (s .rate) k;
         tells = outputs-tell (signedOps w) s f xs;
-        sums = λ k y e t. value-is k y e ∙ ap (wrap w) (settled k (omega (arith, outputs-tell (signedOps w) s f xs k y e, t)));
+        sums = λ k y e t. value-is k y e ∙ ap (modulo w (s .order)) (settled k (omega (arith, outputs-tell (signedOps w) s f xs k y e, t)));
       }
 
   -- from any contents, where N M outputs or more are unsettled

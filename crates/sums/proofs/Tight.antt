@@ -21,7 +21,7 @@ use Rattle.sums.specs.Moving.{last, moving}
 use Rattle.sums.specs.State.{State, rows, view}
 use Rattle.sums.specs.Calls.{resumeNumber, resumeState}
 use Rattle.sums.specs.Runs.{needed, outputs}
-use Rattle.sums.specs.Demands.{input, InWord, Contents, Misleads}
+use Rattle.sums.specs.Demands.{input, modulo, InWord, Contents, Misleads}
 use Rattle.sums.proofs.Refusals.{Sound}
 use Rattle.sums.proofs.Steps.{packed, Fit}
 use Rattle.sums.proofs.Sequences.{iter, down, acc}
@@ -167,16 +167,18 @@ module _ (w : Width) (n m r c : ℕ) (e : resumeNumber (suc n) (suc m) r c ≡ 0
   q : Sound (suc n) (suc m) r c (suc n * suc m)
   q = resume-sound (suc n) (suc m) r c e
 
-  holds : Contents w (replicate 8 (pos 0)) cells
+  holds : Contents (replicate 8 (pos 0)) cells
   holds = record {
     long8 = refl;
     long64 = length-append (line m) (replicate (64 - suc m) (pos 0)) ∙ ap₂ _+_ (line-length m) (length-replicate (64 - suc m) (pos 0))
         ∙ omega (arith, q .short);
-    integrators-in = replicate-in w 8 (pos 0) (nil-in w);
-    combs-in = append-in w (line m) (replicate (64 - suc m) (pos 0))
-        (append-in w (replicate m (pos 0)) (pos 1 ∷ []) (replicate-in w m (pos 0) (nil-in w)) one-only)
-        (replicate-in w (64 - suc m) (pos 0) (nil-in w));
   }
+
+  cells-in : InWord w cells
+  cells-in =
+      append-in w (line m) (replicate (64 - suc m) (pos 0))
+      (append-in w (replicate m (pos 0)) (pos 1 ∷ []) (replicate-in w m (pos 0) (nil-in w)) one-only)
+      (replicate-in w (64 - suc m) (pos 0) (nil-in w))
     where
       one-only : InWord w (pos 1 ∷ [])
       one-only zero = one-in w
@@ -202,16 +204,19 @@ module _ (w : Width) (n m r c : ℕ) (e : resumeNumber (suc n) (suc m) r c ≡ 0
       ∙ lt-ltb (c + k * suc r) (length xs) (rw length-replicate (omega arith)))
 
   pub misleads : Misleads w (suc n) (suc m) r c
+  unfolding modulo
   misleads = record {
     integrators = replicate 8 (pos 0);
     combs = cells;
     contents = holds;
+    integrators-in = replicate-in w 8 (pos 0) (nil-in w);
+    combs-in = cells-in;
     inputs = xs;
     inputs-in = replicate-in w (suc (c + k * suc r)) (pos 0) (nil-in w);
     given = y;
     is-given = is;
     differs = λ d. one-differs w (output exactOps (view s) (input xs) k) (subst One (sym out-is) (comes-out n m))
-        (sym (value-is w s fit holds xs (replicate-in w (suc (c + k * suc r)) (pos 0) (nil-in w)) k y was) ∙ d
+        (sym (value-is w s fit xs k y was) ∙ d
         ∙ ap (wrap w) (ap (λ x. moving exactOps (suc r * suc m) (suc n) x (c + k * suc r)) quiet
         ∙ ap (λ (f : ℕ → ℤ). f (c + k * suc r)) (moving-none (suc r * suc m) (suc n))));
   }

@@ -4,7 +4,7 @@ use mathlib.Core.Path.{_≡_}
 use mathlib.Core.Bool.{true, false, cond}
 use mathlib.Core.List.{List, [], _∷_, _++_}
 use mathlib.Core.Option.{Option, some}
-use Prim.Native.Nat.{ℕ, suc, _+_, _-_, _*_, _^_, _≤_, _<_}
+use Prim.Native.Nat.{ℕ, zero, suc, _+_, _-_, _*_, _^_, _≤_, _<_}
 use lib.Dec.{ltb, eqb}
 use lib.IntN.{ℤ, pos, negsuc, _*ℤ_}
 use lib.Signed.{mag}
@@ -23,12 +23,14 @@ use Rattle.sums.specs.Calls.{settleState, stepState, stepGiven, riseStat
 use Rattle.sums.specs.Runs.{needed, join, firstTold, blockNumber, fillNumber, outputs, blockState, blockOut, risings, fillState}
 use Rattle.sums.specs.Runs.{settledPart}
 
--- A list as a sequence, number 0 first and zeros behind it; and whole numbers that all fit the word.
+-- A list as a sequence, number 0 first and zeros behind it.
 abbrev pub input : List ℤ → ℕ → ℤ
 input xs t = getD xs t (pos 0)
 
-abbrev pub InWord : Width → List ℤ → Type 0
-InWord w xs = (t : ℕ) → SFits w (input xs t)
+-- All sums are modulo 2 ^ w, read as signed. At N = 0 there is no sum: an output is the input itself.
+unfoldable pub modulo : Width → ℕ → ℤ → ℤ
+modulo w zero z = z
+modulo w (suc n) z = wrap w z
 
 -- Calls in turn, each from the state that the one before leaves: what f tells of each, in order, and the state at the end.
 unfoldable pub along : {S C X : Type 0} → (S → C → S) → (S → C → List X) → S → List C → List X
@@ -83,37 +85,33 @@ pub record Decimates (w : Width) (N M rate c u : ℕ) (xs : List ℤ) (ys : List
   pub falls : (k : ℕ) → ltb k (length ys) ≡ ltb (c + k * suc rate) (length xs)
   -- It tells u less the outputs before it, not below 0.
   pub tells : (k : ℕ) (y : Output ℤ) → getElem? ys k ≡ some y → y .told ≡ u - k
-  -- Where it is told 0, it is the N-fold moving sum of the inputs, modulo 2 ^ w, read as signed.
+  -- Where it is told 0, it is the N-fold moving sum of the inputs, modulo 2 ^ w.
   pub sums : (k : ℕ) (y : Output ℤ) → getElem? ys k ≡ some y → y .told ≡ 0
-      → y .value ≡ wrap w (moving exactOps (suc rate * M) N (input xs) (c + k * suc rate))
+      → y .value ≡ modulo w N (moving exactOps (suc rate * M) N (input xs) (c + k * suc rate))
 
 -- Decimator steps and blocks alone, in any mixture, from the state s on: none is refused but a block whose slice is too short.
 abbrev pub Decimator : (w : Width) (N M rate c u : ℕ) → State ℤ → Type 0
 Decimator w N M rate c u s =
     (calls : List Call)
     → (refusal (afterCalls (leaves (signedOps w)) s calls) ≡ 0)
-    × (InWord w (along (leaves (signedOps w)) reads s calls)
-    → Decimates w N M rate c u (along (leaves (signedOps w)) reads s calls) (along (leaves (signedOps w)) (gives (signedOps w)) s calls))
+    × Decimates w N M rate c u (along (leaves (signedOps w)) reads s calls) (along (leaves (signedOps w)) (gives (signedOps w)) s calls)
 
 -- What the outputs ys are to the samples xs: one sample is read for each R outputs, and each output is the moving sum of the held input.
 pub record Interpolates (w : Width) (N M rate : ℕ) (xs ys : List ℤ) : Type 0 where
   pub counts : length xs ≡ needed (length ys) 0 rate
-  pub sums : (t : ℕ) (y : ℤ) → getElem? ys t ≡ some y → y ≡ wrap w (moving exactOps (suc rate * M) N (held (suc rate) (input xs)) t)
+  pub sums : (t : ℕ) (y : ℤ) → getElem? ys t ≡ some y → y ≡ modulo w N (moving exactOps (suc rate * M) N (held (suc rate) (input xs)) t)
 
 -- Interpolator steps and blocks alone, in any mixture, from the state s on: none is refused but where a sample is missing or isn't due.
 abbrev pub Interpolator : (w : Width) (N M rate : ℕ) → State ℤ → Type 0
 Interpolator w N M rate s =
     (calls : List Raise)
     → (refusal (afterCalls (lifts (signedOps w)) s calls) ≡ 0)
-    × (InWord w (along (lifts (signedOps w)) samples s calls)
-    → Interpolates w N M rate (along (lifts (signedOps w)) samples s calls) (along (lifts (signedOps w)) (yields (signedOps w)) s calls))
+    × Interpolates w N M rate (along (lifts (signedOps w)) samples s calls) (along (lifts (signedOps w)) (yields (signedOps w)) s calls)
 
--- Contents: 8 integrators and 64 comb cells that fit the word, whatever they are.
-pub record Contents (w : Width) (integrators combs : List ℤ) : Type 0 where
+-- Contents: 8 integrators and 64 comb cells, whatever they are.
+pub record Contents (integrators combs : List ℤ) : Type 0 where
   pub long8 : length integrators ≡ 8
   pub long64 : length combs ≡ 64
-  pub integrators-in : InWord w integrators
-  pub combs-in : InWord w combs
 
 -- Demand 2, the moving sum. From a new state, and from a cleared one, every output is told 0 and is the moving sum, and output k falls on
 -- input k · R + 1; the interpolator's outputs are the moving sum of the held input.
@@ -133,19 +131,19 @@ Demand2Cleared =
 abbrev pub Demand3 : Type 0
 Demand3 =
     (w : Width) (N M rate countdown : ℕ) (integrators combs : List ℤ) (hold : ℤ)
-    → resumeNumber N M rate countdown ≡ 0 → Contents w integrators combs
+    → resumeNumber N M rate countdown ≡ 0 → Contents integrators combs
     → Decimator w N M rate countdown (N * M) (resumeState (signedOps w) N M rate integrators combs hold countdown)
 
 -- The same after an accepted set_rate, with the countdown that it found.
 abbrev pub Demand3Rate : Type 0
 Demand3Rate =
-    (w : Width) (s : State ℤ) (rate : ℕ) → rateNumber s rate ≡ 0 → Contents w (s .integrators) (s .combs)
+    (w : Width) (s : State ℤ) (rate : ℕ) → rateNumber s rate ≡ 0 → Contents (s .integrators) (s .combs)
     → Decimator w (s .order) (s .delay) rate (s .countdown) (s .order * s .delay) (rateState (signedOps w) s rate)
 
 -- In a block, from whatever state, the output i places after the first is told the first's count less i, not below 0.
 abbrev pub ToldInBlock : Type 0
 ToldInBlock =
-    (w : Width) (s : State ℤ) (xs out : List ℤ) → Contents w (s .integrators) (s .combs) → blockNumber s xs out ≡ 0
+    (w : Width) (s : State ℤ) (xs out : List ℤ) → Contents (s .integrators) (s .combs) → blockNumber s xs out ≡ 0
     → (i : ℕ) (y : Output ℤ) → getElem? (outputs (signedOps w) s xs) i ≡ some y
     → y .told ≡ firstTold (outputs (signedOps w) s xs) - i
 
@@ -156,22 +154,27 @@ believed (y ∷ ys) = cond (eqb (y .told) 0) (y .value ∷ believed ys) (believe
 
 abbrev pub SettledPart : Type 0
 SettledPart =
-    (w : Width) (s : State ℤ) (xs out : List ℤ) → Contents w (s .integrators) (s .combs) → blockNumber s xs out ≡ 0
+    (w : Width) (s : State ℤ) (xs out : List ℤ) → Contents (s .integrators) (s .combs) → blockNumber s xs out ≡ 0
     → settledPart (blockOut (signedOps w) s xs out) (length (outputs (signedOps w) s xs)) (firstTold (outputs (signedOps w) s xs))
     ≡ believed (outputs (signedOps w) s xs)
 
--- N · M can't be lowered: for every order above 0 there are contents and inputs for which output number N · M, counted from 1, is not the
--- moving sum.
+-- N · M can't be lowered: for every order above 0 there are contents and inputs, all of them words, for which output number N · M, counted
+-- from 1, is not the moving sum.
+abbrev pub InWord : Width → List ℤ → Type 0
+InWord w xs = (t : ℕ) → SFits w (input xs t)
+
 pub record Misleads (w : Width) (N M rate countdown : ℕ) : Type 0 where
   pub integrators : List ℤ
   pub combs : List ℤ
-  pub contents : Contents w integrators combs
+  pub contents : Contents integrators combs
+  pub integrators-in : InWord w integrators
+  pub combs-in : InWord w combs
   pub inputs : List ℤ
   pub inputs-in : InWord w inputs
   pub given : Output ℤ
   pub is-given : getElem? (outputs (signedOps w) (resumeState (signedOps w) N M rate integrators combs (pos 0) countdown) inputs)
       (N * M - 1) ≡ some given
-  pub differs : given .value ≡ wrap w (moving exactOps (suc rate * M) N (input inputs) (countdown + (N * M - 1) * suc rate)) → ⊥
+  pub differs : given .value ≡ modulo w N (moving exactOps (suc rate * M) N (input inputs) (countdown + (N * M - 1) * suc rate)) → ⊥
 
 abbrev pub Demand3Tight : Type 0
 Demand3Tight = (w : Width) (N M rate countdown : ℕ) → resumeNumber N M rate countdown ≡ 0 → 1 ≤ N → Misleads w N M rate countdown
@@ -218,4 +221,5 @@ Stream w s x v =
 
 abbrev pub Settled : Type 0
 Settled =
-    (w : Width) (s : State ℤ) (x : ℤ) → refusal s ≡ 0 → SFits w x → Stream w (settleState (signedOps w) s x) x (wrap w (pos (gain s) *ℤ x))
+    (w : Width) (s : State ℤ) (x : ℤ) → refusal s ≡ 0
+    → Stream w (settleState (signedOps w) s x) x (modulo w (s .order) (pos (gain s) *ℤ x))
