@@ -1,7 +1,9 @@
--- Word, Reading and Answers are what the promises of public functions cite; InTurn says what steps in turn give.
+-- Word, Reading and Answers are what the promises of public functions cite; InTurn says what steps in turn give, and Demands what is guaranteed
+-- of calls in any mixture.
 -- Inner serves private functions alone: whoever reads the promises needs none of it.
 pub mod Word
 pub mod Reading
 pub mod Answers
 pub mod InTurn
+pub mod Demands
 pub mod Inner

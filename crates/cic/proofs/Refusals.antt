@@ -1,0 +1,135 @@
+-- What an answer says of the number that its promise gives it; so a call of any kind that answers a refusal hands its state back.
+use mathlib.Core.Path.{_≡_, refl, sym, ap, _∙_}
+use mathlib.Core.Option.{Option, none, some}
+use Prim.Native.Nat.{ℕ, zero, suc}
+use native.Mathlib.Omega.{arith}
+use lib.IntN.{ℤ}
+use borrow.Author.Tests.{ne-eqb}
+use Rattle.blocks.specs.declared.Verdict.{Verdict}
+use Rattle.blocks.specs.declared.Verdict.the-variants as Verdict
+use Rattle.blocks.specs.Verdicts.{verdictOf}
+use Rattle.blocks.specs.Blocks.{unless}
+use Rattle.sums.specs.Machine.{Output}
+use Rattle.sums.specs.State.{State, refusal}
+use Rattle.sums.specs.Calls.{stepState, stepGiven, riseNumber, riseState, rateNumber, rateState, clearState, settleState}
+use Rattle.sums.specs.Runs.{blockNumber, blockState}
+use Rattle.sums.specs.Runs.{fillNumber, fillState}
+use Rattle.shape.specs.declared.runs.Written.{Written}
+use Rattle.shape.specs.declared.runs.Wrote.{Wrote}
+use Rattle.shape.specs.declared.runs.Wrote.the-variants as Wrote
+use Rattle.shape.specs.declared.runs.Read.{Read}
+use Rattle.shape.specs.declared.runs.Read.the-variants as Read
+use Rattle.shape.specs.Answers.{wroteOf, readOf}
+use Rattle.cic.specs.Word.{wordOps}
+use Rattle.cic.specs.declared.state.Cic.{Cic}
+use Rattle.cic.specs.declared.state.Made.{Made}
+use Rattle.cic.specs.declared.questions.Interpolated.{Interpolated}
+use Rattle.cic.specs.declared.questions.Interpolated.the-variants as Interpolated
+use Rattle.cic.specs.declared.steps.Out.{Out}
+use Rattle.cic.specs.declared.steps.Out.the-variants as Out
+use Rattle.cic.specs.declared.steps.Stepped.{Stepped}
+use Rattle.cic.specs.declared.steps.Risen.{Risen}
+use Rattle.cic.specs.declared.runs.Decimated.{Decimated}
+use Rattle.cic.specs.declared.runs.Filled.{Filled}
+use Rattle.cic.specs.Reading.{stateOf, cicOf}
+use Rattle.cic.specs.Answers.{outOf, interpolatedOf, sampleOf}
+use Rattle.cic.specs.Demands.{Refusal}
+
+-- what an answer says of its number
+pub clash : _≡_ {A = ℕ} 0 1 → ⊥
+clash e = omega arith
+
+abbrev isDone : Verdict → ℕ
+isDone Verdict.Done = 0
+isDone (Verdict.Refused k) = 1
+
+pub done-zero : (n : ℕ) → verdictOf n ≡ Verdict.Done → n ≡ 0
+unfolding verdictOf
+done-zero zero e = refl
+done-zero (suc n) e = absurd (clash (sym (ap isDone e)))
+
+verdict-refuses : (n k : ℕ) → verdictOf n ≡ Verdict.Refused k → n ≡ 0 → ⊥
+unfolding verdictOf
+verdict-refuses zero k e z = clash (ap isDone e)
+verdict-refuses (suc n) k e z = omega arith
+
+abbrev isOut : Out → ℕ
+isOut (Out.Given y) = 0
+isOut Out.Nothing = 0
+isOut (Out.Refused k) = 1
+
+out-refuses : (n k : ℕ) (g : Option (Output ℤ)) → outOf n g ≡ Out.Refused k → n ≡ 0 → ⊥
+unfolding outOf
+out-refuses zero k none e z = clash (ap isOut e)
+out-refuses zero k (some y) e z = clash (ap isOut e)
+out-refuses (suc n) k g e z = omega arith
+
+abbrev isWrote : Wrote → ℕ
+isWrote (Wrote.Outputs w) = 0
+isWrote (Wrote.Refused k) = 1
+
+wrote-refuses : (n k c u : ℕ) → wroteOf n c u ≡ Wrote.Refused k → n ≡ 0 → ⊥
+unfolding wroteOf
+wrote-refuses zero k c u e z = clash (ap isWrote e)
+wrote-refuses (suc n) k c u e z = omega arith
+
+abbrev isValue : Interpolated → ℕ
+isValue (Interpolated.Value y) = 0
+isValue (Interpolated.Refused k) = 1
+
+value-refuses : (n k : ℕ) (y : ℤ) → interpolatedOf n y ≡ Interpolated.Refused k → n ≡ 0 → ⊥
+unfolding interpolatedOf
+value-refuses zero k y e z = clash (ap isValue e)
+value-refuses (suc n) k y e z = omega arith
+
+abbrev isRead : Read → ℕ
+isRead (Read.Inputs n) = 0
+isRead (Read.Refused k) = 1
+
+read-refuses : (n k c : ℕ) → readOf n c ≡ Read.Refused k → n ≡ 0 → ⊥
+unfolding readOf
+read-refuses zero k c e z = clash (ap isRead e)
+read-refuses (suc n) k c e z = omega arith
+
+-- what an accepted block answers
+abbrev countIn : Wrote → ℕ
+countIn (Wrote.Outputs w) = w .count
+countIn (Wrote.Refused k) = 0
+
+abbrev toldIn : Wrote → ℕ
+toldIn (Wrote.Outputs w) = w .told
+toldIn (Wrote.Refused k) = 0
+
+pub wrote-is : (n c u : ℕ) (w : Written) → wroteOf n c u ≡ Wrote.Outputs w → (n ≡ 0) × (w .count ≡ c) × (w .told ≡ u)
+unfolding wroteOf
+wrote-is zero c u w e = (refl, sym (ap countIn e), sym (ap toldIn e))
+wrote-is (suc n) c u w e = absurd (clash (sym (ap isWrote e)))
+
+-- a refused call hands its state back
+
+stays : (n : ℕ) (s t : State ℤ) → (n ≡ 0 → ⊥) → cicOf (unless n s t) ≡ cicOf s
+stays n s t h = rw (ne-eqb n 0 h)
+
+pub hands-back : {s u : Cic} → Refusal s u → u ≡ s
+unfolding stepState blockState riseState fillState rateState clearState settleState
+hands-back {s} (Refusal.decimate x r p k e) =
+    ap (λ (q : Stepped). q .state) p ∙ stays (refusal (stateOf s)) (stateOf s) _
+    (out-refuses (refusal (stateOf s)) k (stepGiven wordOps (stateOf s) x) (sym (ap (λ (q : Stepped). q .out) p) ∙ e))
+hands-back {s} (Refusal.decimate-block us lent r p k e) =
+    ap (λ (q : Decimated). q .state) p ∙ stays (blockNumber (stateOf s) us lent) (stateOf s) _
+    (wrote-refuses (blockNumber (stateOf s) us lent) k _ _ (sym (ap (λ (q : Decimated). q .wrote) p) ∙ e))
+hands-back {s} (Refusal.interpolate x r p k e) =
+    ap (λ (q : Risen). q .state) p ∙ stays (riseNumber (stateOf s) (sampleOf x)) (stateOf s) _
+    (value-refuses (riseNumber (stateOf s) (sampleOf x)) k _ (sym (ap (λ (q : Risen). q .out) p) ∙ e))
+hands-back {s} (Refusal.interpolate-block us lent r p k e) =
+    ap (λ (q : Filled). q .state) p ∙ stays (fillNumber (stateOf s) us lent) (stateOf s) _
+    (read-refuses (fillNumber (stateOf s) us lent) k _ (sym (ap (λ (q : Filled). q .read) p) ∙ e))
+hands-back {s} (Refusal.set-rate rate r p k e) =
+    ap (λ (q : Made). q .state) p ∙ stays (rateNumber (stateOf s) rate) (stateOf s) _
+    (verdict-refuses (rateNumber (stateOf s) rate) k (sym (ap (λ (q : Made). q .verdict) p) ∙ e))
+hands-back {s} (Refusal.clear r p k e) =
+    ap (λ (q : Made). q .state) p ∙ stays (refusal (stateOf s)) (stateOf s) _
+    (verdict-refuses (refusal (stateOf s)) k (sym (ap (λ (q : Made). q .verdict) p) ∙ e))
+hands-back {s} (Refusal.settle-interpolate x r p k e) =
+    ap (λ (q : Made). q .state) p ∙ stays (refusal (stateOf s)) (stateOf s) _
+    (verdict-refuses (refusal (stateOf s)) k (sym (ap (λ (q : Made). q .verdict) p) ∙ e))
