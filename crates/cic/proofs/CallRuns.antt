@@ -13,7 +13,7 @@ use Rattle.blocks.specs.Blocks.{unless}
 use Rattle.sums.specs.Machine.{Output}
 use Rattle.sums.specs.State.{State, refusal}
 use Rattle.sums.specs.Calls.{stepState, stepGiven, riseNumber, riseGiven}
-use Rattle.sums.specs.Runs.{needed, join, values, firstTold, outputs, blockNumber, blockState, blockOut, risings}
+use Rattle.sums.specs.Runs.{needed, join, values, over, firstTold, outputs, blockNumber, blockState, blockOut, risings}
 use Rattle.sums.specs.Runs.{fillNumber, fillOut}
 use Rattle.sums.specs.Demands as rules
 use Rattle.sums.specs.Demands.{along, afterCalls, reads, leaves, gives, samples, lifts, yields}
@@ -78,8 +78,9 @@ module _ (s : State ℤ) (f : Fit s) (us lent : List ℤ) where
   gave-block zero e =
       let l : List (Output ℤ) = outputs wordOps s us in
       let count : length (values l) ≡ needed (length us) (s .countdown) (s .rate) = values-length l ∙ outputs-length wordOps s f us in
-      rw (e, ← count, take-append-seam (values l) (drop (length (values l)) lent))
-      (first-back l (s .unsettled) (outputs-told wordOps s f us))
+      rw e (first-back l (s .unsettled) (outputs-told wordOps s f us)
+      ∙ ap (toldFrom (firstTold l)) (sym (take-append-seam (values l) (drop (length (values l)) lent))
+      ∙ ap (λ n. take n (over (values l) lent)) count))
   gave-block (suc n) e = rw (eqb·suc-zero n)
 
 took-sample : (n : ℕ) (y : ℤ) (x : Sample) → unless n [] (join (sampleOf x) []) ≡ tookSample (interpolatedOf n y) x
