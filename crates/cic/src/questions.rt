@@ -2,15 +2,18 @@
 use crate::state::Cic;
 use crate::word::BITS;
 use crate::word::Word;
+use shape::numbers::refusal_of;
 pub use shape::questions::Fitting;
 pub use shape::questions::Told;
 use shape::questions::fit;
 use shape::questions::gain;
 use shape::questions::gain_log2;
+use shape::questions::low_rate_length;
 use shape::questions::response_length;
 ghost use mathlib.Core.Path.{_≡_};
 ghost use Rattle.sums.specs.State.{refusal};
 ghost use Rattle.sums.specs.Calls.{gainNumber, fitNumber, gain, gainLog2, responseLength, fits, currentAt};
+ghost use Rattle.sums.specs.Runs.{needed};
 ghost use Rattle.shape.specs.Answers.{toldOf, fittingOf};
 ghost use Rattle.cic.specs.Word.{wordOps, bits};
 ghost use Rattle.cic.specs.Reading.{stateOf};
@@ -23,6 +26,14 @@ pub enum Interpolated {
 }
 
 impl Cic {
+    // The number of the first test that this state fails, 10 to 13 or 15; 0 where it is accepted.
+    pub fn refusal(self) -> u32
+        ensures { λ r. ⌜ r ≡ refusal (stateOf self) ⌝ }
+    {
+        let owed = self.unsettled;
+        refusal_of(self.order, self.delay, self.rate, self.countdown, owed)
+    }
+
     // The last integrator, or the hold where N is 0.
     pub fn get_interpolate(self) -> Interpolated
         ensures { λ r. ⌜ r ≡ interpolatedOf (refusal (stateOf self)) (currentAt wordOps (stateOf self) (self .order)) ⌝ }
@@ -76,6 +87,21 @@ impl Cic {
             self.rate,
             self.countdown,
             self.unsettled,
+        )
+    }
+
+    // The low-rate samples of a block of len at the high rate from this state: the outputs that decimate_block
+    // writes of len inputs, and the inputs that interpolate_block reads for len outputs.
+    pub fn low_rate_length(self, len: usize) -> Told
+        ensures { λ r. ⌜ r ≡ toldOf (refusal (stateOf self)) (needed len (self .countdown) (self .rate)) ⌝ }
+    {
+        low_rate_length(
+            self.order,
+            self.delay,
+            self.rate,
+            self.countdown,
+            self.unsettled,
+            len,
         )
     }
 

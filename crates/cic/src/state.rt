@@ -118,19 +118,6 @@ impl Cic {
         }
     }
 
-    // The number of the first test that this state fails, or 0.
-    pub(crate) fn refusal(self) -> u32
-        ensures { λ r. ⌜ r ≡ refusal (stateOf self) ⌝ }
-    {
-        refusal_of(
-            self.order,
-            self.delay,
-            self.rate,
-            self.countdown,
-            self.unsettled,
-        )
-    }
-
     // The state at another rate: cells, hold and countdown stay, and the next N·M outputs are unsettled, also
     // at the same rate.
     pub fn set_rate(self, rate: u32) -> Made

@@ -41,6 +41,25 @@ fn step(unsettled: usize) -> u32 {
     }
 }
 
+// What the same filter answers to the question for its number.
+fn asked(unsettled: usize) -> u32 {
+    let made = Cic::new(3, 1, 3);
+    let mut filter = made.state;
+    filter.unsettled = unsettled;
+    filter.refusal()
+}
+
+// The question for the outputs of 28 inputs, at a rate that was written by hand.
+fn length(rate: u32) -> u32 {
+    let made = Cic::new(3, 1, 3);
+    let mut filter = made.state;
+    filter.rate = rate;
+    match filter.low_rate_length(28) {
+        Told::Number(_) => 0,
+        Told::Refused(n) => n,
+    }
+}
+
 fn fit(b: u32) -> u32 {
     let made = Cic::new(0, 1, 0);
     let filter = made.state;
@@ -66,8 +85,20 @@ pub(crate) fn print_all() {
         b"countdown 65535",
         resume(65535),
     );
+    row(
+        b"outputs of 28 inputs at rate 65536",
+        length(65536),
+        b"at 65535",
+        length(65535),
+    );
     row(b"gain 2^76", gain(4), b"gain 2^57", gain(3));
     row(b"unsettled 4 of N M = 3", step(4), b"unsettled 3", step(3));
+    row(
+        b"asked for its number at unsettled 4",
+        asked(4),
+        b"at 3",
+        asked(3),
+    );
     row(b"fit of 0 bits", fit(0), b"of 1 bit", fit(1));
     row(b"fit of 33 bits", fit(33), b"of 32 bits", fit(32));
 }

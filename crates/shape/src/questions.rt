@@ -3,8 +3,10 @@ use crate::numbers::refusal_of;
 use crate::numbers::span;
 use crate::powers::power;
 use crate::powers::shift;
+use crate::runs::low_rate;
 ghost use mathlib.Core.Path.{_≡_};
 ghost use Rattle.sums.specs.State.{refusalOf};
+ghost use Rattle.sums.specs.Runs.{needed};
 ghost use Rattle.sums.specs.Calls.{gainNumberOf, gainOf, gainLog2Of, responseLengthOf, fitNumberOf, fitsOf};
 ghost use Rattle.shape.specs.Answers.{toldOf, fittingOf};
 
@@ -67,6 +69,25 @@ pub fn response_length(
     let r = span(rate, delay as u32);
     let steps = order as u64 * (r - 1);
     Told::Number(steps)
+}
+
+// The low-rate samples of a block of len at the high rate.
+pub fn low_rate_length(
+    order: usize,
+    delay: usize,
+    rate: u32,
+    countdown: u32,
+    unsettled: usize,
+    len: usize,
+) -> Told
+    ensures { λ r. ⌜ r ≡ toldOf (refusalOf order delay rate countdown unsettled) (needed len countdown rate) ⌝ }
+{
+    let number = refusal_of(order, delay, rate, countdown, unsettled);
+    if number != 0 {
+        return Told::Refused(number);
+    }
+    let count = low_rate(len, countdown, rate);
+    Told::Number(count as u64)
 }
 
 // Whether b + gain_log2 is at most the word's width: then inputs of b signed bits make no output wrap. Refused
