@@ -1,20 +1,52 @@
 // The example of README.md: a filter of order 3 at R = 4 runs, the encoder's plug is pulled and pushed back, the rate
-// is set anew, and the outputs that may be believed are printed.
+// is set anew, and of each block since then the outputs that may be believed are counted.
+use blocks::Verdict;
 use cic::runs::Wrote;
+use cic::runs::settled_number;
 use cic::runs::settled_part;
 use cic::state::Cic;
 use libc::STDOUT_FILENO;
 
-// Decimates a block after the plug was pushed back, and answers how many of its outputs may be believed.
-fn after_the_plug(filter: Cic, input: &[i32], out: &mut [i32]) -> usize {
-    let again = filter.set_rate(filter.rate());
-    let ready = again.state;
-    let r = ready.decimate_block(input, out);
+// What a block left: the filter to go on with, how many of its outputs may be believed, and the number of a
+// refusal, or 0.
+struct Outcome {
+    filter: Cic,
+    believed: usize,
+    refusal: u32,
+}
+
+// Decimates a block. The outputs that may be believed stand in out behind those that may not.
+fn decimate(filter: Cic, input: &[i32], out: &mut [i32]) -> Outcome {
+    let r = filter.decimate_block(input, out);
+    let after = r.state;
     let wrote = r.wrote;
-    let Wrote::Outputs(written) = wrote else {
-        return 0;
-    };
-    settled_part(out, written.count, written.told).len()
+    match wrote {
+        Wrote::Refused(number) => Outcome {
+            filter: after,
+            believed: 0,
+            refusal: number,
+        },
+        Wrote::Outputs(written) => {
+            let number = settled_number(out, written.count);
+            let part = settled_part(out, written.count, written.told);
+            Outcome {
+                filter: after,
+                believed: part.len(),
+                refusal: number,
+            }
+        }
+    }
+}
+
+fn tell(believed: usize, refusal: u32) {
+    if refusal != 0 {
+        io::write_all(STDOUT_FILENO, b"refused by number ");
+        io::print_decimal(STDOUT_FILENO, refusal as u64);
+        io::write_all(STDOUT_FILENO, b"\n");
+        return;
+    }
+    io::print_decimal(STDOUT_FILENO, believed as u64);
+    io::write_all(STDOUT_FILENO, b" outputs may be believed\n");
 }
 
 fn main() {
@@ -23,10 +55,20 @@ fn main() {
     // What came before the plug was pulled.
     let before = filter.decimate(1000);
     let state = before.state;
-    // The samples since it was pushed back: 28 of them give 7 outputs, of which N·M = 3 are not to be believed.
+    // The plug is back in.
+    let again = state.set_rate(state.rate());
+    let verdict = again.verdict;
+    if let Verdict::Refused(number) = verdict {
+        tell(0, number);
+        return;
+    }
+    let ready = again.state;
+    // The samples since then: 28 of them give 7 outputs, of which the first N·M = 3 are not to be believed.
     let samples = [7i32; 28];
     let mut out = [0i32; 28];
-    let believed = after_the_plug(state, &samples, &mut out);
-    io::print_decimal(STDOUT_FILENO, believed as u64);
-    io::write_all(STDOUT_FILENO, b" outputs may be believed\n");
+    let first = decimate(ready, &samples, &mut out);
+    tell(first.believed, first.refusal);
+    let next = first.filter;
+    let second = decimate(next, &samples, &mut out);
+    tell(second.believed, second.refusal);
 }
