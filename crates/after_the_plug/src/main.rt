@@ -38,28 +38,43 @@ fn decimate(filter: Cic, input: &[i32], out: &mut [i32]) -> Outcome {
     }
 }
 
-fn tell(believed: usize, refusal: u32) {
-    if refusal != 0 {
-        io::write_all(STDOUT_FILENO, b"refused by number ");
-        io::print_decimal(STDOUT_FILENO, refusal as u64);
-        io::write_all(STDOUT_FILENO, b"\n");
-        return;
+fn number_of(verdict: Verdict) -> u32 {
+    match verdict {
+        Verdict::Done => 0,
+        Verdict::Refused(number) => number,
     }
+}
+
+// Whether this is the number of a refusal, and then it is told.
+fn refused(number: u32) -> bool {
+    if number == 0 {
+        return false;
+    }
+    io::write_all(STDOUT_FILENO, b"refused by number ");
+    io::print_decimal(STDOUT_FILENO, number as u64);
+    io::write_all(STDOUT_FILENO, b"\n");
+    true
+}
+
+fn tell(believed: usize) {
     io::print_decimal(STDOUT_FILENO, believed as u64);
     io::write_all(STDOUT_FILENO, b" outputs may be believed\n");
 }
 
 fn main() {
     let made = Cic::new(3, 1, 3);
+    let opened = made.verdict;
+    if refused(number_of(opened)) {
+        return;
+    }
     let filter = made.state;
     // What came before the plug was pulled.
     let before = filter.decimate(1000);
     let state = before.state;
     // The plug is back in.
     let again = state.set_rate(state.rate());
-    let verdict = again.verdict;
-    if let Verdict::Refused(number) = verdict {
-        tell(0, number);
+    let reset = again.verdict;
+    if refused(number_of(reset)) {
         return;
     }
     let ready = again.state;
@@ -67,8 +82,15 @@ fn main() {
     let samples = [7i32; 28];
     let mut out = [0i32; 28];
     let first = decimate(ready, &samples, &mut out);
-    tell(first.believed, first.refusal);
+    if refused(first.refusal) {
+        return;
+    }
+    tell(first.believed);
+    // The next block goes on from the state that this one left.
     let next = first.filter;
     let second = decimate(next, &samples, &mut out);
-    tell(second.believed, second.refusal);
+    if refused(second.refusal) {
+        return;
+    }
+    tell(second.believed);
 }
