@@ -35,60 +35,60 @@ use Rattle.cic.specs.Reading.{stateOf, cicOf}
 use Rattle.cic.specs.Answers.{outOf, interpolatedOf, sampleOf}
 use Rattle.cic.specs.Demands.{Refusal}
 
--- what an answer says of its number
+-- what an answer says of its number: 1 where it is a refusal, 0 where it isn't, and 0 is not 1
 pub clash : _≡_ {A = ℕ} 0 1 → ⊥
 clash e = omega arith
 
-abbrev isDone : Verdict → ℕ
-isDone Verdict.Done = 0
-isDone (Verdict.Refused k) = 1
+abbrev refusedVerdict : Verdict → ℕ
+refusedVerdict Verdict.Done = 0
+refusedVerdict (Verdict.Refused k) = 1
 
 pub done-zero : (n : ℕ) → verdictOf n ≡ Verdict.Done → n ≡ 0
 unfolding verdictOf
 done-zero zero e = refl
-done-zero (suc n) e = absurd (clash (sym (ap isDone e)))
+done-zero (suc n) e = absurd (clash (sym (ap refusedVerdict e)))
 
 verdict-refuses : (n k : ℕ) → verdictOf n ≡ Verdict.Refused k → n ≡ 0 → ⊥
 unfolding verdictOf
-verdict-refuses zero k e z = clash (ap isDone e)
+verdict-refuses zero k e z = clash (ap refusedVerdict e)
 verdict-refuses (suc n) k e z = omega arith
 
-abbrev isOut : Out → ℕ
-isOut (Out.Given y) = 0
-isOut Out.Nothing = 0
-isOut (Out.Refused k) = 1
+abbrev refusedOut : Out → ℕ
+refusedOut (Out.Given y) = 0
+refusedOut Out.Nothing = 0
+refusedOut (Out.Refused k) = 1
 
 out-refuses : (n k : ℕ) (g : Option (Output ℤ)) → outOf n g ≡ Out.Refused k → n ≡ 0 → ⊥
 unfolding outOf
-out-refuses zero k none e z = clash (ap isOut e)
-out-refuses zero k (some y) e z = clash (ap isOut e)
+out-refuses zero k none e z = clash (ap refusedOut e)
+out-refuses zero k (some y) e z = clash (ap refusedOut e)
 out-refuses (suc n) k g e z = omega arith
 
-abbrev isWrote : Wrote → ℕ
-isWrote (Wrote.Outputs w) = 0
-isWrote (Wrote.Refused k) = 1
+abbrev refusedWrote : Wrote → ℕ
+refusedWrote (Wrote.Outputs w) = 0
+refusedWrote (Wrote.Refused k) = 1
 
 wrote-refuses : (n k c u : ℕ) → wroteOf n c u ≡ Wrote.Refused k → n ≡ 0 → ⊥
 unfolding wroteOf
-wrote-refuses zero k c u e z = clash (ap isWrote e)
+wrote-refuses zero k c u e z = clash (ap refusedWrote e)
 wrote-refuses (suc n) k c u e z = omega arith
 
-abbrev isValue : Interpolated → ℕ
-isValue (Interpolated.Value y) = 0
-isValue (Interpolated.Refused k) = 1
+abbrev refusedValue : Interpolated → ℕ
+refusedValue (Interpolated.Value y) = 0
+refusedValue (Interpolated.Refused k) = 1
 
 value-refuses : (n k : ℕ) (y : ℤ) → interpolatedOf n y ≡ Interpolated.Refused k → n ≡ 0 → ⊥
 unfolding interpolatedOf
-value-refuses zero k y e z = clash (ap isValue e)
+value-refuses zero k y e z = clash (ap refusedValue e)
 value-refuses (suc n) k y e z = omega arith
 
-abbrev isRead : Read → ℕ
-isRead (Read.Inputs n) = 0
-isRead (Read.Refused k) = 1
+abbrev refusedRead : Read → ℕ
+refusedRead (Read.Inputs n) = 0
+refusedRead (Read.Refused k) = 1
 
 read-refuses : (n k c : ℕ) → readOf n c ≡ Read.Refused k → n ≡ 0 → ⊥
 unfolding readOf
-read-refuses zero k c e z = clash (ap isRead e)
+read-refuses zero k c e z = clash (ap refusedRead e)
 read-refuses (suc n) k c e z = omega arith
 
 -- what an accepted block answers
@@ -103,7 +103,7 @@ toldIn (Wrote.Refused k) = 0
 pub wrote-is : (n c u : ℕ) (w : Written) → wroteOf n c u ≡ Wrote.Outputs w → (n ≡ 0) × (w .count ≡ c) × (w .told ≡ u)
 unfolding wroteOf
 wrote-is zero c u w e = (refl, sym (ap countIn e), sym (ap toldIn e))
-wrote-is (suc n) c u w e = absurd (clash (sym (ap isWrote e)))
+wrote-is (suc n) c u w e = absurd (clash (sym (ap refusedWrote e)))
 
 -- a refused call hands its state back
 
