@@ -211,7 +211,8 @@ fn by_blocks<const N: usize, const M: usize>(c: &Case, code: u32) -> (Digest, u3
             (ys.len() as u32, ys)
         } else {
             let mut due = xs.iter();
-            let ys = (0..len).map(|_| cic.process(if cic.tick() { due.next().copied() } else { None })).collect();
+            let ys =
+                (0..len).map(|_| cic.process(if cic.tick() { due.next().copied() } else { None })).collect();
             (len - due.len() as u32, ys)
         };
         digest.feed(&count);
