@@ -3,7 +3,8 @@
 use std::fmt::Write;
 use std::sync::OnceLock;
 
-/// At scale: how far every seed is moved, and how many times longer the decimator's and interpolator's long runs are.
+/// At scale: how far every seed is moved, and how many times longer the decimator's and interpolator's runs by
+/// blocks are.
 pub static SCALE: OnceLock<(u32, u32)> = OnceLock::new();
 
 /// A seed, moved at scale.
@@ -11,9 +12,9 @@ pub fn moved(seed: u32) -> u32 {
     seed.wrapping_add(SCALE.get().map_or(0, |s| s.0))
 }
 
-/// A long run's steps, more of them at scale.
-pub fn longer(steps: u32) -> u32 {
-    steps * SCALE.get().map_or(1, |s| s.1)
+/// The blocks of a run, more of them at scale.
+pub fn longer(blocks: u32) -> u32 {
+    blocks * SCALE.get().map_or(1, |s| s.1)
 }
 
 /// Words that runs meet often.
