@@ -22,20 +22,20 @@ use Rattle.sums.proofs.Counts.{outputs-length, outputs-told}
 use Rattle.sums.proofs.Blocks.{values-length}
 use Rattle.sums.proofs.Alone.{leaves-fit}
 use Rattle.shape.specs.Answers.{wroteOf, readOf}
 use Rattle.cic.specs.Word.{wordOps}
 use Rattle.cic.specs.declared.state.Cic.{Cic}
 use Rattle.cic.specs.declared.steps.Sample.{Sample}
 use Rattle.cic.specs.declared.steps.Sample.the-variants as Sample
 use Rattle.cic.specs.declared.steps.Stepped.{Stepped}
 use Rattle.cic.specs.declared.steps.Risen.{Risen}
 use Rattle.cic.specs.declared.runs.Decimated.{Decimated}
 use Rattle.cic.specs.declared.runs.Filled.{Filled}
 use Rattle.cic.specs.Reading.{stateOf}
 use Rattle.cic.specs.Answers.{outOf, interpolatedOf, sampleOf}
 use Rattle.cic.specs.InTurn.{outputOf}
-use Rattle.cic.specs.Demands.{tookStep, tookBlock, toldFrom, gaveBlock, tookSample, gaveSample, tookFill, gaveFill}
-use Rattle.cic.specs.Demands.{Decimating, Interpolating}
-use Rattle.cic.proofs.Refusals.{hands-back}
+use Rattle.demands.specs.Demands.{tookStep, tookBlock, toldFrom, gaveBlock, tookSample, gaveSample, tookFill, gaveFill}
+use Rattle.demands.specs.Demands.{Decimating, Interpolating}
+use Rattle.demands.proofs.Refusals.{hands-back}
 
 -- what a call took in and gave, read from its answer
 took-step : (n : ℕ) (g : Option (Output ℤ)) (x : ℤ) → unless n [] (x ∷ []) ≡ tookStep (outOf n g) x

@@ -21,17 +21,17 @@ use Rattle.sums.proofs.Makers.{resume-is, resume-sound, rate-is, rate-sound, ne
 use Rattle.sums.proofs.Demands.{demand2, demand2-cleared, demand3, demand3-rate, settled}
 use Rattle.sums.proofs.Believed.{block-asked, settled-part}
 use Rattle.shape.specs.Answers.{wroteOf}
 use Rattle.cic.specs.Word.{width, wordOps}
 use Rattle.cic.specs.declared.state.Cic.{Cic}
 use Rattle.cic.specs.declared.state.Made.{Made}
 use Rattle.cic.specs.declared.runs.Decimated.{Decimated}
 use Rattle.cic.specs.Reading.{stateOf, cicOf}
 use Rattle.cic.specs.Answers.{madeOf}
-use Rattle.cic.specs.Demands.{gaveBlock, Interpolating, Decimator, Interpolator}
-use Rattle.cic.specs.Demands.{AfterNew, AfterClear, AfterResume, AfterSetRate, BelievedPart, AfterSettle}
+use Rattle.demands.specs.Demands.{gaveBlock, Interpolating, Decimator, Interpolator}
+use Rattle.demands.specs.Demands.{AfterNew, AfterClear, AfterResume, AfterSetRate, BelievedPart, AfterSettle}
 use Rattle.cic.proofs.InTurn.{block-count, settled-number}
-use Rattle.cic.proofs.Refusals.{done-zero, wrote-is}
-use Rattle.cic.proofs.CallRuns.{gave-block, falls, rises}
+use Rattle.demands.proofs.Refusals.{done-zero, wrote-is}
+use Rattle.demands.proofs.CallRuns.{gave-block, falls, rises}
 
 module _ (N M r c u : ℕ) (s : Cic) where
   of-falls : Fit (stateOf s) → rules.Decimator width N M r c u (stateOf s) → Decimator N M r c u s

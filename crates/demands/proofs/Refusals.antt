@@ -20,20 +20,20 @@ use Rattle.shape.specs.declared.runs.Wrote.the-variants as Wrote
 use Rattle.shape.specs.declared.runs.Read.{Read}
 use Rattle.shape.specs.declared.runs.Read.the-variants as Read
 use Rattle.shape.specs.Answers.{wroteOf, readOf}
 use Rattle.cic.specs.Word.{wordOps}
 use Rattle.cic.specs.declared.state.Cic.{Cic}
 use Rattle.cic.specs.declared.state.Made.{Made}
 use Rattle.cic.specs.declared.questions.Interpolated.{Interpolated}
 use Rattle.cic.specs.declared.questions.Interpolated.the-variants as Interpolated
 use Rattle.cic.specs.declared.steps.Out.{Out}
 use Rattle.cic.specs.declared.steps.Out.the-variants as Out
 use Rattle.cic.specs.declared.steps.Stepped.{Stepped}
 use Rattle.cic.specs.declared.steps.Risen.{Risen}
 use Rattle.cic.specs.declared.runs.Decimated.{Decimated}
 use Rattle.cic.specs.declared.runs.Filled.{Filled}
 use Rattle.cic.specs.Reading.{stateOf, cicOf}
 use Rattle.cic.specs.Answers.{outOf, interpolatedOf, sampleOf}
-use Rattle.cic.specs.Demands.{Refusal}
+use Rattle.demands.specs.Demands.{Refusal}
 
 -- what an answer says of its number: 1 where it is a refusal, 0 where it isn't, and 0 is not 1
 pub clash : _≡_ {A = ℕ} 0 1 → ⊥
