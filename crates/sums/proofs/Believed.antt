@@ -3,7 +3,7 @@ use mathlib.Core.Path.{_≡_, refl, sym, ap, _∙_}
 use mathlib.Core.Bool.{false, cond}
 use mathlib.Core.List.{List, [], _∷_}
 use mathlib.Core.Option.{some}
-use Prim.Native.Nat.{ℕ, zero, suc, _-_, _<_}
+use Prim.Native.Nat.{ℕ, zero, suc, _+_, _*_, _-_, _<_}
 use native.Mathlib.Omega.{arith}
 use lib.Dec.{ltb, eqb·suc-zero}
 use lib.IntN.{ℤ}
@@ -12,13 +12,13 @@ use lib.Seq.{take-append-seam}
 use borrow.Author.Tests.{le-ltb}
 use Rattle.sums.specs.Ops.{Ops}
 use Rattle.sums.specs.Machine.{Output}
-use Rattle.sums.specs.State.{State, refusal}
-use Rattle.sums.specs.Runs.{needed, values, firstTold, over, outputs, blockNumber, blockOut, settledNumber, settledPart}
+use Rattle.sums.specs.Runs.{values, firstTold, over, outputs, settledNumber, settledPart}
+use Rattle.sums.specs.Counted.{Counted, Numbered, blockNumber, plain, firstNumber, takenOutputs, blockOut}
 use Rattle.sums.specs.Demands.{believed}
-use Rattle.sums.proofs.Refusals.{both-zero}
 use Rattle.sums.proofs.Steps.{Fit}
 use Rattle.sums.proofs.Counts.{outputs-told}
-use Rattle.sums.proofs.Settling.{outputs-tell}
+use Rattle.sums.proofs.Numbering.{block-room, taken-tagged, plain-taken, plain-tagged, elem-tagged, first-tagged}
+use Rattle.sums.proofs.Settling.{elem-below, outputs-tell}
 use Rattle.sums.proofs.Blocks.{values-length}
 
 -- a list whose outputs tell u, then one fewer each
@@ -40,29 +40,37 @@ believed-first (y ∷ ys) u h =
     let e : y .told ≡ u = omega (arith, h 0 y (omega arith)) in
     ap (λ k. drop k (values (y ∷ ys))) e ∙ believed-is (y ∷ ys) u h
 
-pub settled-part : (o : Ops ℤ) (s : State ℤ) → Fit s → (xs out : List ℤ) → blockNumber s xs out ≡ 0
-    → settledPart (blockOut o s xs out) (length (outputs o s xs)) (firstTold (outputs o s xs)) ≡ believed (outputs o s xs)
-unfolding blockOut settledPart settledNumber
-settled-part o s f xs out e =
-    let ys : List (Output ℤ) = outputs o s xs in
-    let l : length (values ys) ≡ length ys = values-length ys in
-    let room : ltb (length (over (values ys) out)) (length ys) ≡ false =
-    le-ltb (length (over (values ys) out)) (length ys) (rw length-append (omega arith)) in
-    rw (e, room)
-    (ap (λ n. drop (firstTold ys) (take n (over (values ys) out))) (sym l)
-    ∙ ap (drop (firstTold ys)) (take-append-seam (values ys) (drop (length (values ys)) out))
-    ∙ believed-first ys (s .unsettled) (λ k d b. outputs-told o s f xs k d b))
-
 -- the output i places after the first of a list
 first-less : (ys : List (Output ℤ)) (u : ℕ) → ((k : ℕ) (y : Output ℤ) → getElem? ys k ≡ some y → y .told ≡ u - k)
     → (i : ℕ) (y : Output ℤ) → getElem? ys i ≡ some y → y .told ≡ firstTold ys - i
 first-less [] u h i y e = let z : _≡_ {A = ℕ} 0 1 = cc in absurd (omega arith)
 first-less (x ∷ ys) u h i y e = omega (arith, h 0 x refl, h i y e)
 
-pub told-less : (o : Ops ℤ) (s : State ℤ) → Fit s → (xs : List ℤ) (i : ℕ) (y : Output ℤ) → getElem? (outputs o s xs) i ≡ some y
-    → y .told ≡ firstTold (outputs o s xs) - i
-told-less o s f xs i y e = first-less (outputs o s xs) (s .unsettled) (outputs-tell o s f xs) i y e
+module _ (o : Ops ℤ) (c : Counted ℤ) (f : Fit (c .state)) (xs out : List ℤ) (e : blockNumber c xs out ≡ 0) where
+  abbrev ys : List (Output ℤ)
+  ys = outputs o (c .state) xs
 
-pub block-asked : {A : Type 0} (s : State A) (xs out : List A) → blockNumber s xs out ≡ 0 → refusal s ≡ 0
-unfolding blockNumber
-block-asked s xs out e = both-zero (refusal s) (cond (ltb (length out) (needed (length xs) (s .countdown) (s .rate))) 20 0) e .0
+  pub settled-part : settledPart (blockOut o c xs out) (length (plain (takenOutputs o c xs))) (firstTold (plain (takenOutputs o c xs)))
+      ≡ believed (plain (takenOutputs o c xs))
+  unfolding blockOut settledPart settledNumber
+  settled-part =
+      let l : length (values ys) ≡ length ys = values-length ys in
+      let room : ltb (length (over (values ys) out)) (length ys) ≡ false =
+      le-ltb (length (over (values ys) out)) (length ys) (rw length-append (omega arith)) in
+      rw (e, plain-taken o c f xs (block-room c xs out e), room)
+      (ap (λ n. drop (firstTold ys) (take n (over (values ys) out))) (sym l)
+      ∙ ap (drop (firstTold ys)) (take-append-seam (values ys) (drop (length (values ys)) out))
+      ∙ believed-first ys (c .state .unsettled) (λ k d b. outputs-told o (c .state) f xs k d b))
+
+  -- what the output i places after the first tells
+  pub in-block : (i : ℕ) (y : Numbered ℤ) → getElem? (takenOutputs o c xs) i ≡ some y
+      → (y .told ≡ firstTold (plain (takenOutputs o c xs)) - i)
+      × (y .number ≡ firstNumber (takenOutputs o c xs) + i * suc (c .state .rate))
+  in-block i y h =
+      let s = c .state in let R : ℕ = suc (s .rate) in let first : ℕ = c .inputs + s .countdown + 1 in
+      let is = taken-tagged o c f xs (block-room c xs out e) in
+      let t = elem-tagged first R ys i y (ap (λ l. getElem? l i) (sym is) ∙ h) in
+      rw (is, plain-tagged first R ys) (
+        first-less ys (s .unsettled) (outputs-tell o s f xs) i _ (t .there),
+        t .number ∙ ap (λ n. n + i * R) (sym (first-tagged first R ys (omega (arith, elem-below ys i _ (t .there))))),
+      )

@@ -45,6 +45,11 @@ needed-give n c r h =
     simp (lt-leb (suc n) c (omega arith), lt-leb n r k, e, d) (omega arith))
     (split n r)
 
+-- a block that gives an output reaches past its countdown
+pub needed-some : (L c r : ℕ) → 0 < needed L c r → c < L
+unfolding needed
+needed-some L c r h = ⊎-elim (λ k. absurd (omega (arith, (rw (le-leb L c k) at h)))) (λ k. k) (split L c)
+
 -- a list whose first tells u, and the rest one fewer
 told-front : {A : Type 0} (y : Output A) (l : List (Output A)) (d : Output A) (u : ℕ) → y .told ≡ u
     → ((k : ℕ) → k < length l → getD l k d .told ≡ u - 1 - k)

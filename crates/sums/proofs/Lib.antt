@@ -4,6 +4,7 @@ pub mod Arrays
 pub mod Loops
 pub mod Steps
 pub mod Counts
+pub mod Numbering
 pub mod Blocks
 pub mod Stretches
 pub mod Rings

@@ -16,10 +16,10 @@ use Rattle.sums.specs.Moving.{moving}
 use Rattle.sums.specs.State.{State, rows, view, refusal, zeroed}
 use Rattle.sums.specs.Calls.{newNumber, resumeNumber, rateNumber, newState, resumeState, rateState, clearState, settledAt}
 use Rattle.sums.specs.Calls.{settleState}
-use Rattle.sums.specs.Runs.{outputs}
 use Rattle.sums.specs.Demands.{input, InWord, Decimates}
 use Rattle.sums.proofs.Refusals.{Sound, sound}
 use Rattle.sums.proofs.Steps.{packed, Fit}
+use Rattle.sums.proofs.Numbering.{numbering}
 use Rattle.sums.proofs.Zeros.{falls-from-zero}
 use Rattle.sums.proofs.Traces.{slow, output}
 use Rattle.sums.proofs.Carried.{exactLaws, nil-in}
@@ -128,9 +128,9 @@ zero-output N M s ec ei el x k = rw (ec, ei, el) (falls-from-zero exactOps exact
     ∙ ap (moving exactOps (suc (s .rate) * M) N x) (sym (zero-add (k * suc (s .rate)))))
 
 pub decimates-zero : (w : Width) (N M r : ℕ) → Sound N M r 0 0 → (xs : List ℤ)
-    → Decimates w N M r 0 0 xs (outputs (signedOps w) (zeroed (signedOps w) N M r) xs)
+    → Decimates w N M r 0 0 0 xs (numbering (signedOps w) 0 (zeroed (signedOps w) N M r) xs)
 unfolding zeroed view
 decimates-zero w N M r q xs =
-    decimates w (zeroed (signedOps w) N M r) (zeroed-fit (signedOps w) N M r q) xs
+    decimates w (zeroed (signedOps w) N M r) (zeroed-fit (signedOps w) N M r q) xs 0
     (λ k l. zero-output N M (view (zeroed (signedOps w) N M r)) refl (zeroed-integrators (signedOps w) N M r q)
     (zeroed-lines (signedOps w) N M r q) (input xs) k)

@@ -1,5 +1,5 @@
--- Demands 2 and 3 of an accepted state over words: when its outputs fall, what each tells, and that those told 0 are the moving sum;
--- first from any contents with N M outputs unsettled, then from zero.
+-- Demands 2 and 3 of an accepted state over words: when its outputs fall, their numbers, what each tells, and that those told 0 are the
+-- moving sum; first from any contents with N M outputs unsettled, then from zero.
 use mathlib.Core.Path.{_≡_, refl, sym, ap, _∙_}
 use mathlib.Core.List.{List, [], _∷_}
 use mathlib.Core.Option.{some, Option·some-injective}
@@ -16,10 +16,12 @@ use Rattle.sums.specs.Machine.{Output}
 use Rattle.sums.specs.Moving.{moving}
 use Rattle.sums.specs.State.{State, view}
 use Rattle.sums.specs.Runs.{needed, outputs}
+use Rattle.sums.specs.Counted.{Numbered}
 use Rattle.sums.specs.Demands.{input, modulo, Decimates}
 use Rattle.sums.proofs.Arrays.{view-shaped}
 use Rattle.sums.proofs.Steps.{Fit, room}
 use Rattle.sums.proofs.Counts.{needed-none, needed-wait, needed-give, outputs-length, outputs-told}
+use Rattle.sums.proofs.Numbering.{numbering, numbering-is, tagged, tagged-length, Tags, elem-tagged}
 use Rattle.sums.proofs.Cascade.{seg}
 use Rattle.sums.proofs.Traces.{output, outcome, outputs-are, output-settled}
 use Rattle.sums.proofs.Carried.{exactLaws, output-modulo}
@@ -39,7 +41,7 @@ needed-falls (suc L) zero r (suc k) =
     rw (needed-give L 0 r refl, f) (leb·suc-suc (suc k) (needed L r r) ∙ needed-falls L r r k ∙ sym (leb·suc-suc (suc (r + k * suc r)) L))
 
 -- an element of a list
-elem-below : {A : Type 0} (l : List A) (k : ℕ) (y : A) → getElem? l k ≡ some y → k < length l
+pub elem-below : {A : Type 0} (l : List A) (k : ℕ) (y : A) → getElem? l k ≡ some y → k < length l
 elem-below [] k y e = let z : _≡_ {A = ℕ} 0 1 = cc in absurd (omega arith)
 elem-below (a ∷ l) zero y e = omega arith
 elem-below (a ∷ l) (suc k) y e = let h = elem-below l k y e in omega arith
@@ -74,22 +76,29 @@ module _ (w : Width) (s : State ℤ) (f : Fit s) (xs : List ℤ) where
       ∙ ap (output (signedOps w) (view s) (input xs)) (zero-add k)
       ∙ output-modulo w (s .order) (view s) (view-shaped s (room s f) .order) (view-shaped s (room s f) .lines-order) (input xs) k
 
-  -- what is left to show is that settled outputs over the whole numbers are the moving sum
-  pub decimates : ((k : ℕ) → s .unsettled ≤ k
+  -- with numbers from n + 1 on; what is left to show is that settled outputs over the whole numbers are the moving sum
+  pub decimates : (n : ℕ) → ((k : ℕ) → s .unsettled ≤ k
       → output exactOps (view s) (input xs) k ≡ moving exactOps (suc (s .rate) * s .delay) (s .order) (input xs)
       (s .countdown + k * suc (s .rate)))
-      → Decimates w (s .order) (s .delay) (s .rate) (s .countdown) (s .unsettled) xs (outputs (signedOps w) s xs)
-  decimates settled =
-      record {
-        falls = λ k. ap (ltb k) (outputs-length (signedOps w) s f xs) ∙ needed-falls (length xs) (s .countdown) (s .rate) k;
-        tells = outputs-tell (signedOps w) s f xs;
-        sums = λ k y e t. value-is k y e ∙ ap (modulo w (s .order)) (settled k (omega (arith, outputs-tell (signedOps w) s f xs k y e, t)));
-      }
+      → Decimates w (s .order) (s .delay) (s .rate) (s .countdown) (s .unsettled) n xs (numbering (signedOps w) n s xs)
+  decimates n settled =
+      let o : Ops ℤ = signedOps w in
+      let first : ℕ = n + s .countdown + 1 in
+      let tags : (k : ℕ) (y : Numbered ℤ) → getElem? (tagged first (suc (s .rate)) (outputs o s xs)) k ≡ some y
+      → Tags first (suc (s .rate)) (outputs o s xs) k y = elem-tagged first (suc (s .rate)) (outputs o s xs) in
+      rw (numbering-is o n s f xs) (record {
+        falls = λ k. ap (ltb k) (tagged-length first (suc (s .rate)) (outputs o s xs) ∙ outputs-length o s f xs)
+            ∙ needed-falls (length xs) (s .countdown) (s .rate) k;
+        numbers = λ k y e. tags k y e .number ∙ omega arith;
+        tells = λ k y e. outputs-tell o s f xs k _ (tags k y e .there);
+        sums = λ k y e t. value-is k _ (tags k y e .there)
+            ∙ ap (modulo w (s .order)) (settled k (omega (arith, outputs-tell o s f xs k _ (tags k y e .there), t)));
+      })
 
   -- from any contents, where N M outputs or more are unsettled
-  pub decimates-settled : s .order * s .delay ≤ s .unsettled
-      → Decimates w (s .order) (s .delay) (s .rate) (s .countdown) (s .unsettled) xs (outputs (signedOps w) s xs)
+  pub decimates-settled : (n : ℕ) → s .order * s .delay ≤ s .unsettled
+      → Decimates w (s .order) (s .delay) (s .rate) (s .countdown) (s .unsettled) n xs (numbering (signedOps w) n s xs)
   unfolding view
-  decimates-settled enough =
-      decimates (λ k l. output-settled exactOps exactLaws (s .order) (s .delay) (view s) (view-shaped s (room s f)) (input xs) k
+  decimates-settled n enough =
+      decimates n (λ k l. output-settled exactOps exactLaws (s .order) (s .delay) (view s) (view-shaped s (room s f)) (input xs) k
       (omega arith))

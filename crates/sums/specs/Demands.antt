@@ -18,10 +18,11 @@ use Rattle.sums.specs.Machine.{Output}
 use Rattle.sums.specs.Moving.{moving, held}
 use Rattle.sums.specs.State.{State, refusal}
 use Rattle.blocks.specs.Blocks.{unless}
-use Rattle.sums.specs.Calls.{newNumber, resumeNumber, rateNumber, riseNumber, newState, resumeState, rateState, clearState}
+use Rattle.sums.specs.Calls.{newNumber, resumeNumber, rateNumber, riseNumber, newState, resumeState, clearState}
 use Rattle.sums.specs.Calls.{settleState, stepState, stepGiven, riseState, riseGiven, gain, gainLog2, fitNumber, fits}
-use Rattle.sums.specs.Runs.{needed, join, firstTold, blockNumber, fillNumber, outputs, blockState, blockOut, risings, fillState}
-use Rattle.sums.specs.Runs.{settledPart}
+use Rattle.sums.specs.Runs.{needed, join, firstTold, fillNumber, outputs, risings, fillState, settledPart}
+use Rattle.sums.specs.Counted.{Counted, Numbered, takeNumber, blockNumber, plain, firstNumber, newCounted, resumeCounted, rateCounted}
+use Rattle.sums.specs.Counted.{clearCounted, takeState, takeGiven, takenOutputs, blockState, blockOut}
 
 -- A list as a sequence, number 0 first and zeros behind it.
 abbrev pub input : List ℤ → ℕ → ℤ
@@ -52,8 +53,8 @@ pub data Raise : Type 0 where
   fill : List ℤ → List ℤ → Raise
 
 -- What a call reads. A refused call is no step: it reads and gives nothing and leaves the state.
-unfoldable pub reads : State ℤ → Call → List ℤ
-reads s (step x) = unless (refusal s) [] (x ∷ [])
+unfoldable pub reads : Counted ℤ → Call → List ℤ
+reads s (step x) = unless (takeNumber s 1) [] (x ∷ [])
 reads s (block xs out) = unless (blockNumber s xs out) [] xs
 
 unfoldable pub samples : State ℤ → Raise → List ℤ
@@ -62,13 +63,13 @@ samples s (fill xs out) = unless (fillNumber s xs out) [] (take (needed (length 
 
 module _ (o : Ops ℤ) where
   -- What it leaves, and what it gives.
-  unfoldable pub leaves : State ℤ → Call → State ℤ
-  leaves s (step x) = stepState o s x
+  unfoldable pub leaves : Counted ℤ → Call → Counted ℤ
+  leaves s (step x) = takeState o s x
   leaves s (block xs out) = blockState o s xs out
 
-  unfoldable pub gives : State ℤ → Call → List (Output ℤ)
-  gives s (step x) = join (stepGiven o s x) []
-  gives s (block xs out) = unless (blockNumber s xs out) [] (outputs o s xs)
+  unfoldable pub gives : Counted ℤ → Call → List (Numbered ℤ)
+  gives s (step x) = join (takeGiven o s x) []
+  gives s (block xs out) = unless (blockNumber s xs out) [] (takenOutputs o s xs)
 
   unfoldable pub lifts : State ℤ → Raise → State ℤ
   lifts s (rise x) = riseState o s x
@@ -78,23 +79,28 @@ module _ (o : Ops ℤ) where
   yields s (rise x) = unless (riseNumber s x) [] (riseGiven o s x ∷ [])
   yields s (fill xs out) = unless (fillNumber s xs out) [] (risings o s (length out) xs)
 
--- What the outputs ys are to the inputs xs, where the first output is due after c inputs and the first u aren't to be believed.
-pub record Decimates (w : Width) (N M rate c u : ℕ) (xs : List ℤ) (ys : List (Output ℤ)) : Type 0 where
+-- What the outputs ys are to the inputs xs, where the first output is due after c inputs, the first u aren't to be believed and n inputs
+-- were taken before.
+pub record Decimates (w : Width) (N M rate c u n : ℕ) (xs : List ℤ) (ys : List (Numbered ℤ)) : Type 0 where
   -- Output number k, from 0, falls on input number c + k · R + 1, counted from 1: it is there exactly when that input is.
   -- There are no other outputs.
   pub falls : (k : ℕ) → ltb k (length ys) ≡ ltb (c + k * suc rate) (length xs)
+  -- Its number is n more than that.
+  pub numbers : (k : ℕ) (y : Numbered ℤ) → getElem? ys k ≡ some y → y .number ≡ n + (c + k * suc rate + 1)
   -- It tells u less the outputs before it, not below 0.
-  pub tells : (k : ℕ) (y : Output ℤ) → getElem? ys k ≡ some y → y .told ≡ u - k
+  pub tells : (k : ℕ) (y : Numbered ℤ) → getElem? ys k ≡ some y → y .told ≡ u - k
   -- Where it is told 0, it is the N-fold moving sum of the inputs, modulo 2 ^ w.
-  pub sums : (k : ℕ) (y : Output ℤ) → getElem? ys k ≡ some y → y .told ≡ 0
+  pub sums : (k : ℕ) (y : Numbered ℤ) → getElem? ys k ≡ some y → y .told ≡ 0
       → y .value ≡ modulo w N (moving exactOps (suc rate * M) N (input xs) (c + k * suc rate))
 
--- Decimator steps and blocks alone, in any mixture, from the state s on: none is refused but a block whose slice is too short.
-abbrev pub Decimator : (w : Width) (N M rate c u : ℕ) → State ℤ → Type 0
-Decimator w N M rate c u s =
+-- Decimator steps and blocks alone, in any mixture, from the state s on: none is refused but a block whose slice is too short, or a step
+-- or block past 2 ^ 64 - 1.
+abbrev pub Decimator : (w : Width) (N M rate c u n : ℕ) → Counted ℤ → Type 0
+Decimator w N M rate c u n s =
     (calls : List Call)
-    → (refusal (afterCalls (leaves (signedOps w)) s calls) ≡ 0)
-    × Decimates w N M rate c u (along (leaves (signedOps w)) reads s calls) (along (leaves (signedOps w)) (gives (signedOps w)) s calls)
+    → (refusal (afterCalls (leaves (signedOps w)) s calls .state) ≡ 0)
+    × Decimates w N M rate c u n (along (leaves (signedOps w)) reads s calls)
+    (along (leaves (signedOps w)) (gives (signedOps w)) s calls)
 
 -- What the outputs ys are to the samples xs: one sample is read for each R outputs, and each output is the moving sum of the held input.
 pub record Interpolates (w : Width) (N M rate : ℕ) (xs ys : List ℤ) : Type 0 where
@@ -114,38 +120,41 @@ pub record Contents (integrators combs : List ℤ) : Type 0 where
   pub long64 : length combs ≡ 64
 
 -- Demand 2, the moving sum. From a new state, and from a cleared one, every output is told 0 and is the moving sum, and output k falls on
--- input k · R + 1; the interpolator's outputs are the moving sum of the held input.
+-- input k · R + 1, which is its number; the interpolator's outputs are the moving sum of the held input.
 abbrev pub Demand2 : Type 0
 Demand2 =
     (w : Width) (N M rate : ℕ) → newNumber N M rate ≡ 0
-    → Decimator w N M rate 0 0 (newState (signedOps w) N M rate) × Interpolator w N M rate (newState (signedOps w) N M rate)
+    → Decimator w N M rate 0 0 0 (newCounted (signedOps w) N M rate) × Interpolator w N M rate (newState (signedOps w) N M rate)
 
 abbrev pub Demand2Cleared : Type 0
 Demand2Cleared =
-    (w : Width) (s : State ℤ) → refusal s ≡ 0
-    → Decimator w (s .order) (s .delay) (s .rate) 0 0 (clearState (signedOps w) s)
+    (w : Width) (c : Counted ℤ) → let s = c .state in refusal s ≡ 0
+    → Decimator w (s .order) (s .delay) (s .rate) 0 0 0 (clearCounted (signedOps w) c)
     × Interpolator w (s .order) (s .delay) (s .rate) (clearState (signedOps w) s)
 
 -- Demand 3, settling. After a resume from any contents the first output falls on input countdown + 1, the first N · M outputs are
--- told N · M down to 1, and every later one is told 0 and is the moving sum of the inputs since the resume alone.
+-- told N · M down to 1, and every later one is told 0 and is the moving sum of the inputs since the resume alone. Output k's number is the
+-- resumed number plus countdown + 1 + k · R.
 abbrev pub Demand3 : Type 0
 Demand3 =
-    (w : Width) (N M rate countdown : ℕ) (integrators combs : List ℤ) (hold : ℤ)
+    (w : Width) (N M rate countdown inputs : ℕ) (integrators combs : List ℤ) (hold : ℤ)
     → resumeNumber N M rate countdown ≡ 0 → Contents integrators combs
-    → Decimator w N M rate countdown (N * M) (resumeState (signedOps w) N M rate integrators combs hold countdown)
+    → Decimator w N M rate countdown (N * M) inputs (resumeCounted (signedOps w) N M rate integrators combs hold countdown inputs)
 
--- The same after an accepted set_rate, with the countdown that it found.
+-- The same after an accepted set_rate, with the countdown and the number of inputs that it found.
 abbrev pub Demand3Rate : Type 0
 Demand3Rate =
-    (w : Width) (s : State ℤ) (rate : ℕ) → rateNumber s rate ≡ 0 → Contents (s .integrators) (s .combs)
-    → Decimator w (s .order) (s .delay) rate (s .countdown) (s .order * s .delay) (rateState (signedOps w) s rate)
+    (w : Width) (c : Counted ℤ) (rate : ℕ) → let s = c .state in rateNumber s rate ≡ 0 → Contents (s .integrators) (s .combs)
+    → Decimator w (s .order) (s .delay) rate (s .countdown) (s .order * s .delay) (c .inputs) (rateCounted (signedOps w) c rate)
 
--- In a block, from whatever state, the output i places after the first is told the first's count less i, not below 0.
+-- In a block, from whatever state, the output i places after the first is told the first's count less i, not below 0, and its number is
+-- i · R more than the first's.
 abbrev pub ToldInBlock : Type 0
 ToldInBlock =
-    (w : Width) (s : State ℤ) (xs out : List ℤ) → Contents (s .integrators) (s .combs) → blockNumber s xs out ≡ 0
-    → (i : ℕ) (y : Output ℤ) → getElem? (outputs (signedOps w) s xs) i ≡ some y
-    → y .told ≡ firstTold (outputs (signedOps w) s xs) - i
+    (w : Width) (c : Counted ℤ) (xs out : List ℤ) → Contents (c .state .integrators) (c .state .combs) → blockNumber c xs out ≡ 0
+    → let ys = takenOutputs (signedOps w) c xs in
+    (i : ℕ) (y : Numbered ℤ) → getElem? ys i ≡ some y
+    → (y .told ≡ firstTold (plain ys) - i) × (y .number ≡ firstNumber ys + i * suc (c .state .rate))
 
 -- The settled part of a block's slice, taken from what the block told, is its outputs that are told 0, from whatever state.
 abbrev pub believed : List (Output ℤ) → List ℤ
@@ -154,9 +163,9 @@ believed (y ∷ ys) = cond (eqb (y .told) 0) (y .value ∷ believed ys) (believe
 
 abbrev pub SettledPart : Type 0
 SettledPart =
-    (w : Width) (s : State ℤ) (xs out : List ℤ) → Contents (s .integrators) (s .combs) → blockNumber s xs out ≡ 0
-    → settledPart (blockOut (signedOps w) s xs out) (length (outputs (signedOps w) s xs)) (firstTold (outputs (signedOps w) s xs))
-    ≡ believed (outputs (signedOps w) s xs)
+    (w : Width) (c : Counted ℤ) (xs out : List ℤ) → Contents (c .state .integrators) (c .state .combs) → blockNumber c xs out ≡ 0
+    → let ys = plain (takenOutputs (signedOps w) c xs) in
+    settledPart (blockOut (signedOps w) c xs out) (length ys) (firstTold ys) ≡ believed ys
 
 -- N · M can't be lowered: for every order above 0 there are contents and inputs, all of them words, for which output number N · M, counted
 -- from 1, is not the moving sum.

@@ -5,4 +5,5 @@ pub mod Moving
 pub mod State
 pub mod Calls
 pub mod Runs
+pub mod Counted
 pub mod Demands

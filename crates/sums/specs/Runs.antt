@@ -15,11 +15,7 @@ use Rattle.sums.specs.Calls.{stepState, stepGiven, riseState, riseGiven}
 unfoldable pub needed : ℕ → ℕ → ℕ → ℕ
 needed L c rate = cond (leb L c) 0 (1 + (L - 1 - c) / suc rate)
 
--- 20: the output slice is shorter than the block needs. 23: the interpolator block's input is shorter than needed.
-unfoldable pub blockNumber : {A : Type 0} → State A → List A → List A → ℕ
-blockNumber s xs out =
-    unless (refusal s) (refusal s) (cond (ltb (length out) (needed (length xs) (s .countdown) (s .rate))) 20 0)
-
+-- 23: the interpolator block's input is shorter than needed.
 unfoldable pub fillNumber : {A : Type 0} → State A → List A → List A → ℕ
 fillNumber s xs out =
     unless (refusal s) (refusal s) (cond (ltb (length xs) (needed (length out) (s .countdown) (s .rate))) 23 0)
@@ -61,13 +57,6 @@ module _ {A : Type 0} (o : Ops A) where
   unfoldable pub after : State A → List A → State A
   after s [] = s
   after s (x ∷ xs) = after (stepState o s x) xs
-
-  -- The decimator's block.
-  unfoldable pub blockState : State A → List A → List A → State A
-  blockState s xs out = unless (blockNumber s xs out) s (after s xs)
-
-  unfoldable pub blockOut : State A → List A → List A → List A
-  blockOut s xs out = unless (blockNumber s xs out) out (over (values (outputs s xs)) out)
 
   -- The interpolator's steps in turn, n of them.
   unfoldable pub risings : State A → ℕ → List A → List A
