@@ -1,3 +1,4 @@
 pub mod Ways
+pub mod Taking
 pub mod Blocks
 pub mod Places
