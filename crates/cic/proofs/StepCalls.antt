@@ -4,8 +4,9 @@ use mathlib.Core.Option.{Option}
 use Prim.Native.Nat.{ℕ, zero, suc}
 use lib.IntN.{ℤ}
 use borrow.Author.Tests.{ne-eqb}
-use Rattle.sums.specs.State.{State, refusal}
-use Rattle.sums.specs.Calls.{stepState, stepGiven, riseNumber, riseState}
+use Rattle.sums.specs.State.{State}
+use Rattle.sums.specs.Calls.{stepGiven, riseNumber, riseState}
+use Rattle.sums.specs.Counted.{takeNumber, withNumber, takeState, takeGiven}
 use Rattle.sums.proofs.Lent.{DecimateStep, InterpolateStep}
 use Rattle.cic.specs.Word.{wordOps}
 use Rattle.cic.specs.declared.steps.Gave.{Gave}
@@ -16,32 +17,37 @@ use Rattle.cic.specs.declared.steps.Risen.{Risen}
 use Rattle.cic.specs.declared.steps.Sample.{Sample}
 use Rattle.cic.specs.declared.state.Cic.{Cic}
 use Rattle.cic.specs.declared.questions.Interpolated.the-variants as Interpolated
-use Rattle.cic.specs.Reading.{stateOf, cicOf}
+use Rattle.cic.specs.Reading.{stateOf, countedOf, cicOf}
 use Rattle.cic.specs.Answers.{outOf, steppedOf, interpolatedOf, sampleOf, risenOf}
 use Rattle.cic.specs.Inner.Apart.{givenOf, answeredOf, acceptedOf}
 
 -- an output with what it tells is the rule's
-answered-is : (g : Gave) → answeredOf g ≡ outOf 0 (givenOf g)
+answered-is : (g : Gave) (n : ℕ) → answeredOf g n ≡ outOf 0 (withNumber n (givenOf g))
 unfolding outOf
-answered-is (Output y u) = refl
-answered-is Nothing = refl
+answered-is (Output y u) n = refl
+answered-is Nothing n = refl
 
 -- the decimator's call: k is the number that the code found
 module _ (s : Cic) (x : ℤ) where
-  pub step-refuses : (k : ℕ) → k ≡ refusal (stateOf s) → (k ≡ 0 → ⊥)
+  pub step-refuses : (k : ℕ) → k ≡ takeNumber (countedOf s) 1 → (k ≡ 0 → ⊥)
       → _≡_ {A = Stepped} (record { state = s; out = Refused k }) (steppedOf s x)
-  unfolding stepState outOf
+  unfolding takeState outOf
   step-refuses zero e h = absurd (h refl)
   step-refuses (suc k) e h = rw (← e, ne-eqb (suc k) 0 h)
 
-  pub step-takes : refusal (stateOf s) ≡ 0 → (t : State ℤ) (g : Gave) → DecimateStep wordOps (stateOf s) x t (givenOf g)
-      → _≡_ {A = Stepped} (record { state = cicOf t; out = answeredOf g }) (steppedOf s x)
-  step-takes z t g r =
-      let out : answeredOf g ≡ outOf 0 (stepGiven wordOps (stateOf s) x) = answered-is g ∙ ap (outOf 0) (r .gives) in rw (r .state, z, out)
+  pub step-takes : takeNumber (countedOf s) 1 ≡ 0 → (t : State ℤ) (g : Gave) → DecimateStep wordOps (stateOf s) x t (givenOf g)
+      → (n : ℕ) → n ≡ suc (s .inputs)
+      → _≡_ {A = Stepped} (record { state = cicOf (record { state = t; inputs = n }); out = answeredOf g n }) (steppedOf s x)
+  unfolding takeState takeGiven
+  step-takes z t g r n e =
+      let i : ℕ = suc (s .inputs) in
+      let out : answeredOf g i ≡ outOf 0 (withNumber i (stepGiven wordOps (stateOf s) x)) =
+      answered-is g i ∙ ap (λ h. outOf 0 (withNumber i h)) (r .gives) in
+      rw (r .state, z, e, out)
 
 -- the interpolator's call
 pub accepted-takes : (s : Cic) (x : Option ℤ) (t : State ℤ) (y : ℤ) → InterpolateStep wordOps (stateOf s) x t y
-    → _≡_ {A = Risen} (record { state = cicOf t; out = Interpolated.Value y }) (acceptedOf s x)
+    → _≡_ {A = Risen} (record { state = cicOf (record { state = t; inputs = s .inputs }); out = Interpolated.Value y }) (acceptedOf s x)
 accepted-takes s x t y r = rw (r .state, r .gives)
 
 module _ (s : Cic) (x : Sample) where

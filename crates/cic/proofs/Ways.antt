@@ -19,13 +19,25 @@ use Rattle.cic.specs.declared.questions.Interpolated.the-variants as Int
 use Rattle.cic.specs.Reading.{cicOf}
 use Rattle.cic.specs.Answers.{madeOf, interpolatedOf}
 
-module _ (k n : ℕ) (e : k ≡ n) (s t : State ℤ) where
-  pub refuses : (k ≡ 0 → ⊥) → _≡_ {A = Made} (record { state = cicOf s; verdict = Refused k }) (madeOf n (unless n s t))
-  refuses h = rw (← e, ne-eqb k 0 h, ← refused k h)
+-- a state s or t, and the number of inputs m beside it
+module _ (k n : ℕ) (e : k ≡ n) (s t : State ℤ) (m : ℕ) where
+  pub refuses : (k ≡ 0 → ⊥) → (i : ℕ) → i ≡ m
+      → _≡_ {A = Made} (record { state = cicOf (record { state = s; inputs = i }); verdict = Refused k })
+      (madeOf n (record { state = unless n s t; inputs = m }))
+  refuses h i f = rw (← e, ne-eqb k 0 h, ← refused k h, f)
 
-  pub takes : k ≡ 0 → (a : Cic) → a ≡ cicOf t → _≡_ {A = Made} (record { state = a; verdict = Done }) (madeOf n (unless n s t))
+  pub takes : k ≡ 0 → (a : Cic) → a ≡ cicOf (record { state = t; inputs = m })
+      → _≡_ {A = Made} (record { state = a; verdict = Done }) (madeOf n (record { state = unless n s t; inputs = m }))
   unfolding verdictOf
   takes z a f = rw (sym e ∙ z, f)
+
+-- the number of inputs that a refused call keeps, and that an accepted one sets
+module _ (k n : ℕ) (e : k ≡ n) (i j : ℕ) where
+  pub keeps : (k ≡ 0 → ⊥) → i ≡ unless n i j
+  keeps h = rw (← e, ne-eqb k 0 h)
+
+  pub sets : k ≡ 0 → j ≡ unless n i j
+  sets z = rw (sym e ∙ z)
 
 pub unheard : (k n : ℕ) (y : ℤ) → k ≡ n → (k ≡ 0 → ⊥) → Interpolated.Refused k ≡ interpolatedOf n y
 unfolding interpolatedOf

@@ -4,10 +4,8 @@ use Prim.Native.Nat.{ℕ, zero, suc}
 use mathlib.Core.List.{List}
 use lib.IntN.{ℤ}
 use Rattle.blocks.specs.Verdicts.{verdictOf}
-use Rattle.sums.specs.Machine.{Output}
-use Rattle.sums.specs.State.{State, refusal}
-use Rattle.sums.specs.Calls.{stepState, stepGiven, riseNumber, riseState, riseGiven}
-use Rattle.sums.specs.Runs.{blockState, fillState}
+use Rattle.sums.specs.Calls.{riseNumber, riseGiven}
+use Rattle.sums.specs.Counted.{Counted, Numbered, takeNumber, riseCounted, fillCounted, takeState, takeGiven, blockState}
 use Rattle.cic.specs.Word.{wordOps}
 use Rattle.cic.specs.declared.state.Cic.{Cic}
 use Rattle.cic.specs.declared.state.Made.{Made}
@@ -23,30 +21,30 @@ use Rattle.cic.specs.declared.steps.Risen.{Risen}
 use Rattle.cic.specs.declared.runs.Decimated.{Decimated}
 use Rattle.cic.specs.declared.runs.Filled.{Filled}
 use Rattle.shape.specs.Answers.{blockWrote, blockRead}
-use Rattle.cic.specs.Reading.{stateOf, cicOf}
+use Rattle.cic.specs.Reading.{stateOf, countedOf, cicOf}
 
 -- A maker or a call on a state.
-abbrev pub madeOf : ℕ → State ℤ → Made
-madeOf number s = record { state = cicOf s; verdict = verdictOf number }
+abbrev pub madeOf : ℕ → Counted ℤ → Made
+madeOf number c = record { state = cicOf c; verdict = verdictOf number }
 
 -- Questions.
 unfoldable pub interpolatedOf : ℕ → ℤ → Interpolated
 interpolatedOf zero y = Interpolated.Value y
 interpolatedOf (suc k) y = Interpolated.Refused (suc k)
 
--- The decimator's step: one output with the count it is told, or nothing at all.
-abbrev pub answerOutput : Output ℤ → answer.Output
-answerOutput y = record { value = y .value; told = y .told }
+-- The decimator's step: one output with the count it is told and its input's number, or nothing at all.
+abbrev pub answerOutput : Numbered ℤ → answer.Output
+answerOutput y = record { value = y .value; told = y .told; number = y .number }
 
-unfoldable pub outOf : ℕ → Option (Output ℤ) → Out
+unfoldable pub outOf : ℕ → Option (Numbered ℤ) → Out
 outOf zero (some y) = Out.Given (answerOutput y)
 outOf zero none = Out.Nothing
 outOf (suc k) y = Out.Refused (suc k)
 
 abbrev pub steppedOf : Cic → ℤ → Stepped
 steppedOf s x = record {
-  state = cicOf (stepState wordOps (stateOf s) x);
-  out = outOf (refusal (stateOf s)) (stepGiven wordOps (stateOf s) x);
+  state = cicOf (takeState wordOps (countedOf s) x);
+  out = outOf (takeNumber (countedOf s) 1) (takeGiven wordOps (countedOf s) x);
 }
 
 -- The interpolator's step, with a sample or with none.
@@ -56,20 +54,20 @@ sampleOf Sample.Missing = none
 
 abbrev pub risenOf : Cic → Sample → Risen
 risenOf s x = record {
-  state = cicOf (riseState wordOps (stateOf s) (sampleOf x));
+  state = cicOf (riseCounted wordOps (countedOf s) (sampleOf x));
   out = interpolatedOf (riseNumber (stateOf s) (sampleOf x)) (riseGiven wordOps (stateOf s) (sampleOf x));
 }
 
 -- The decimator's block.
 abbrev pub decimatedOf : Cic → List ℤ → List ℤ → Decimated
 decimatedOf s xs out = record {
-  state = cicOf (blockState wordOps (stateOf s) xs out);
-  wrote = blockWrote wordOps (stateOf s) xs out;
+  state = cicOf (blockState wordOps (countedOf s) xs out);
+  wrote = blockWrote wordOps (countedOf s) xs out;
 }
 
 -- The interpolator's block.
 abbrev pub filledOf : Cic → List ℤ → List ℤ → Filled
 filledOf s xs out = record {
-  state = cicOf (fillState wordOps (stateOf s) xs out);
+  state = cicOf (fillCounted wordOps (countedOf s) xs out);
   read = blockRead (stateOf s) xs out;
 }

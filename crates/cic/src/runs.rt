@@ -7,12 +7,14 @@ use crate::word::Word;
 pub use shape::runs::Read;
 pub use shape::runs::Written;
 pub use shape::runs::Wrote;
-use shape::runs::first_told;
+use shape::runs::block_answer;
+use shape::runs::block_number;
 use shape::runs::low_rate;
 ghost use mathlib.Core.Path.{_≡_};
-ghost use Rattle.sums.specs.Runs.{blockOut, fillOut, settledNumber, settledPart};
+ghost use Rattle.sums.specs.Runs.{fillOut, settledNumber, settledPart};
+ghost use Rattle.sums.specs.Counted.{blockOut};
 ghost use Rattle.cic.specs.Word.{wordOps};
-ghost use Rattle.cic.specs.Reading.{stateOf};
+ghost use Rattle.cic.specs.Reading.{stateOf, countedOf};
 ghost use Rattle.cic.specs.Answers.{decimatedOf, filledOf};
 
 // A decimator's block: the state after it, and what it wrote.
@@ -29,38 +31,40 @@ pub struct Filled {
 
 impl Cic {
     // A block of inputs in, its outputs to the front of out. The rest of out stays. It answers how many are written
-    // and the count told with the first. Refused with 20 where out is shorter than the block needs; a refused block
-    // changes nothing.
+    // and, of the first, the count told and its input's number. Refused with 16 where it would take more than 2^64 - 1
+    // inputs, and with 20 where out is shorter than the block needs; a refused block changes nothing.
     pub fn decimate_block(self, input: &[Word], out: &mut [Word]) -> Decimated
         ensures { λ r. ⌜ (r ≡ decimatedOf self (now (input .entry)) (now (out .entry)))
-            × (now (out .exit) ≡ blockOut wordOps (stateOf self) (now (input .entry)) (now (out .entry))) ⌝ }
+            × (now (out .exit) ≡ blockOut wordOps (countedOf self) (now (input .entry)) (now (out .entry))) ⌝ }
     {
-        let number = self.refusal();
+        let countdown = self.countdown;
+        let unsettled = self.unsettled;
+        let number = block_number(
+            self.order,
+            self.delay,
+            self.rate,
+            countdown,
+            unsettled,
+            self.inputs,
+            input.len(),
+            out.len(),
+        );
         if number != 0 {
             return Decimated {
                 state: self,
                 wrote: Wrote::Refused(number),
             };
         }
-        let need = low_rate(input.len(), self.countdown, self.rate);
-        if out.len() < need {
-            return Decimated {
-                state: self,
-                wrote: Wrote::Refused(20),
-            };
-        }
         let mut integrators = self.integrators;
         let mut combs = self.combs;
         let r = decimate_run(&mut integrators, &mut combs, self.numbers(), input, out);
         let numbers = r.numbers;
-        let state = joined(numbers, integrators, combs);
-        let told = first_told(r.count, self.unsettled);
+        let inputs = self.inputs + input.len() as u64;
+        let state = joined(numbers, inputs, integrators, combs);
+        let written = block_answer(r.count, unsettled, self.inputs, countdown);
         Decimated {
             state,
-            wrote: Wrote::Outputs(Written {
-                count: r.count,
-                told,
-            }),
+            wrote: Wrote::Outputs(written),
         }
     }
 
@@ -88,7 +92,7 @@ impl Cic {
         let mut combs = self.combs;
         let r = interpolate_run(&mut integrators, &mut combs, self.numbers(), input, out);
         let numbers = r.numbers;
-        let state = joined(numbers, integrators, combs);
+        let state = joined(numbers, self.inputs, integrators, combs);
         Filled {
             state,
             read: Read::Inputs(r.count),

@@ -15,9 +15,9 @@ ghost use lib.IntN.{pos};
 ghost use lib.ListN.{replicate};
 ghost use Rattle.sums.specs.Ops.{times};
 ghost use Rattle.sums.specs.State.{refusal};
-ghost use Rattle.sums.specs.Calls.{settleState};
+ghost use Rattle.sums.specs.Counted.{settleCounted};
 ghost use Rattle.cic.specs.Word.{wordOps};
-ghost use Rattle.cic.specs.Reading.{stateOf};
+ghost use Rattle.cic.specs.Reading.{stateOf, countedOf};
 ghost use Rattle.cic.specs.Answers.{madeOf};
 
 // x times by^n, modulo 2^BITS.
@@ -53,7 +53,7 @@ impl Cic {
     // The state of zeros but for the first delay line, all x, and the last integrator, x times the gain
     // modulo 2^BITS; where N is 0, but for the hold, x. A refused call changes nothing.
     pub fn settle_interpolate(self, x: Word) -> Made
-        ensures { λ r. ⌜ r ≡ madeOf (refusal (stateOf self)) (settleState wordOps (stateOf self) x) ⌝ }
+        ensures { λ r. ⌜ r ≡ madeOf (refusal (stateOf self)) (settleCounted wordOps (countedOf self) x) ⌝ }
     {
         let number = self.refusal();
         if number != 0 {

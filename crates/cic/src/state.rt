@@ -3,22 +3,26 @@ use crate::word::Word;
 use blocks::Verdict;
 use shape::numbers::greater;
 use shape::numbers::refusal_of;
+use shape::numbers::take_number;
 ghost use mathlib.Core.Path.{_≡_};
 ghost use lib.Dec.{eqb};
-ghost use Rattle.sums.specs.State.{refusal, zeroed, blank};
-ghost use Rattle.sums.specs.Calls.{newNumber, resumeNumber, rateNumber, newState, resumeState, rateState, clearState};
+ghost use Rattle.sums.specs.State.{refusal, zeroed};
+ghost use Rattle.sums.specs.Calls.{newNumber, resumeNumber, rateNumber};
+ghost use Rattle.sums.specs.Counted.{takeNumber, blankCounted, newCounted, resumeCounted, rateCounted, clearCounted};
 ghost use Rattle.cic.specs.Word.{wordOps};
-ghost use Rattle.cic.specs.Reading.{stateOf, cicOf};
+ghost use Rattle.cic.specs.Reading.{stateOf, countedOf, cicOf};
 ghost use Rattle.cic.specs.Answers.{madeOf};
 
 // N = order integrators, N delay lines of M = delay cells, line j at 8 j .. 8 j + M of combs, the oldest cell
-// first. Rate is R - 1. Outputs are unsettled while `unsettled` is above 0. Cells beyond N and M never matter.
+// first. Rate is R - 1. Outputs are unsettled while `unsettled` is above 0; `inputs` is the number of inputs taken.
+// Cells beyond N and M never matter.
 pub struct Cic {
     pub order: usize,
     pub delay: usize,
     pub rate: u32,
     pub countdown: u32,
     pub unsettled: usize,
+    pub inputs: u64,
     pub hold: Word,
     pub integrators: [Word; 8],
     pub combs: [Word; 64],
@@ -30,9 +34,9 @@ pub struct Made {
     pub verdict: Verdict,
 }
 
-// All cells, hold, countdown and unsettled count zero.
+// All cells, hold, countdown, unsettled count and number of inputs zero.
 pub(crate) fn zeros(order: usize, delay: usize, rate: u32) -> Cic
-    ensures { λ r. ⌜ r ≡ cicOf (zeroed wordOps order delay rate) ⌝ }
+    ensures { λ r. ⌜ r ≡ cicOf (record { state = zeroed wordOps order delay rate; inputs = 0 }) ⌝ }
 {
     let integrators: [Word; 8] = [0; 8];
     let combs: [Word; 64] = [0; 64];
@@ -42,6 +46,7 @@ pub(crate) fn zeros(order: usize, delay: usize, rate: u32) -> Cic
         rate,
         countdown: 0,
         unsettled: 0,
+        inputs: 0,
         hold: 0,
         integrators,
         combs,
@@ -50,7 +55,7 @@ pub(crate) fn zeros(order: usize, delay: usize, rate: u32) -> Cic
 
 // A refused maker's answer: its number, and the blank state.
 fn unmade(number: u32) -> Made
-    ensures { λ r. ⌜ r ≡ record { state = cicOf (blank wordOps); verdict = Verdict.Refused number } ⌝ }
+    ensures { λ r. ⌜ r ≡ record { state = cicOf (blankCounted wordOps); verdict = Verdict.Refused number } ⌝ }
 {
     let state = zeros(0, 1, 0);
     Made {
@@ -68,9 +73,10 @@ pub(crate) fn kept(state: Cic, number: u32) -> Made
 }
 
 impl Cic {
-    // A state of zeros, settled, whose first step gives an output. Refused: the number, and the blank state.
+    // A state of zeros, settled, whose first step gives an output and is input number 1. Refused: the number, and the
+    // blank state.
     pub fn new(order: usize, delay: usize, rate: u32) -> Made
-        ensures { λ r. ⌜ r ≡ madeOf (newNumber order delay rate) (newState wordOps order delay rate) ⌝ }
+        ensures { λ r. ⌜ r ≡ madeOf (newNumber order delay rate) (newCounted wordOps order delay rate) ⌝ }
     {
         let number = refusal_of(order, delay, rate, 0, 0);
         if number != 0 {
@@ -83,8 +89,8 @@ impl Cic {
         }
     }
 
-    // A state with these numbers and all these cells; its first N·M outputs are unsettled. Refused: the
-    // number, and the blank state.
+    // A state with these numbers and all these cells, after so many inputs; its first N·M outputs are unsettled.
+    // Refused: the number, and the blank state.
     pub fn resume(
         order: usize,
         delay: usize,
@@ -93,9 +99,10 @@ impl Cic {
         combs: [Word; 64],
         hold: Word,
         countdown: u32,
+        inputs: u64,
     ) -> Made
         ensures { λ r. ⌜ r ≡ madeOf (resumeNumber order delay rate countdown)
-            (resumeState wordOps order delay rate integrators combs hold countdown) ⌝ }
+            (resumeCounted wordOps order delay rate integrators combs hold countdown inputs) ⌝ }
     {
         let number = refusal_of(order, delay, rate, countdown, 0);
         if number != 0 {
@@ -108,6 +115,7 @@ impl Cic {
             rate,
             countdown,
             unsettled,
+            inputs,
             hold,
             integrators,
             combs,
@@ -118,10 +126,25 @@ impl Cic {
         }
     }
 
-    // The state at another rate: cells, hold and countdown stay, and the next N·M outputs are unsettled, also
-    // at the same rate.
+    // The number of a call that takes so many inputs, or 0: this state's, then 16 past 2^64 - 1.
+    pub(crate) fn taking(self, more: u64) -> u32
+        ensures { λ r. ⌜ r ≡ takeNumber (countedOf self) more ⌝ }
+    {
+        take_number(
+            self.order,
+            self.delay,
+            self.rate,
+            self.countdown,
+            self.unsettled,
+            self.inputs,
+            more,
+        )
+    }
+
+    // The state at another rate: cells, hold, countdown and number of inputs stay, and the next N·M outputs are
+    // unsettled, also at the same rate.
     pub fn set_rate(self, rate: u32) -> Made
-        ensures { λ r. ⌜ r ≡ madeOf (rateNumber (stateOf self) rate) (rateState wordOps (stateOf self) rate) ⌝ }
+        ensures { λ r. ⌜ r ≡ madeOf (rateNumber (stateOf self) rate) (rateCounted wordOps (countedOf self) rate) ⌝ }
     {
         let order = self.order;
         let delay = self.delay;
@@ -139,9 +162,9 @@ impl Cic {
         }
     }
 
-    // The state of zeros, settled, at the same order, delay and rate.
+    // The state of zeros, settled, at the same order, delay and rate; its next input is number 1.
     pub fn clear(self) -> Made
-        ensures { λ r. ⌜ r ≡ madeOf (refusal (stateOf self)) (clearState wordOps (stateOf self)) ⌝ }
+        ensures { λ r. ⌜ r ≡ madeOf (refusal (stateOf self)) (clearCounted wordOps (countedOf self)) ⌝ }
     {
         let number = self.refusal();
         if number != 0 {
@@ -180,6 +203,13 @@ impl Cic {
         ensures { λ r. ⌜ r ≡ self .unsettled ⌝ }
     {
         self.unsettled
+    }
+
+    // How many inputs it has taken: the next one's number is one more.
+    pub fn inputs(self) -> u64
+        ensures { λ r. ⌜ r ≡ self .inputs ⌝ }
+    {
+        self.inputs
     }
 
     // The decimator's last output.

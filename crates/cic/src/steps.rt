@@ -15,11 +15,12 @@ ghost use Rattle.cic.specs.Answers.{steppedOf, risenOf};
 ghost use Rattle.sums.proofs.Lent.{Ready, DecimateStep, InterpolateStep};
 ghost use Rattle.cic.specs.Inner.Apart.{numbersOf, apart, acceptedOf, givenOf, answeredOf};
 
-// An output of the decimator, and what it tells: the unsettled count that the step found. 0: settled; 3: this one
-// and the two after it are not, where no set_rate, resume or clear comes between.
+// An output of the decimator, and what it tells: the unsettled count that the step found, and its input's number, from
+// 1. Told 0: settled; 3: this one and the two after it are not, where no set_rate, resume or clear comes between.
 pub struct Output {
     pub value: Word,
     pub told: usize,
+    pub number: u64,
 }
 
 // What a decimator's step gives: an output, nothing, or the number of a refusal.
@@ -76,8 +77,8 @@ pub(crate) struct RiseEnd {
 }
 
 // A state put together.
-pub(crate) fn joined(n: Numbers, integrators: [Word; 8], combs: [Word; 64]) -> Cic
-    ensures { λ r. ⌜ r ≡ cicOf (apart n integrators combs) ⌝ }
+pub(crate) fn joined(n: Numbers, inputs: u64, integrators: [Word; 8], combs: [Word; 64]) -> Cic
+    ensures { λ r. ⌜ r ≡ cicOf (record { state = apart n integrators combs; inputs = inputs }) ⌝ }
 {
     Cic {
         order: n.order,
@@ -85,18 +86,23 @@ pub(crate) fn joined(n: Numbers, integrators: [Word; 8], combs: [Word; 64]) -> C
         rate: n.rate,
         countdown: n.countdown,
         unsettled: n.unsettled,
+        inputs,
         hold: n.hold,
         integrators,
         combs,
     }
 }
 
-// What the call answers: the output with what it tells.
-fn answered(gave: Gave) -> Out
-    ensures { λ r. ⌜ r ≡ answeredOf gave ⌝ }
+// What the call answers: the output with what it tells, of the input with this number.
+fn answered(gave: Gave, number: u64) -> Out
+    ensures { λ r. ⌜ r ≡ answeredOf gave number ⌝ }
 {
     match gave {
-        Gave::Output(value, told) => Out::Given(Output { value, told }),
+        Gave::Output(value, told) => Out::Given(Output {
+            value,
+            told,
+            number,
+        }),
         Gave::Nothing => Out::Nothing,
     }
 }
@@ -187,20 +193,20 @@ impl Cic {
         let mut combs = self.combs;
         let t = interpolate_step(&mut integrators, &mut combs, self.numbers(), x);
         let numbers = t.numbers;
-        let state = joined(numbers, integrators, combs);
+        let state = joined(numbers, self.inputs, integrators, combs);
         Risen {
             state,
             out: Interpolated::Value(t.value),
         }
     }
 
-    // One input in: every R-th step gives an output, held too, that tells the unsettled count found, and lowers
-    // a count above 0 by 1.
-    // A refused step changes nothing.
+    // One input in: every R-th step gives an output, held too, that tells the unsettled count found and its input's
+    // number, and lowers a count above 0 by 1. Refused with 16 where 2^64 - 1 inputs were taken. A refused step changes
+    // nothing.
     pub fn decimate(self, x: Word) -> Stepped
         ensures { λ r. ⌜ r ≡ steppedOf self x ⌝ }
     {
-        let number = self.refusal();
+        let number = self.taking(1);
         if number != 0 {
             return Stepped {
                 state: self,
@@ -211,9 +217,10 @@ impl Cic {
         let mut combs = self.combs;
         let t = decimate_step(&mut integrators, &mut combs, self.numbers(), x);
         let numbers = t.numbers;
-        let state = joined(numbers, integrators, combs);
+        let inputs = self.inputs + 1;
+        let state = joined(numbers, inputs, integrators, combs);
         let gave = t.gave;
-        let out = answered(gave);
+        let out = answered(gave, inputs);
         Stepped { state, out }
     }
 

@@ -5,7 +5,8 @@ use Prim.Native.Nat.{ℕ}
 use lib.IntN.{ℤ}
 use Rattle.sums.specs.Machine.{Output}
 use Rattle.sums.specs.State.{State}
-use Rattle.sums.specs.Calls.{riseState, riseGiven}
+use Rattle.sums.specs.Calls.{riseGiven}
+use Rattle.sums.specs.Counted.{riseCounted}
 use Rattle.sums.proofs.Lent as lent
 use Rattle.cic.specs.Word.{wordOps}
 use Rattle.cic.specs.declared.state.Cic.{Cic}
@@ -16,7 +17,7 @@ use Rattle.cic.specs.declared.steps.Out.{Out}
 use Rattle.cic.specs.declared.steps.Out.the-variants as Out
 use Rattle.cic.specs.declared.steps.Risen.{Risen}
 use Rattle.cic.specs.declared.questions.Interpolated.the-variants as Interpolated
-use Rattle.cic.specs.Reading.{stateOf, cicOf}
+use Rattle.cic.specs.Reading.{stateOf, countedOf, cicOf}
 
 abbrev pub numbersOf : Cic → Numbers
 numbersOf s = record {
@@ -49,14 +50,14 @@ abbrev pub givenOf : Gave → Option (Output ℤ)
 givenOf (Gave.Output y told) = some (record { value = y; told = told })
 givenOf Gave.Nothing = none
 
--- And what its call answers.
-abbrev pub answeredOf : Gave → Out
-answeredOf (Gave.Output y told) = Out.Given (record { value = y; told = told })
-answeredOf Gave.Nothing = Out.Nothing
+-- And what its call answers, of the input with this number.
+abbrev pub answeredOf : Gave → ℕ → Out
+answeredOf (Gave.Output y told) number = Out.Given (record { value = y; told = told; number = number })
+answeredOf Gave.Nothing number = Out.Nothing
 
 -- The interpolator's step of an accepted `Cic`, as its call answers it.
 abbrev pub acceptedOf : Cic → Option ℤ → Risen
 acceptedOf s x = record {
-  state = cicOf (riseState wordOps (stateOf s) x);
+  state = cicOf (riseCounted wordOps (countedOf s) x);
   out = Interpolated.Value (riseGiven wordOps (stateOf s) x);
 }

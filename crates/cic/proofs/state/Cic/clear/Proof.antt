@@ -1,10 +1,11 @@
 -- Refused by its number, or zeros.
 use borrow.Author.Needs.{needs}
-use mathlib.Core.Path.{_∙_}
-use Rattle.sums.specs.State.{refusal}
+use mathlib.Core.Path.{ap, _∙_}
+use Rattle.sums.specs.State.{refusal, zeroed}
 use Rattle.sums.specs.Calls.{clearState}
-use Rattle.cic.specs.Reading.{stateOf}
-use Rattle.cic.proofs.Ways.{refuses, takes}
+use Rattle.cic.specs.Word.{wordOps}
+use Rattle.cic.specs.Reading.{stateOf, cicOf}
+use Rattle.cic.proofs.Ways.{refuses, takes, keeps, sets}
 use Rattle.cic.proofs.state.Cic.clear.Statement.{statement}
 use Rattle.cic.proofs.state.Cic.clear.Tie as tie
 
@@ -12,13 +13,16 @@ returns : tie.Need-returns
 unfolding clearState
 returns c =
     let a = c .before .before .before .args .self in let f = c .before .before .refusal in
-    c .kept .ensures ∙ refuses (f .result) (refusal (stateOf a)) (f .ensures) (stateOf a) _ (c .before .if1 .taken)
+    c .kept .ensures ∙ refuses (f .result) (refusal (stateOf a)) (f .ensures) (stateOf a) _ _ (c .before .if1 .taken)
+    (a .inputs) (keeps (f .result) (refusal (stateOf a)) (f .ensures) (a .inputs) 0 (c .before .if1 .taken))
 
 returns-2 : tie.Need-returns-2
 unfolding clearState
 returns-2 c =
     let a = c .before .before .before .args .self in let f = c .before .before .refusal in
-    takes (f .result) (refusal (stateOf a)) (f .ensures) (stateOf a) _ (c .before .if1 .left) (c .zeros .result) (c .zeros .ensures)
+    takes (f .result) (refusal (stateOf a)) (f .ensures) (stateOf a) _ _ (c .before .if1 .left) (c .zeros .result)
+    (c .zeros .ensures ∙ ap (λ n. cicOf (record { state = zeroed wordOps (a .order) (a .delay) (a .rate); inputs = n }))
+    (sets (f .result) (refusal (stateOf a)) (f .ensures) (a .inputs) 0 (c .before .if1 .left)))
 
 pub clear-spec : {M : Type 1} → statement M
 clear-spec =

@@ -1,70 +1,80 @@
 -- Refused by its number, or the run on lent arrays.
 use borrow.Author.Needs.{needs}
-use mathlib.Core.Path.{_≡_, sym, _∙_}
-use Prim.Native.Nat.{_≤_}
+use mathlib.Core.Path.{_≡_, refl, sym, _∙_}
 use native.Mathlib.Omega.{arith}
+use lib.IntN.{ℤ}
 use lib.ListN.{length}
-use Rattle.sums.specs.State.{refusal}
-use Rattle.sums.specs.Runs.{needed}
-use Rattle.shape.proofs.Blocks.{block-state, block-short, block-fits, block-refuses, block-runs}
+use mathlib.Core.List.{List}
+use Rattle.sums.specs.Counted.{Counted, blockNumber}
+use Rattle.sums.proofs.Numbering.{block-accepts, block-room, block-enough}
+use Rattle.sums.proofs.Lent.{Ready}
+use Rattle.shape.proofs.Blocks.{block-refuses, block-runs}
 use Rattle.cic.specs.Word.{wordOps}
-use Rattle.cic.specs.Reading.{stateOf}
+use Rattle.cic.specs.Reading.{stateOf, countedOf}
 use Rattle.cic.specs.Inner.Apart.{apart}
 use Rattle.cic.proofs.BlockCalls.{decimated}
 use Rattle.cic.proofs.state.Cic.decimate_block.Statement.{statement}
 use Rattle.cic.proofs.state.Cic.decimate_block.Tie as tie
 
-accepted : (c : tie.Else1) → refusal (stateOf (c .before .before .args .self)) ≡ 0
-accepted c = sym (c .before .refusal .ensures) ∙ c .if1 .left
+-- what the call is given
+module _ (p : tie.Start) where
+  abbrev given : Counted ℤ
+  given = countedOf (p .args .self)
 
-long8 : (p : tie.Start) → length (p .args .self .integrators) ≡ 8
-long8 p = search needs
+  abbrev xs : List ℤ
+  xs = p .args .input .now
 
-long64 : (p : tie.Start) → length (p .args .self .combs) ≡ 64
-long64 p = search needs
+  abbrev out : List ℤ
+  out = p .args .out .now
 
--- where the slice is long enough
-abbrev at : tie.After-numbers → tie.Else2
-at c = let d = c .before .before in d .before .before .before
+  long8 : length (p .args .self .integrators) ≡ 8
+  long8 = search needs
 
-enough : (k : tie.Else2) → let e = k .before .before in let p = e .before .before in let s = p .args .self in
-    needed (length (p .args .input .now)) (s .countdown) (s .rate) ≤ length (p .args .out .now)
-enough k = rw (k .before .low-rate .ensures) at (k .if2 .left)
+  long64 : length (p .args .self .combs) ≡ 64
+  long64 = search needs
+
+  ready : blockNumber given xs out ≡ 0 → Ready (stateOf (p .args .self))
+  ready z = record { accepted = block-accepts given xs out z; long8 = long8; long64 = long64 }
+
+abbrev begin : tie.Else1 → tie.Start
+begin c = c .before .before
+
+accepted : (c : tie.Else1) → blockNumber (given (begin c)) (xs (begin c)) (out (begin c)) ≡ 0
+accepted c = sym (c .before .block-number .ensures) ∙ c .if1 .left
 
 returns : tie.Need-returns
 returns c =
-    let a = c .before .before .args in let f = c .before .refusal in let s = stateOf (a .self) in let xs = a .input .now in
-    let out = a .out .now in
-    decimated (a .self) xs out s out _
-    (block-refuses s xs out wordOps (f .result) (block-state s xs out (f .result) (f .ensures) (c .if1 .taken)) (c .if1 .taken))
-
-returns-2 : tie.Need-returns-2
-returns-2 c =
-    let k = c .before in let e = k .before in let a = e .before .before .args in let s = stateOf (a .self) in let xs = a .input .now in
-    let out = a .out .now in
-    decimated (a .self) xs out s out _
-    (block-refuses s xs out wordOps 20 (block-short s xs out (accepted e) (rw (k .low-rate .ensures) at (c .if2 .taken)))
-    (λ z. omega arith))
+    let p = c .before .before in let f = c .before .block-number in
+    decimated (p .args .self) (xs p) (out p) (out p) (given p) _
+    (block-refuses wordOps (given p) (xs p) (out p) (f .result) (f .ensures) (c .if1 .taken))
 
 decimate-run-requires : tie.Need-decimate-run-requires
 decimate-run-requires c κs =
-    let n = c .before in let k = at n in let e = k .before .before in let p = e .before .before in
-    rw (n .numbers .ensures) (record { accepted = accepted e; long8 = long8 p; long64 = long64 p }, enough k)
+    let n : tie.After-numbers = search in
+    let e : tie.Else1 = search in
+    let p = begin e in
+    rw (n .numbers .ensures) (ready p (accepted e), block-enough (given p) (xs p) (out p) (accepted e))
 
-returns-3 : tie.Need-returns-3
-returns-3 c =
-    let j = c .before in let d = j .before .before .before in let n = d .before .before in let k = at n in let e = k .before .before in
-    let p = e .before .before in let a = p .args in
-    let s = stateOf (a .self) in let xs = a .input .now in let out = a .out .now in let r = d .decimate-run in
-    let left = r .last .1 .1 .1 .1 .0 in
+add-inputs : tie.Need-add-inputs
+add-inputs c =
+    let e : tie.Else1 = search in
+    let p = begin e in
+    record { fits = omega (arith, block-room (given p) (xs p) (out p) (accepted e)) }
+
+returns-2 : tie.Need-returns-2
+returns-2 c =
+    let j : tie.After-joined = search in
+    let d : tie.After-decimate-run = search in
+    let n : tie.After-numbers = search in
+    let e : tie.Else1 = search in
+    let p = begin e in let r = d .decimate-run in let left = r .last .1 .1 .1 .1 .0 in
     rw (j .joined .ensures)
-    (decimated (a .self) xs out _ left _
-    (block-runs s xs out wordOps (block-fits s xs out (accepted e) (enough k))
-    (record { accepted = accepted e; long8 = long8 p; long64 = long64 p })
+    (decimated (p .args .self) (xs p) (out p) left _ _
+    (block-runs wordOps (given p) (xs p) (out p) (accepted e) (ready p (accepted e))
     (apart (r .result .numbers) (r .last .0) (r .last .1 .0)) (r .result .count) left (rw (n .numbers .ensures) at (r .ensures))
-    (c .first-told .result) (c .first-told .ensures)))
+    (c .block-answer .result) _ (c .block-answer .ensures) refl))
 
 pub decimate-block-spec : {M : Type 1} → statement M
 decimate-block-spec =
-    tie.close (tie.spec (λ c κs. search needs) returns (λ c κs. search needs) returns-2 (λ c κs. search needs)
-    decimate-run-requires (λ c κs. search needs) (λ c κs. search needs) (λ c. search needs) returns-3)
+    tie.close (tie.spec (λ c κs. search needs) returns (λ c κs. search needs) decimate-run-requires add-inputs
+    (λ c κs. search needs) (λ c κs. search needs) (λ c. search needs) returns-2)

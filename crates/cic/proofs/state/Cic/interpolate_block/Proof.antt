@@ -35,14 +35,14 @@ returns : tie.Need-returns
 returns c =
     let a = c .before .before .args in let f = c .before .refusal in let s = stateOf (a .self) in let xs = a .input .now in
     let out = a .out .now in
-    filled (a .self) xs out s out _
+    filled (a .self) xs out out s _
     (fill-refuses s xs out wordOps (f .result) (fill-state s xs out (f .result) (f .ensures) (c .if1 .taken)) (c .if1 .taken))
 
 returns-2 : tie.Need-returns-2
 returns-2 c =
     let k = c .before in let e = k .before in let a = e .before .before .args in let s = stateOf (a .self) in let xs = a .input .now in
     let out = a .out .now in
-    filled (a .self) xs out s out _
+    filled (a .self) xs out out s _
     (fill-refuses s xs out wordOps 23 (fill-short s xs out (accepted e) (rw (k .low-rate .ensures) at (c .if2 .taken))) (λ z. omega arith))
 
 interpolate-run-requires : tie.Need-interpolate-run-requires
@@ -57,7 +57,7 @@ returns-3 c =
     let s = stateOf (a .self) in let xs = a .input .now in let out = a .out .now in let r = d .interpolate-run in
     let left = r .last .1 .1 .1 .1 .0 in
     rw (c .joined .ensures)
-    (filled (a .self) xs out _ left _
+    (filled (a .self) xs out left _ _
     (fill-runs s xs out wordOps (fill-fits s xs out (accepted e) (enough k))
     (apart (r .result .numbers) (r .last .0) (r .last .1 .0)) (r .result .count) left (rw (n .numbers .ensures) at (r .ensures))))
 

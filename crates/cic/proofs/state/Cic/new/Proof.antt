@@ -1,6 +1,6 @@
 -- Refused by its number, or zeros.
 use borrow.Author.Needs.{needs}
-use mathlib.Core.Path.{_∙_}
+use mathlib.Core.Path.{refl, _∙_}
 use Rattle.sums.specs.State.{blank}
 use Rattle.sums.specs.Calls.{newNumber, newState}
 use Rattle.cic.specs.Word.{wordOps}
@@ -12,14 +12,14 @@ returns : tie.Need-returns
 unfolding newState
 returns c =
     let a = c .before .before .before .args in let f = c .before .before .refusal-of in
-    c .unmade .ensures ∙ refuses (f .result) (newNumber (a .order) (a .delay) (a .rate)) (f .ensures) (blank wordOps) _
-    (c .before .if1 .taken)
+    c .unmade .ensures ∙ refuses (f .result) (newNumber (a .order) (a .delay) (a .rate)) (f .ensures) (blank wordOps) _ 0
+    (c .before .if1 .taken) 0 refl
 
 returns-2 : tie.Need-returns-2
 unfolding newState
 returns-2 c =
     let a = c .before .before .before .args in let f = c .before .before .refusal-of in
-    takes (f .result) (newNumber (a .order) (a .delay) (a .rate)) (f .ensures) (blank wordOps) _ (c .before .if1 .left)
+    takes (f .result) (newNumber (a .order) (a .delay) (a .rate)) (f .ensures) (blank wordOps) _ 0 (c .before .if1 .left)
     (c .zeros .result) (c .zeros .ensures)
 
 pub new-spec : {M : Type 1} → statement M

@@ -19,7 +19,7 @@ unfolding rateState
 returns c =
     let k = c .before .before in let a = k .before .before .args in let f = k .refusal-of in
     c .kept .ensures ∙ refuses (f .result) (rateNumber (stateOf (a .self)) (a .rate)) (number k) (stateOf (a .self)) _
-    (c .before .if1 .taken)
+    (a .self .inputs) (c .before .if1 .taken) (a .self .inputs) refl
 
 mul-state : tie.Need-mul-state
 mul-state c =
@@ -32,7 +32,8 @@ returns-2 : tie.Need-returns-2
 unfolding rateState
 returns-2 c =
     let a = c .before .before .before .args in let f = c .before .refusal-of in
-    takes (f .result) (rateNumber (stateOf (a .self)) (a .rate)) (number (c .before)) (stateOf (a .self)) _ (c .if1 .left) _ refl
+    takes (f .result) (rateNumber (stateOf (a .self)) (a .rate)) (number (c .before)) (stateOf (a .self)) _ (a .self .inputs)
+    (c .if1 .left) _ refl
 
 pub set-rate-spec : {M : Type 1} → statement M
 set-rate-spec =

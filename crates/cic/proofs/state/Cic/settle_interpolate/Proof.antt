@@ -1,6 +1,6 @@
 -- Zeros with one line and one integrator set; the gain is multiplied up modulo 2 ^ bits.
 use borrow.Author.Needs.{needs}
-use mathlib.Core.Path.{_≡_, sym, ap, _∙_}
+use mathlib.Core.Path.{_≡_, sym, ap₂, _∙_}
 use native.Mathlib.Numerals.{add-one}
 use native.Mathlib.Omega.{arith}
 use mir.Val.{toZ, ofZ}
@@ -14,7 +14,7 @@ use Rattle.cic.specs.Word.{width, wordOps}
 use Rattle.cic.specs.Reading.{stateOf, cicOf}
 use Rattle.sums.proofs.Numbers.{span-fits}
 use Rattle.sums.proofs.Levels.{settle-none, settle-some}
-use Rattle.cic.proofs.Ways.{refuses, takes}
+use Rattle.cic.proofs.Ways.{refuses, takes, keeps, sets}
 use Rattle.cic.proofs.state.Cic.settle_interpolate.Statement.{statement}
 use Rattle.cic.proofs.state.Cic.settle_interpolate.Tie as tie
 
@@ -36,14 +36,17 @@ returns : tie.Need-returns
 unfolding settleState
 returns c =
     let a = c .before .before .before .args .self in let f = c .before .before .refusal in
-    c .kept .ensures ∙ refuses (f .result) (refusal (stateOf a)) (f .ensures) (stateOf a) _ (c .before .if1 .taken)
+    c .kept .ensures ∙ refuses (f .result) (refusal (stateOf a)) (f .ensures) (stateOf a) _ _ (c .before .if1 .taken)
+    (a .inputs) (keeps (f .result) (refusal (stateOf a)) (f .ensures) (a .inputs) 0 (c .before .if1 .taken))
 
 returns-2 : tie.Need-returns-2
 unfolding settleState zeroed
 returns-2 c =
     let k = c .before .before in let p = k .before .before in let a = p .args in let f = k .before .refusal in let s = stateOf (a .self) in
-    takes (f .result) (refusal s) (f .ensures) (stateOf (a .self)) _ (k .if1 .left) _
-    (rw (c .before .zeros .ensures, toZ-ofZ width (a .x) (p .fits .x)) (ap cicOf (settle-none width s (a .x) (c .if2 .taken))))
+    takes (f .result) (refusal s) (f .ensures) (stateOf (a .self)) _ _ (k .if1 .left) _
+    (rw (c .before .zeros .ensures, toZ-ofZ width (a .x) (p .fits .x))
+    (ap₂ (λ t n. cicOf (record { state = t; inputs = n })) (settle-none width s (a .x) (c .if2 .taken))
+    (sets (f .result) (refusal s) (f .ensures) (a .self .inputs) 0 (k .if1 .left))))
 
 cast-span : tie.Need-cast-span
 cast-span c = record { fits = omega (arith, fine (c .before .before) .short) }
@@ -70,10 +73,11 @@ returns-3 c =
     let s = stateOf (a .self) in let ok = fine k in
     let bx = toZ-ofZ width (a .x) (p .fits .x) in let v = c .before .scaled in
     let gains : toZ width (ofZ width (v .result)) ≡ times wordOps (gain s) (a .x) = read width (v .result) (v .ok) ∙ gained (c .before) in
-    takes (f .result) (refusal s) (f .ensures) (stateOf (a .self)) _ (k .if1 .left) _
+    takes (f .result) (refusal s) (f .ensures) (stateOf (a .self)) _ _ (k .if1 .left) _
     (rw (z .before .zeros .ensures)
-    (ap cicOf (settle-some width s (a .x) (omega (arith, z .if2 .left)) (ok .few) _ (c .level .result) gains
-    (rw bx at (c .level .ensures)))))
+    (ap₂ (λ t n. cicOf (record { state = t; inputs = n }))
+    (settle-some width s (a .x) (omega (arith, z .if2 .left)) (ok .few) _ (c .level .result) gains (rw bx at (c .level .ensures)))
+    (sets (f .result) (refusal s) (f .ensures) (a .self .inputs) 0 (k .if1 .left))))
 
 pub settle-interpolate-spec : {M : Type 1} → statement M
 settle-interpolate-spec =
