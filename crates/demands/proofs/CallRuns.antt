@@ -3,7 +3,7 @@
 use mathlib.Core.Path.{_≡_, refl, sym, ap, ap₂, subst, _∙_}
 use mathlib.Core.List.{List, [], _∷_, _++_}
 use mathlib.Core.Option.{Option, none, some}
-use Prim.Native.Nat.{ℕ, zero, suc, _-_, _<_}
+use Prim.Native.Nat.{ℕ, zero, suc, _+_, _-_, _<_}
 use native.Mathlib.Omega.{arith}
 use lib.Dec.{eqb·suc-zero}
 use lib.IntN.{ℤ}
@@ -11,15 +11,17 @@ use lib.ListN.{length, getD, take, drop}
 use lib.Seq.{take-append-seam}
 use Rattle.blocks.specs.Blocks.{unless}
 use Rattle.sums.specs.Machine.{Output}
-use Rattle.sums.specs.State.{State, refusal}
-use Rattle.sums.specs.Calls.{stepState, stepGiven, riseNumber, riseGiven}
-use Rattle.sums.specs.Runs.{needed, join, values, over, firstTold, outputs, blockNumber, blockState, blockOut, risings}
-use Rattle.sums.specs.Runs.{fillNumber, fillOut}
+use Rattle.sums.specs.State.{State}
+use Rattle.sums.specs.Calls.{riseNumber, riseGiven}
+use Rattle.sums.specs.Runs.{needed, join, values, over, firstTold, outputs, risings, fillNumber, fillOut}
+use Rattle.sums.specs.Counted.{Counted, Numbered, takeNumber, takeState, takeGiven, blockNumber, plain, firstNumber, takenOutputs}
+use Rattle.sums.specs.Counted.{blockState, blockOut}
 use Rattle.sums.specs.Demands as rules
 use Rattle.sums.specs.Demands.{along, afterCalls, reads, leaves, gives, samples, lifts, yields}
 use Rattle.sums.proofs.Steps.{Fit}
 use Rattle.sums.proofs.Counts.{outputs-length, outputs-told}
 use Rattle.sums.proofs.Blocks.{values-length}
+use Rattle.sums.proofs.Numbering.{block-room, tagged, taken-tagged, plain-tagged}
 use Rattle.sums.proofs.Alone.{leaves-fit}
 use Rattle.shape.specs.Answers.{wroteOf, readOf}
 use Rattle.cic.specs.Word.{wordOps}
@@ -30,7 +32,7 @@ use Rattle.cic.specs.declared.steps.Stepped.{Stepped}
 use Rattle.cic.specs.declared.steps.Risen.{Risen}
 use Rattle.cic.specs.declared.runs.Decimated.{Decimated}
 use Rattle.cic.specs.declared.runs.Filled.{Filled}
-use Rattle.cic.specs.Reading.{stateOf}
+use Rattle.cic.specs.Reading.{stateOf, countedOf}
 use Rattle.cic.specs.Answers.{outOf, interpolatedOf, sampleOf}
 use Rattle.cic.specs.InTurn.{outputOf}
 use Rattle.demands.specs.Demands.{tookStep, tookBlock, toldFrom, gaveBlock, tookSample, gaveSample, tookFill, gaveFill}
@@ -38,48 +40,58 @@ use Rattle.demands.specs.Demands.{Decimating, Interpolating}
 use Rattle.demands.proofs.Refusals.{hands-back}
 
 -- what a call took in and gave, read from its answer
-took-step : (n : ℕ) (g : Option (Output ℤ)) (x : ℤ) → unless n [] (x ∷ []) ≡ tookStep (outOf n g) x
+took-step : (n : ℕ) (g : Option (Numbered ℤ)) (x : ℤ) → unless n [] (x ∷ []) ≡ tookStep (outOf n g) x
 unfolding outOf
 took-step zero none x = refl
 took-step zero (some y) x = refl
 took-step (suc n) g x = rw (eqb·suc-zero n)
 
-gave-step : (n : ℕ) (g : Option (Output ℤ)) → join (unless n none g) [] ≡ outputOf (outOf n (unless n none g))
+gave-step : (n : ℕ) (g : Option (Numbered ℤ)) → join (unless n none g) [] ≡ outputOf (outOf n (unless n none g))
 unfolding outOf
 gave-step zero none = refl
 gave-step zero (some y) = refl
 gave-step (suc n) g = rw (eqb·suc-zero n)
 
-took-block : (n c u : ℕ) (xs : List ℤ) → unless n [] xs ≡ tookBlock (wroteOf n c u) xs
+took-block : (n c u i : ℕ) (xs : List ℤ) → unless n [] xs ≡ tookBlock (wroteOf n c u i) xs
 unfolding wroteOf
-took-block zero c u xs = refl
-took-block (suc n) c u xs = rw (eqb·suc-zero n)
+took-block zero c u i xs = refl
+took-block (suc n) c u i xs = rw (eqb·suc-zero n)
 
--- outputs that tell u, then one fewer each, are their values and u
-told-back : (l : List (Output ℤ)) (u : ℕ) → ((i : ℕ) (d : Output ℤ) → i < length l → getD l i d .told ≡ u - i) → l ≡ toldFrom u (values l)
-told-back [] u h = refl
-told-back (y ∷ l) u h =
+-- outputs that tell u, then one fewer each, with numbers from n on, are their values, u and n
+told-back : (R n : ℕ) (l : List (Output ℤ)) (u : ℕ) → ((i : ℕ) (d : Output ℤ) → i < length l → getD l i d .told ≡ u - i)
+    → tagged n R l ≡ toldFrom R u n (values l)
+unfolding tagged
+told-back R n [] u h = refl
+told-back R n (y ∷ l) u h =
     let e : y .told ≡ u = omega (arith, h 0 y (omega arith)) in
-    ap₂ _∷_ (ap (λ (n : ℕ). record { value = y .value; told = n }) e)
-    (told-back l (u - 1) (λ i d b. omega (arith, h (suc i) d (omega arith))))
+    ap₂ _∷_ (ap (λ (k : ℕ). record { value = y .value; told = k; number = n }) e)
+    (told-back R (n + R) l (u - 1) (λ i d b. omega (arith, h (suc i) d (omega arith))))
 
-first-back : (l : List (Output ℤ)) (u : ℕ) → ((i : ℕ) (d : Output ℤ) → i < length l → getD l i d .told ≡ u - i)
-    → l ≡ toldFrom (firstTold l) (values l)
-first-back [] u h = refl
-first-back (y ∷ l) u h =
+first-back : (R n : ℕ) (l : List (Output ℤ)) (u : ℕ) → ((i : ℕ) (d : Output ℤ) → i < length l → getD l i d .told ≡ u - i)
+    → tagged n R l ≡ toldFrom R (firstTold l) (firstNumber (tagged n R l)) (values l)
+unfolding tagged
+first-back R n [] u h = refl
+first-back R n (y ∷ l) u h =
     let e : u ≡ y .told = omega (arith, h 0 y (omega arith)) in
-    told-back (y ∷ l) u h ∙ ap (λ n. toldFrom n (values (y ∷ l))) e
+    told-back R n (y ∷ l) u h ∙ ap (λ k. toldFrom R k n (values (y ∷ l))) e
 
-module _ (s : State ℤ) (f : Fit s) (us lent : List ℤ) where
-  pub gave-block : (n : ℕ) → blockNumber s us lent ≡ n
-      → unless n [] (outputs wordOps s us)
-      ≡ gaveBlock (wroteOf n (needed (length us) (s .countdown) (s .rate)) (firstTold (outputs wordOps s us))) (blockOut wordOps s us lent)
+module _ (c : Counted ℤ) (f : Fit (c .state)) (us lent : List ℤ) where
+  abbrev s : State ℤ
+  s = c .state
+
+  pub gave-block : (n : ℕ) → blockNumber c us lent ≡ n
+      → let ys = takenOutputs wordOps c us in
+      unless n [] ys
+      ≡ gaveBlock (suc (s .rate)) (wroteOf n (needed (length us) (s .countdown) (s .rate)) (firstTold (plain ys)) (firstNumber ys))
+      (blockOut wordOps c us lent)
   unfolding wroteOf blockOut
   gave-block zero e =
+      let R : ℕ = suc (s .rate) in let first : ℕ = c .inputs + s .countdown + 1 in
       let l : List (Output ℤ) = outputs wordOps s us in
       let count : length (values l) ≡ needed (length us) (s .countdown) (s .rate) = values-length l ∙ outputs-length wordOps s f us in
-      rw e (first-back l (s .unsettled) (outputs-told wordOps s f us)
-      ∙ ap (toldFrom (firstTold l)) (sym (take-append-seam (values l) (drop (length (values l)) lent))
+      rw (e, taken-tagged wordOps c f us (block-room c us lent e), plain-tagged first R l)
+      (first-back R first l (s .unsettled) (outputs-told wordOps s f us)
+      ∙ ap (toldFrom R (firstTold l) (firstNumber (tagged first R l))) (sym (take-append-seam (values l) (drop (length (values l)) lent))
       ∙ ap (λ n. take n (over (values l) lent)) count))
   gave-block (suc n) e = rw (eqb·suc-zero n)
 
@@ -106,19 +118,19 @@ gave-fill (suc n) c out ys = rw (eqb·suc-zero n)
 
 -- a run of the rules' calls
 
-pub record Run {C X : Type 0} (next : State ℤ → C → State ℤ) (reading : State ℤ → C → List ℤ) (giving : State ℤ → C → List X)
-    (s : State ℤ) (xs : List ℤ) (ys : List X) (t : State ℤ) : Type 0 where
+pub record Run {S C X : Type 0} (next : S → C → S) (reading : S → C → List ℤ) (giving : S → C → List X)
+    (s : S) (xs : List ℤ) (ys : List X) (t : S) : Type 0 where
   pub calls : List C
   pub took : along next reading s calls ≡ xs
   pub gave : along next giving s calls ≡ ys
   pub left : afterCalls next s calls ≡ t
 
-module _ {C X : Type 0} (next : State ℤ → C → State ℤ) (reading : State ℤ → C → List ℤ) (giving : State ℤ → C → List X) where
-  stop : (s : State ℤ) → Run next reading giving s [] [] s
+module _ {S C X : Type 0} (next : S → C → S) (reading : S → C → List ℤ) (giving : S → C → List X) where
+  stop : (s : S) → Run next reading giving s [] [] s
   unfolding along afterCalls
   stop s = record { calls = []; took = refl; gave = refl; left = refl }
 
-  onward : (s u t : State ℤ) (c : C) (us xs : List ℤ) (vs ys : List X) → reading s c ≡ us → giving s c ≡ vs → next s c ≡ u
+  onward : (s u t : S) (c : C) (us xs : List ℤ) (vs ys : List X) → reading s c ≡ us → giving s c ≡ vs → next s c ≡ u
       → Run next reading giving u xs ys t → Run next reading giving s (us ++ xs) (vs ++ ys) t
   unfolding along afterCalls
   onward s u t c us xs vs ys er eg en run = record {
@@ -128,36 +140,39 @@ module _ {C X : Type 0} (next : State ℤ → C → State ℤ) (reading : State 
     left = ap (λ q. afterCalls next q (run .calls)) en ∙ run .left;
   }
 
-abbrev pub Falls : State ℤ → List ℤ → List (Output ℤ) → State ℤ → Type 0
+abbrev pub Falls : Counted ℤ → List ℤ → List (Numbered ℤ) → Counted ℤ → Type 0
 Falls s xs ys t = Run (leaves wordOps) reads (gives wordOps) s xs ys t
 
 abbrev pub Rises : State ℤ → List ℤ → List ℤ → State ℤ → Type 0
 Rises s xs ys t = Run (lifts wordOps) samples (yields wordOps) s xs ys t
 
-pub falls : {s t : Cic} {xs : List ℤ} {ys : List (Output ℤ)} → Fit (stateOf s) → Decimating s xs ys t → Falls (stateOf s) xs ys (stateOf t)
-unfolding reads gives leaves stepGiven
-falls {s} f Decimating.none = stop (leaves wordOps) reads (gives wordOps) (stateOf s)
+pub falls : {s t : Cic} {xs : List ℤ} {ys : List (Numbered ℤ)} → Fit (stateOf s) → Decimating s xs ys t
+    → Falls (countedOf s) xs ys (countedOf t)
+unfolding reads gives leaves takeGiven
+falls {s} f Decimating.none = stop (leaves wordOps) reads (gives wordOps) (countedOf s)
 falls {s} {t} f (Decimating.decimate {xs = xs} {ys = ys} x r p rest) =
-    let e : stepState wordOps (stateOf s) x ≡ stateOf (r .state) = ap (λ (q : Stepped). stateOf (q .state)) (sym p) in
-    let o : outOf (refusal (stateOf s)) (stepGiven wordOps (stateOf s) x) ≡ r .out = ap (λ (q : Stepped). q .out) (sym p) in
-    onward (leaves wordOps) reads (gives wordOps) (stateOf s) (stateOf (r .state)) (stateOf t) (rules.step x)
+    let n : ℕ = takeNumber (countedOf s) 1 in
+    let e : takeState wordOps (countedOf s) x ≡ countedOf (r .state) = ap (λ (q : Stepped). countedOf (q .state)) (sym p) in
+    let o : outOf n (takeGiven wordOps (countedOf s) x) ≡ r .out = ap (λ (q : Stepped). q .out) (sym p) in
+    onward (leaves wordOps) reads (gives wordOps) (countedOf s) (countedOf (r .state)) (countedOf t) (rules.step x)
     (tookStep (r .out) x) xs (outputOf (r .out)) ys
-    (took-step (refusal (stateOf s)) (stepGiven wordOps (stateOf s) x) x ∙ ap (λ q. tookStep q x) o)
-    (gave-step (refusal (stateOf s)) _ ∙ ap outputOf o)
+    (took-step n (takeGiven wordOps (countedOf s) x) x ∙ ap (λ q. tookStep q x) o)
+    (gave-step n _ ∙ ap outputOf o)
     e
-    (falls (subst (λ q. Fit q) e (leaves-fit wordOps (stateOf s) f (rules.step x))) rest)
+    (falls (subst (λ q. Fit (q .state)) e (leaves-fit wordOps (countedOf s) f (rules.step x))) rest)
 falls {s} {t} f (Decimating.decimate-block {xs = xs} {ys = ys} us lent left r p q rest) =
-    let e : blockState wordOps (stateOf s) us lent ≡ stateOf (r .state) = ap (λ (q : Decimated). stateOf (q .state)) (sym p) in
+    let n : ℕ = blockNumber (countedOf s) us lent in
+    let e : blockState wordOps (countedOf s) us lent ≡ countedOf (r .state) = ap (λ (q : Decimated). countedOf (q .state)) (sym p) in
     let o = ap (λ (q : Decimated). q .wrote) (sym p) in
-    onward (leaves wordOps) reads (gives wordOps) (stateOf s) (stateOf (r .state)) (stateOf t) (rules.block us lent)
-    (tookBlock (r .wrote) us) xs (gaveBlock (r .wrote) left) ys
-    (took-block (blockNumber (stateOf s) us lent) _ _ us ∙ ap (λ q. tookBlock q us) o)
-    (gave-block (stateOf s) f us lent (blockNumber (stateOf s) us lent) refl ∙ ap₂ gaveBlock o (sym q))
+    onward (leaves wordOps) reads (gives wordOps) (countedOf s) (countedOf (r .state)) (countedOf t) (rules.block us lent)
+    (tookBlock (r .wrote) us) xs (gaveBlock (suc (s .rate)) (r .wrote) left) ys
+    (took-block n _ _ _ us ∙ ap (λ q. tookBlock q us) o)
+    (gave-block (countedOf s) f us lent n refl ∙ ap₂ (gaveBlock (suc (s .rate))) o (sym q))
     e
-    (falls (subst (λ q. Fit q) e (leaves-fit wordOps (stateOf s) f (rules.block us lent))) rest)
+    (falls (subst (λ q. Fit (q .state)) e (leaves-fit wordOps (countedOf s) f (rules.block us lent))) rest)
 falls {s} {t} {xs} {ys} f (Decimating.refused {u = u} z rest) =
     let e : u ≡ s = hands-back z in
-    subst (λ q. Falls (stateOf q) xs ys (stateOf t)) e (falls (subst (λ q. Fit (stateOf q)) (sym e) f) rest)
+    subst (λ q. Falls (countedOf q) xs ys (countedOf t)) e (falls (subst (λ q. Fit (stateOf q)) (sym e) f) rest)
 
 pub rises : {s t : Cic} {xs ys : List ℤ} → Interpolating s xs ys t → Rises (stateOf s) xs ys (stateOf t)
 unfolding samples yields lifts fillOut

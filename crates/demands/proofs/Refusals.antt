@@ -9,11 +9,10 @@ use Rattle.blocks.specs.declared.Verdict.{Verdict}
 use Rattle.blocks.specs.declared.Verdict.the-variants as Verdict
 use Rattle.blocks.specs.Verdicts.{verdictOf}
 use Rattle.blocks.specs.Blocks.{unless}
-use Rattle.sums.specs.Machine.{Output}
 use Rattle.sums.specs.State.{State, refusal}
-use Rattle.sums.specs.Calls.{stepState, stepGiven, riseNumber, riseState, rateNumber, rateState, clearState, settleState}
-use Rattle.sums.specs.Runs.{blockNumber, blockState}
+use Rattle.sums.specs.Calls.{riseNumber, riseState, rateNumber, rateState, clearState, settleState}
 use Rattle.sums.specs.Runs.{fillNumber, fillState}
+use Rattle.sums.specs.Counted.{Counted, Numbered, takeNumber, takeState, takeGiven, blockNumber, blockState}
 use Rattle.shape.specs.declared.runs.Written.{Written}
 use Rattle.shape.specs.declared.runs.Wrote.{Wrote}
 use Rattle.shape.specs.declared.runs.Wrote.the-variants as Wrote
@@ -31,7 +30,7 @@ use Rattle.cic.specs.declared.steps.Stepped.{Stepped}
 use Rattle.cic.specs.declared.steps.Risen.{Risen}
 use Rattle.cic.specs.declared.runs.Decimated.{Decimated}
 use Rattle.cic.specs.declared.runs.Filled.{Filled}
-use Rattle.cic.specs.Reading.{stateOf, cicOf}
+use Rattle.cic.specs.Reading.{stateOf, countedOf, cicOf}
 use Rattle.cic.specs.Answers.{outOf, interpolatedOf, sampleOf}
 use Rattle.demands.specs.Demands.{Refusal}
 
@@ -58,7 +57,7 @@ refusedOut (Out.Given y) = 0
 refusedOut Out.Nothing = 0
 refusedOut (Out.Refused k) = 1
 
-out-refuses : (n k : ℕ) (g : Option (Output ℤ)) → outOf n g ≡ Out.Refused k → n ≡ 0 → ⊥
+out-refuses : (n k : ℕ) (g : Option (Numbered ℤ)) → outOf n g ≡ Out.Refused k → n ≡ 0 → ⊥
 unfolding outOf
 out-refuses zero k none e z = clash (ap refusedOut e)
 out-refuses zero k (some y) e z = clash (ap refusedOut e)
@@ -68,10 +67,10 @@ abbrev refusedWrote : Wrote → ℕ
 refusedWrote (Wrote.Outputs w) = 0
 refusedWrote (Wrote.Refused k) = 1
 
-wrote-refuses : (n k c u : ℕ) → wroteOf n c u ≡ Wrote.Refused k → n ≡ 0 → ⊥
+wrote-refuses : (n k c u i : ℕ) → wroteOf n c u i ≡ Wrote.Refused k → n ≡ 0 → ⊥
 unfolding wroteOf
-wrote-refuses zero k c u e z = clash (ap refusedWrote e)
-wrote-refuses (suc n) k c u e z = omega arith
+wrote-refuses zero k c u i e z = clash (ap refusedWrote e)
+wrote-refuses (suc n) k c u i e z = omega arith
 
 abbrev refusedValue : Interpolated → ℕ
 refusedValue (Interpolated.Value y) = 0
@@ -100,36 +99,45 @@ abbrev toldIn : Wrote → ℕ
 toldIn (Wrote.Outputs w) = w .told
 toldIn (Wrote.Refused k) = 0
 
-pub wrote-is : (n c u : ℕ) (w : Written) → wroteOf n c u ≡ Wrote.Outputs w → (n ≡ 0) × (w .count ≡ c) × (w .told ≡ u)
+pub wrote-is : (n c u i : ℕ) (w : Written) → wroteOf n c u i ≡ Wrote.Outputs w → (n ≡ 0) × (w .count ≡ c) × (w .told ≡ u)
 unfolding wroteOf
-wrote-is zero c u w e = (refl, sym (ap countIn e), sym (ap toldIn e))
-wrote-is (suc n) c u w e = absurd (clash (sym (ap refusedWrote e)))
+wrote-is zero c u i w e = (refl, sym (ap countIn e), sym (ap toldIn e))
+wrote-is (suc n) c u i w e = absurd (clash (sym (ap refusedWrote e)))
 
 -- a refused call hands its state back
 
-stays : (n : ℕ) (s t : State ℤ) → (n ≡ 0 → ⊥) → cicOf (unless n s t) ≡ cicOf s
-stays n s t h = rw (ne-eqb n 0 h)
+stays : (n : ℕ) (c d : Counted ℤ) → (n ≡ 0 → ⊥) → cicOf (unless n c d) ≡ cicOf c
+stays n c d h = rw (ne-eqb n 0 h)
+
+-- the same where the number of inputs stays anyway, and where it would be set to 0
+state-stays : (n : ℕ) (s t : State ℤ) (i : ℕ) → (n ≡ 0 → ⊥)
+    → cicOf (record { state = unless n s t; inputs = i }) ≡ cicOf (record { state = s; inputs = i })
+state-stays n s t i h = rw (ne-eqb n 0 h)
+
+both-stay : (n : ℕ) (s t : State ℤ) (i : ℕ) → (n ≡ 0 → ⊥)
+    → cicOf (record { state = unless n s t; inputs = unless n i 0 }) ≡ cicOf (record { state = s; inputs = i })
+both-stay n s t i h = rw (ne-eqb n 0 h)
 
 pub hands-back : {s u : Cic} → Refusal s u → u ≡ s
-unfolding stepState blockState riseState fillState rateState clearState settleState
+unfolding takeState blockState riseState fillState rateState clearState settleState
 hands-back {s} (Refusal.decimate x r p k e) =
-    ap (λ (q : Stepped). q .state) p ∙ stays (refusal (stateOf s)) (stateOf s) _
-    (out-refuses (refusal (stateOf s)) k (stepGiven wordOps (stateOf s) x) (sym (ap (λ (q : Stepped). q .out) p) ∙ e))
+    ap (λ (q : Stepped). q .state) p ∙ stays (takeNumber (countedOf s) 1) (countedOf s) _
+    (out-refuses (takeNumber (countedOf s) 1) k (takeGiven wordOps (countedOf s) x) (sym (ap (λ (q : Stepped). q .out) p) ∙ e))
 hands-back {s} (Refusal.decimate-block us lent r p k e) =
-    ap (λ (q : Decimated). q .state) p ∙ stays (blockNumber (stateOf s) us lent) (stateOf s) _
-    (wrote-refuses (blockNumber (stateOf s) us lent) k _ _ (sym (ap (λ (q : Decimated). q .wrote) p) ∙ e))
+    ap (λ (q : Decimated). q .state) p ∙ stays (blockNumber (countedOf s) us lent) (countedOf s) _
+    (wrote-refuses (blockNumber (countedOf s) us lent) k _ _ _ (sym (ap (λ (q : Decimated). q .wrote) p) ∙ e))
 hands-back {s} (Refusal.interpolate x r p k e) =
-    ap (λ (q : Risen). q .state) p ∙ stays (riseNumber (stateOf s) (sampleOf x)) (stateOf s) _
+    ap (λ (q : Risen). q .state) p ∙ state-stays (riseNumber (stateOf s) (sampleOf x)) (stateOf s) _ (s .inputs)
     (value-refuses (riseNumber (stateOf s) (sampleOf x)) k _ (sym (ap (λ (q : Risen). q .out) p) ∙ e))
 hands-back {s} (Refusal.interpolate-block us lent r p k e) =
-    ap (λ (q : Filled). q .state) p ∙ stays (fillNumber (stateOf s) us lent) (stateOf s) _
+    ap (λ (q : Filled). q .state) p ∙ state-stays (fillNumber (stateOf s) us lent) (stateOf s) _ (s .inputs)
     (read-refuses (fillNumber (stateOf s) us lent) k _ (sym (ap (λ (q : Filled). q .read) p) ∙ e))
 hands-back {s} (Refusal.set-rate rate r p k e) =
-    ap (λ (q : Made). q .state) p ∙ stays (rateNumber (stateOf s) rate) (stateOf s) _
+    ap (λ (q : Made). q .state) p ∙ state-stays (rateNumber (stateOf s) rate) (stateOf s) _ (s .inputs)
     (verdict-refuses (rateNumber (stateOf s) rate) k (sym (ap (λ (q : Made). q .verdict) p) ∙ e))
 hands-back {s} (Refusal.clear r p k e) =
-    ap (λ (q : Made). q .state) p ∙ stays (refusal (stateOf s)) (stateOf s) _
+    ap (λ (q : Made). q .state) p ∙ both-stay (refusal (stateOf s)) (stateOf s) _ (s .inputs)
     (verdict-refuses (refusal (stateOf s)) k (sym (ap (λ (q : Made). q .verdict) p) ∙ e))
 hands-back {s} (Refusal.settle-interpolate x r p k e) =
-    ap (λ (q : Made). q .state) p ∙ stays (refusal (stateOf s)) (stateOf s) _
+    ap (λ (q : Made). q .state) p ∙ both-stay (refusal (stateOf s)) (stateOf s) _ (s .inputs)
     (verdict-refuses (refusal (stateOf s)) k (sym (ap (λ (q : Made). q .verdict) p) ∙ e))
