@@ -21,6 +21,7 @@ use Rattle.sums.specs.Machine.{
 use Rattle.sums.specs.State.{rows, putRows, view, put, refusalOf, zeroed}
 use Rattle.sums.specs.Calls.{newState, resumeState, rateState, clearState, riseNumber, stepState, stepGiven, riseState, riseGiven}
 use Rattle.sums.specs.Runs.{outputs, risings}
+use Rattle.sums.specs.Counted.{takeNumberOf, takeState, takeGiven}
 use Rattle.text.specs.Numbers.{digitsFrom, leadingOf, plainOf, numberOf, spelt}
 use Rattle.text.specs.Parts.{parted}
 use Rattle.text.specs.Same.{same}
@@ -35,6 +36,6 @@ pub all-right : Figures
 unfolding computed table unwrapperAfter outputs risings newState resumeState zeroed refusalOf stepState stepGiven decimated
     decimatedAt given givenAt riseNumber riseState riseGiven interpolated interpolatedAt risen risenAt view put rows putRows
     integrated summed less pushed combed differed wrap word replay replayFrom outputLine endLine badLine lineOf takeOf recordOf
-    nameOf same parted numberOf plainOf leadingOf digitsFrom spelt verdictOf rateState clearState accumulated carries combined
+    nameOf same parted numberOf plainOf leadingOf digitsFrom spelt verdictOf rateState clearState takeNumberOf takeState takeGiven accumulated carries combined
     retaining output keeping modulatorOut nextOf differenceOf turnsOf
 all-right = refl

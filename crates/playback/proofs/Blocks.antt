@@ -13,16 +13,17 @@ use borrow.Author.Tests.{ne-eqb, eqb-true}
 use Rattle.text.specs.Writing.{Wrote}
 use Rattle.text.proofs.Putting.{wrote-same}
 use Rattle.sums.specs.Machine.{Output}
-use Rattle.sums.specs.State.{State, refusal}
-use Rattle.blocks.specs.Blocks.{unless}
+use Rattle.sums.specs.State.{State}
 use Rattle.sums.specs.Calls.{stepState, stepGiven}
-use Rattle.sums.specs.Runs.{needed, blockNumber, blockState, blockOut, join, values, firstTold, outputs, after}
+use Rattle.sums.specs.Runs.{needed, join, values, firstTold, outputs, after}
+use Rattle.sums.specs.Counted.{mostInputs, blockNumber, plain, firstNumber, takenOutputs, blockState, blockOut}
 use Rattle.sums.proofs.Refusals.{owed-most}
 use Rattle.sums.proofs.Steps.{Fit, fitted}
 use Rattle.sums.proofs.Counts.{outputs-length, outputs-told}
 use Rattle.sums.proofs.Blocks.{values-length}
+use Rattle.sums.proofs.Numbering.{block-accepts, block-room, taken-after, plain-taken}
 use Rattle.cic.specs.Word.{wordOps}
-use Rattle.cic.specs.Reading.{stateOf, cicOf}
+use Rattle.cic.specs.Reading.{stateOf, countedOf, cicOf}
 use Rattle.shape.specs.Answers.{wroteOf}
 use Rattle.cic.specs.Answers.{decimatedOf}
 use Rattle.cic.specs.declared.state.Cic.{Cic}
@@ -34,7 +35,7 @@ use Rattle.playback.specs.Inner.Advances.{Gathers, outputLines, Room, Ad
 use Rattle.records.specs.declared.session.Session.{Session}
 use Rattle.playback.specs.declared.driver.Replay.{Replay}
 use Rattle.playback.proofs.Running.{runs-none}
-use Rattle.playback.proofs.Batches.{between, ran, batch-place, batch-bytes}
+use Rattle.playback.proofs.Batches.{between, filterAt, ran, batch-place, batch-bytes}
 
 -- a turn that does nothing
 pub turn-same : (r : Replay) (input o : List ℕ) (from at : ℕ) → r .len ≤ 64 → from ≤ length input
@@ -54,23 +55,15 @@ all-ready true false len e = let z : _≡_ {A = ℕ} 0 1 = cc in absurd (omega a
 all-ready false opened len e = let z : _≡_ {A = ℕ} 0 1 = cc in absurd (omega arith)
 
 -- what a block's answer tells
-wrote-number : (number n u : ℕ) (w : Written) → wroteOf number n u ≡ Wrote.Outputs w → number ≡ 0
+wrote-number : (number n u i : ℕ) (w : Written) → wroteOf number n u i ≡ Wrote.Outputs w → number ≡ 0
 unfolding wroteOf
-wrote-number zero n u w e = refl
-wrote-number (suc j) n u w e = cc
+wrote-number zero n u i w e = refl
+wrote-number (suc j) n u i w e = cc
 
-wrote-is : (number n u : ℕ) (w : Written) → wroteOf number n u ≡ Wrote.Outputs w → w ≡ record { count = n; told = u }
+wrote-is : (number n u i : ℕ) (w : Written) → wroteOf number n u i ≡ Wrote.Outputs w → w ≡ record { count = n; told = u; number = i }
 unfolding wroteOf
-wrote-is zero n u w e = cc
-wrote-is (suc j) n u w e = cc
-
-unless-zero : (k m : ℕ) → unless k k m ≡ 0 → k ≡ 0
-unless-zero zero m e = refl
-unless-zero (suc k) m e = rw (ne-eqb (suc k) 0 (λ z. omega arith)) at e
-
-block-accepted : (s : State ℤ) (xs out : List ℤ) → blockNumber s xs out ≡ 0 → refusal s ≡ 0
-unfolding blockNumber
-block-accepted s xs out e = unless-zero (refusal s) _ e
+wrote-is zero n u i w e = cc
+wrote-is (suc j) n u i w e = cc
 
 join-few : (g : Option (Output ℤ)) (l : List (Output ℤ)) → length (join g l) ≤ suc (length l)
 join-few (some y) l = omega arith
@@ -86,7 +79,7 @@ outputs-few s (x ∷ xs) = omega (
 )
 
 place-is : (s : Session) (n k len : ℕ) (line : List ℕ) (b : Bool) → s .opened ≡ true → b ≡ true → len ≡ 0
-    → _≡_ {A = Place} (record { session = s; lines = n; outputs = k; line = take len line; going = b }) (between (stateOf (s .filter)) n k)
+    → _≡_ {A = Place} (record { session = s; lines = n; outputs = k; line = take len line; going = b }) (between (countedOf (s .filter)) n k)
 place-is s n k len line b o e z =
     ap (λ (x : Bool). record { session = s; lines = n; outputs = k; line = take len line; going = x }) e
     ∙ ap (λ (x : ℕ). record { session = s; lines = n; outputs = k; line = take x line; going = true }) z
@@ -116,36 +109,43 @@ module _ (filter : Cic) (samples given : List ℤ) (n : ℕ) (enough : n ≤ len
   abbrev u : ℕ
   u = w .told
 
-  answer : wroteOf (blockNumber (stateOf filter) (take n samples) given) (needed (length (take n samples)) (filter .countdown)
-      (filter .rate)) (firstTold (outputs wordOps (stateOf filter) (take n samples))) ≡ Wrote.Outputs w
+  answer : let ys = takenOutputs wordOps (countedOf filter) (take n samples) in
+      wroteOf (blockNumber (countedOf filter) (take n samples) given) (needed (length (take n samples)) (filter .countdown)
+      (filter .rate)) (firstTold (plain ys)) (firstNumber ys) ≡ Wrote.Outputs w
   answer = sym (ap (λ (x : Decimated). x .wrote) is) ∙ wrote
 
-  number-is : blockNumber (stateOf filter) (take n samples) given ≡ 0
-  number-is = wrote-number _ _ _ w answer
+  number-is : blockNumber (countedOf filter) (take n samples) given ≡ 0
+  number-is = wrote-number _ _ _ _ w answer
 
   fit : Fit (stateOf filter)
-  fit = fitted (stateOf filter) (block-accepted (stateOf filter) (take n samples) given number-is) long8 long64
+  fit = fitted (stateOf filter) (block-accepts (countedOf filter) (take n samples) given number-is) long8 long64
+
+  may : filter .inputs + length (take n samples) ≤ mostInputs
+  may = block-room (countedOf filter) (take n samples) given number-is
+
+  plain-is : plain (takenOutputs wordOps (countedOf filter) (take n samples)) ≡ outputs wordOps (stateOf filter) (take n samples)
+  plain-is = plain-taken wordOps (countedOf filter) fit (take n samples) may
 
   count-is : k ≡ length (outputs wordOps (stateOf filter) (take n samples))
-  count-is = ap (λ (x : Written). x .count) (wrote-is _ _ _ w answer) ∙ sym (outputs-length wordOps (stateOf filter) fit (take n samples))
+  count-is = ap (λ (x : Written). x .count) (wrote-is _ _ _ _ w answer) ∙ sym (outputs-length wordOps (stateOf filter) fit (take n samples))
 
   pub block-few : k ≤ n
   block-few = omega (arith, count-is, outputs-few (stateOf filter) (take n samples), length-take-le n samples enough)
 
-  state-is : d .state ≡ cicOf (after wordOps (stateOf filter) (take n samples))
+  state-is : d .state ≡ cicOf (filterAt (after wordOps (stateOf filter) (take n samples)) (filter .inputs + length (take n samples)))
   unfolding blockState
-  state-is = ap (λ (x : Decimated). x .state) is ∙ rw number-is
+  state-is = ap (λ (x : Decimated). x .state) is ∙ rw (number-is, taken-after wordOps (countedOf filter) fit (take n samples) may)
 
-  values-are : take k (blockOut wordOps (stateOf filter) (take n samples) given)
+  values-are : take k (blockOut wordOps (countedOf filter) (take n samples) given)
       ≡ values (outputs wordOps (stateOf filter) (take n samples))
   unfolding blockOut
   values-are =
       let ys = outputs wordOps (stateOf filter) (take n samples) in
       let e : k ≡ length (values ys) = count-is ∙ sym (values-length ys) in
-      rw (number-is, e) (take-append-seam (values ys) _)
+      rw (number-is, plain-is, e) (take-append-seam (values ys) _)
 
   told-is : u ≡ firstTold (outputs wordOps (stateOf filter) (take n samples))
-  told-is = ap (λ (x : Written). x .told) (wrote-is _ _ _ w answer)
+  told-is = ap (λ (x : Written). x .told) (wrote-is _ _ _ _ w answer) ∙ ap firstTold plain-is
 
   pub block-most : u ≤ 64
   block-most =
@@ -154,7 +154,7 @@ module _ (filter : Cic) (samples given : List ℤ) (n : ℕ) (enough : n ≤ len
       (owed-most (f .order) (f .delay) (f .rate) (f .countdown) (f .unsettled) (fit .good))
       (λ d b. outputs-told wordOps f fit (take n samples) 0 d b) u told-is
 
-  text-is : outputLines u (take k (blockOut wordOps (stateOf filter) (take n samples) given))
+  text-is : outputLines u (take k (blockOut wordOps (countedOf filter) (take n samples) given))
       ≡ outputLines (filter .unsettled) (values (outputs wordOps (stateOf filter) (take n samples)))
   text-is = rw (values-are, told-is) (first-lines (outputs wordOps (stateOf filter) (take n samples)) (filter .unsettled)
       (λ d b. outputs-told wordOps (stateOf filter) fit (take n samples) 0 d b))
@@ -165,9 +165,10 @@ module _ (filter : Cic) (samples given : List ℤ) (n : ℕ) (enough : n ≤ len
     outputs = countedUp b k;
     line = [];
     going = true;
-  }) (ran (stateOf filter) (take n samples) a b)
+  }) (ran (stateOf filter) (filter .inputs) (take n samples) a b)
   after-is a b =
       let m : n ≡ length (take n samples) = sym (length-take-le n samples enough) in
+      let left = filterAt (after wordOps (stateOf filter) (take n samples)) (filter .inputs + length (take n samples)) in
       ap (λ (f : Cic). record {
         session = record { opened = true; filter = f };
         lines = countedUp a n;
@@ -175,34 +176,33 @@ module _ (filter : Cic) (samples given : List ℤ) (n : ℕ) (enough : n ≤ len
         line = [];
         going = true;
       }) state-is
-      ∙ ap (λ (x : ℕ). between (after wordOps (stateOf filter) (take n samples)) (countedUp a x) (countedUp b k)) m
-      ∙ ap (λ (x : ℕ). between (after wordOps (stateOf filter) (take n samples)) (countedUp a (length (take n samples)))
-      (countedUp b x)) count-is
+      ∙ ap (λ (x : ℕ). between left (countedUp a x) (countedUp b k)) m
+      ∙ ap (λ (x : ℕ). between left (countedUp a (length (take n samples))) (countedUp b x)) count-is
 
   module _ (r : Replay) (of : r .session .filter ≡ filter) (input o : List ℕ) (from at : ℕ) (opened : r .session .opened ≡ true)
       (going : r .going ≡ true) (none : r .len ≡ 0)
       (lines : r .lines ≤ 18446744073709551615) (outs : r .outputs ≤ 18446744073709551615)
       (room : Room (placeOf r) (drop from input) o at) (next : ℕ) (g : Gathers input from samples n next) where
-    here : placeOf r ≡ between (stateOf filter) (r .lines) (r .outputs)
+    here : placeOf r ≡ between (countedOf filter) (r .lines) (r .outputs)
     here = place-is (r .session) (r .lines) (r .outputs) (r .len) (r .line) (r .going) opened going none
-        ∙ ap (λ (f : Cic). between (stateOf f) (r .lines) (r .outputs)) of
+        ∙ ap (λ (f : Cic). between (countedOf f) (r .lines) (r .outputs)) of
 
     pub turn-block : (t : Replay) → placeOf t ≡ afterBlock (placeOf r) (d .state) n k → t .len ≡ r .len → (w : ℕ) (o' : List ℕ)
-        → length o' ≡ length o → Wrote o at (outputLines u (take k (blockOut wordOps (stateOf filter) (take n samples) given))) w o'
+        → length o' ≡ length o → Wrote o at (outputLines u (take k (blockOut wordOps (countedOf filter) (take n samples) given))) w o'
         → w ≤ at + 17 * k
         → Advances r input from o at t next w o'
     turn-block t e z w o' lo wr near =
-        let i : placeOf t ≡ afterBlock (between (stateOf filter) (r .lines) (r .outputs)) (d .state) n k = e
+        let i : placeOf t ≡ afterBlock (between (countedOf filter) (r .lines) (r .outputs)) (d .state) n k = e
         ∙ ap (λ (p : Place). afterBlock p (d .state) n k) here in
-        let q : placeOf t ≡ ran (stateOf filter) (take n samples) (r .lines) (r .outputs) = i ∙ after-is (r .lines) (r .outputs) in
+        let q : placeOf t ≡ ran (stateOf filter) (filter .inputs) (take n samples) (r .lines) (r .outputs) = i ∙ after-is (r .lines) (r .outputs) in
         record {
           runs = record {
             place = ap (λ (x : Place). fedOf x (drop from input)) here
-                ∙ batch-place (g .lines) (stateOf filter) fit (r .lines) (r .outputs) lines outs
+                ∙ batch-place (g .lines) (stateOf filter) fit (filter .inputs) (r .lines) (r .outputs) may lines outs
                 ∙ ap (λ (x : Place). fedOf x (drop next input)) (sym q);
             text = outputLines (filter .unsettled) (values (outputs wordOps (stateOf filter) (take n samples)));
             bytes = ap (λ (x : Place). bytesOf x (drop from input)) here
-                ∙ batch-bytes (g .lines) (stateOf filter) fit (r .lines) (r .outputs) lines outs
+                ∙ batch-bytes (g .lines) (stateOf filter) fit (filter .inputs) (r .lines) (r .outputs) may lines outs
                 ∙ ap (λ (x : Place). outputLines (filter .unsettled) (values (outputs wordOps (stateOf filter) (take n samples)))
                 ++ bytesOf x (drop next input)) (sym q);
             wrote = wrote-same text-is wr;

@@ -11,6 +11,7 @@ use Rattle.blocks.specs.Verdicts.{verdictOf}
 use Rattle.sums.specs.Machine.{pushed, integrated, summed, less, combed, differed, decimatedAt, decimated, givenAt, given}
 use Rattle.sums.specs.State.{rows, putRows, view, put, refusalOf, zeroed}
 use Rattle.sums.specs.Calls.{newState, rateState, clearState, stepState, stepGiven}
+use Rattle.sums.specs.Counted.{takeNumberOf, takeState, takeGiven}
 use Rattle.text.specs.Same.{same}
 use Rattle.records.specs.Lines.{nameOf, recordOf}
 use Rattle.records.specs.Sessions.{takeOf, lineOf}
@@ -47,6 +48,6 @@ table =
 
 pub figures : map (λ (c : Case). replay (c .input)) table ≡ map (λ (c : Case). c .output) table
 unfolding table replay replayFrom outputLine endLine badLine lineOf takeOf recordOf nameOf same parted numberOf plainOf leadingOf
-    digitsFrom spelt verdictOf newState rateState clearState stepState stepGiven zeroed refusalOf view put rows putRows given
+    digitsFrom spelt verdictOf newState rateState clearState takeNumberOf takeState takeGiven stepState stepGiven zeroed refusalOf view put rows putRows given
     givenAt decimated decimatedAt differed combed less summed integrated pushed wrap word
 figures = refl

@@ -1,10 +1,10 @@
 -- A line that gives an output has at least 3 bytes, `x`, a tab and a digit, and an output that a step gives tells at most 64, so that its
 -- line has at most 17. So no line gives more than 5 bytes out for each of its own, the newline too.
 use native.Mathlib.Omega.{arith}
-use mathlib.Core.Path.{_≡_, refl, sym, _∙_}
+use mathlib.Core.Path.{_≡_, refl, sym, ap, _∙_}
 use mathlib.Core.Bool.{Bool, true, false, cond}
 use mathlib.Core.List.{List, [], _∷_}
-use mathlib.Core.Option.{Option, none, some}
+use mathlib.Core.Option.{Option, none, some, Option·some-injective}
 use Prim.Native.Nat.{ℕ, zero, suc, _+_, _*_, _≤_}
 use lib.Dec.{eqb, ltb}
 use lib.IntN.{ℤ}
@@ -18,12 +18,14 @@ use Rattle.text.proofs.Spelling.{spelt-most}
 use Rattle.blocks.specs.declared.Verdict.{Verdict}
 use Rattle.blocks.specs.declared.Verdict.the-variants as Verdict
 use Rattle.cic.specs.declared.state.Cic.{Cic}
+use Rattle.blocks.specs.Blocks.{unless}
 use Rattle.sums.specs.Machine.{Output}
-use Rattle.sums.specs.State.{State, refusal}
-use Rattle.sums.specs.Calls.{newNumber, newState, rateNumber, rateState, clearState, stepState, stepGiven}
+use Rattle.sums.specs.State.{refusal}
+use Rattle.sums.specs.Calls.{newNumber, rateNumber, stepGiven}
+use Rattle.sums.specs.Counted.{Counted, Numbered, takeNumber, withNumber, newCounted, rateCounted, clearCounted, takeState, takeGiven}
 use Rattle.sums.proofs.Steps.{told-most}
 use Rattle.cic.specs.Word.{wordOps}
-use Rattle.cic.specs.Reading.{stateOf, cicOf}
+use Rattle.cic.specs.Reading.{stateOf, countedOf, cicOf}
 use Rattle.blocks.specs.Verdicts.{verdictOf}
 use Rattle.text.specs.Same.{same}
 use Rattle.records.specs.Lines.{nameOf, naturalOf, withNatural, fieldAt, wantedOf, namedRecord, shapedOf, fieldsRecord, recordOf}
@@ -53,7 +55,7 @@ told-none : (s : Session) (f : Cic) (v : Verdict) → lineRoom (toldBy s f v .re
 told-none s f Verdict.Done = refl
 told-none s f (Verdict.Refused k) = refl
 
-ordered-none : (s : Session) (number : ℕ) (t : State ℤ) → lineRoom (ordered s number t .reply) ≡ 0
+ordered-none : (s : Session) (number : ℕ) (t : Counted ℤ) → lineRoom (ordered s number t .reply) ≡ 0
 ordered-none s number t = told-none s (cicOf t) (verdictOf number)
 
 either : (b : Bool) (x y : Taken) → lineRoom (x .reply) ≡ 0 → lineRoom (y .reply) ≡ 0 → lineRoom (cond b x y .reply) ≡ 0
@@ -63,24 +65,44 @@ either false x y h k = k
 take-none : (s : Session) (r : Record) → isSample r ≡ false → lineRoom (takeOf s r .reply) ≡ 0
 unfolding takeOf
 take-none s (Open n m rate) e =
-    let t = newState wordOps n m rate in
+    let t = newCounted wordOps n m rate in
     either (s .opened) (refuse s 71) (ordered s (newNumber n m rate) t) refl (ordered-none s (newNumber n m rate) t)
 take-none s (Rate rate) e =
-    let f = stateOf (s .filter) in
-    either (s .opened) (ordered s (rateNumber f rate) (rateState wordOps f rate)) (refuse s 71)
-    (ordered-none s (rateNumber f rate) (rateState wordOps f rate)) refl
+    let f = countedOf (s .filter) in
+    either (s .opened) (ordered s (rateNumber (f .state) rate) (rateCounted wordOps f rate)) (refuse s 71)
+    (ordered-none s (rateNumber (f .state) rate) (rateCounted wordOps f rate)) refl
 take-none s (Sample v) e = cc
 take-none s Clear e =
-    let f = stateOf (s .filter) in
-    either (s .opened) (ordered s (refusal f) (clearState wordOps f)) (refuse s 71) (ordered-none s (refusal f) (clearState wordOps f)) refl
+    let f = countedOf (s .filter) in
+    either (s .opened) (ordered s (refusal (f .state)) (clearCounted wordOps f)) (refuse s 71)
+    (ordered-none s (refusal (f .state)) (clearCounted wordOps f)) refl
 take-none s Malformed e = refl
 
 -- and its line has at most 17 bytes
-sampled-most : (s : Session) (k : ℕ) (t : State ℤ) (g : Option (Output ℤ)) → ((y : Output ℤ) → g ≡ some y → y .told ≤ 64)
+sampled-most : (s : Session) (k : ℕ) (t : Counted ℤ) (g : Option (Numbered ℤ)) → ((y : Numbered ℤ) → g ≡ some y → y .told ≤ 64)
     → lineRoom (sampled s k t g .reply) ≤ 17
 sampled-most s zero t (some y) h = omega (arith, spelt-most 1 20 (y .told) (omega (arith, h y refl)))
 sampled-most s zero t none h = omega arith
 sampled-most s (suc k) t g h = omega arith
+
+-- what the step tells, numbered
+numbered-most : (n : ℕ) (g : Option (Output ℤ)) → ((y : Output ℤ) → g ≡ some y → y .told ≤ 64)
+    → (z : Numbered ℤ) → withNumber n g ≡ some z → z .told ≤ 64
+numbered-most n none h z e = let c : _≡_ {A = ℕ} 0 1 = cc in absurd (omega arith)
+numbered-most n (some y) h z e =
+    omega (arith, h y refl, ap (λ (q : Numbered ℤ). q .told) (Option·some-injective _ z e))
+
+unless-most : (k : ℕ) (g : Option (Numbered ℤ)) → ((z : Numbered ℤ) → g ≡ some z → z .told ≤ 64)
+    → (z : Numbered ℤ) → unless k none g ≡ some z → z .told ≤ 64
+unless-most zero g h z e = h z e
+unless-most (suc k) g h z e = let c : none ≡ some z = rw (ne-eqb (suc k) 0 (λ q. omega arith)) at e in
+    let d : _≡_ {A = ℕ} 0 1 = cc in absurd (omega arith)
+
+taken-most : (f : Counted ℤ) (v : ℤ) (z : Numbered ℤ) → takeGiven wordOps f v ≡ some z → z .told ≤ 64
+unfolding takeGiven
+taken-most f v z e =
+    unless-most (takeNumber f 1) (withNumber (suc (f .inputs)) (stepGiven wordOps (f .state) v))
+    (numbered-most (suc (f .inputs)) (stepGiven wordOps (f .state) v) (told-most wordOps (f .state) v)) z e
 
 either-most : (b : Bool) (x y : Taken) → lineRoom (x .reply) ≤ 17 → lineRoom (y .reply) ≤ 17 → lineRoom (cond b x y .reply) ≤ 17
 either-most true x y h k = h
@@ -91,9 +113,9 @@ unfolding takeOf
 take-most s (Open n m rate) = omega (arith, take-none s (Open n m rate) refl)
 take-most s (Rate rate) = omega (arith, take-none s (Rate rate) refl)
 take-most s (Sample v) =
-    let f = stateOf (s .filter) in
-    either-most (s .opened) (sampled s (refusal f) (stepState wordOps f v) (stepGiven wordOps f v)) (refuse s 71)
-    (sampled-most s (refusal f) (stepState wordOps f v) (stepGiven wordOps f v) (told-most wordOps f v)) (omega arith)
+    let f = countedOf (s .filter) in
+    either-most (s .opened) (sampled s (takeNumber f 1) (takeState wordOps f v) (takeGiven wordOps f v)) (refuse s 71)
+    (sampled-most s (takeNumber f 1) (takeState wordOps f v) (takeGiven wordOps f v) (taken-most f v)) (omega arith)
 take-most s Clear = omega (arith, take-none s Clear refl)
 take-most s Malformed = omega arith
 

@@ -8,7 +8,7 @@ use lib.ListN.{length}
 use Rattle.text.specs.Letters.{bytes, tab, newline}
 use Rattle.text.specs.Numbers.{decimalOf, signedOf}
 use Rattle.text.specs.Parts.{parted}
-use Rattle.sums.specs.State.{blank}
+use Rattle.sums.specs.Counted.{blankCounted}
 use Rattle.cic.specs.Word.{wordOps}
 use Rattle.cic.specs.Reading.{cicOf}
 use Rattle.records.specs.Sessions.{lineOf}
@@ -52,7 +52,7 @@ replayFrom s lines outputs (line ∷ next ∷ rest) =
 
 -- no `cic` line yet
 abbrev pub unopened : Session
-unopened = record { opened = false; filter = cicOf (blank wordOps) }
+unopened = record { opened = false; filter = cicOf (blankCounted wordOps) }
 
 unfoldable pub replay : List ℕ → List ℕ
 replay input = replayFrom unopened 0 0 (parted newline input)

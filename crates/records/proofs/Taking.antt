@@ -8,11 +8,9 @@ use lib.IntN.{ℤ}
 use lib.ListN.{length}
 use borrow.Author.Tests.{lt-ltb, le-ltb}
 use Rattle.blocks.specs.declared.Verdict.{Verdict}
-use Rattle.sums.specs.Machine.{Output}
-use Rattle.sums.specs.State.{State, refusal}
-use Rattle.sums.specs.Calls.{stepState, stepGiven}
+use Rattle.sums.specs.Counted.{Counted, Numbered, takeNumber, takeState, takeGiven}
 use Rattle.cic.specs.Word.{wordOps}
-use Rattle.cic.specs.Reading.{stateOf, cicOf}
+use Rattle.cic.specs.Reading.{countedOf, cicOf}
 use Rattle.cic.specs.Answers.{answerOutput, outOf, steppedOf, madeOf}
 use Rattle.cic.specs.declared.state.Cic.{Cic}
 use Rattle.cic.specs.declared.state.Made.{Made}
@@ -28,28 +26,28 @@ use Rattle.records.specs.declared.session.Reply.{Reply}
 use Rattle.records.specs.declared.session.Reply.the-variants as Reply
 use Rattle.records.specs.declared.session.Taken.{Taken}
 
-pub ordered-is : (s : Session) (number : ℕ) (t : State ℤ) (m : Made) (r : Taken) → m ≡ madeOf number t → r
+pub ordered-is : (s : Session) (number : ℕ) (t : Counted ℤ) (m : Made) (r : Taken) → m ≡ madeOf number t → r
     ≡ toldBy s (m .state) (m .verdict) → r ≡ ordered s number t
 ordered-is s number t m r e w = w ∙ ap (λ (x : Made). toldBy s (x .state) (x .verdict)) e
 
 pub told-as : (s : Session) (f : Cic) (v w : Verdict) (r : Taken) → v ≡ w → r ≡ toldBy s f w → r ≡ toldBy s f v
 told-as s f v w r e h = h ∙ ap (toldBy s f) (sym e)
 
-sampled-given : (s : Session) (t : State ℤ) (y : answer.Output) (number : ℕ) (g : Option (Output ℤ)) → outOf number g ≡ Out.Given y
+sampled-given : (s : Session) (t : Counted ℤ) (y : answer.Output) (number : ℕ) (g : Option (Numbered ℤ)) → outOf number g ≡ Out.Given y
     → kept (cicOf t) (Reply.Output y) ≡ sampled s number t g
 unfolding outOf
 sampled-given s t y zero (some o) e = let p : answerOutput o ≡ y = cc in ap (λ (z : answer.Output). kept (cicOf t) (Reply.Output z)) (sym p)
 sampled-given s t y zero none e = cc
 sampled-given s t y (suc k) g e = cc
 
-sampled-none : (s : Session) (t : State ℤ) (number : ℕ) (g : Option (Output ℤ)) → outOf number g ≡ Out.Nothing
+sampled-none : (s : Session) (t : Counted ℤ) (number : ℕ) (g : Option (Numbered ℤ)) → outOf number g ≡ Out.Nothing
     → kept (cicOf t) Reply.Silent ≡ sampled s number t g
 unfolding outOf
 sampled-none s t zero (some o) e = cc
 sampled-none s t zero none e = refl
 sampled-none s t (suc k) g e = cc
 
-sampled-refused : (s : Session) (t : State ℤ) (k number : ℕ) (g : Option (Output ℤ)) → outOf number g ≡ Out.Refused k → refuse s k
+sampled-refused : (s : Session) (t : Counted ℤ) (k number : ℕ) (g : Option (Numbered ℤ)) → outOf number g ≡ Out.Refused k → refuse s k
     ≡ sampled s number t g
 unfolding outOf
 sampled-refused s t k zero (some o) e = cc
@@ -59,13 +57,13 @@ sampled-refused s t k (suc n) g e = let p : suc n ≡ k = cc in ap (refuse s) (s
 -- a step of the filter, by what it answered
 module _ (s : Session) (x : ℤ) (d : Stepped) (e : d ≡ steppedOf (s .filter) x) where
   abbrev of-step : Taken
-  of-step = sampled s (refusal (stateOf (s .filter))) (stepState wordOps (stateOf (s .filter)) x)
-      (stepGiven wordOps (stateOf (s .filter)) x)
+  of-step = sampled s (takeNumber (countedOf (s .filter)) 1) (takeState wordOps (countedOf (s .filter)) x)
+      (takeGiven wordOps (countedOf (s .filter)) x)
 
-  out-is : (o : Out) → d .out ≡ o → outOf (refusal (stateOf (s .filter))) (stepGiven wordOps (stateOf (s .filter)) x) ≡ o
+  out-is : (o : Out) → d .out ≡ o → outOf (takeNumber (countedOf (s .filter)) 1) (takeGiven wordOps (countedOf (s .filter)) x) ≡ o
   out-is o h = sym (ap (λ (r : Stepped). r .out) e) ∙ h
 
-  state-is : (reply : Reply) → kept (d .state) reply ≡ kept (cicOf (stepState wordOps (stateOf (s .filter)) x)) reply
+  state-is : (reply : Reply) → kept (d .state) reply ≡ kept (cicOf (takeState wordOps (countedOf (s .filter)) x)) reply
   state-is reply = ap (λ (r : Stepped). kept (r .state) reply) e
 
   pub step-given : (y : answer.Output) → d .out ≡ Out.Given y → kept (d .state) (Reply.Output y) ≡ of-step

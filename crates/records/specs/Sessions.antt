@@ -6,14 +6,14 @@ use Prim.Native.Nat.{ℕ, zero, suc}
 use lib.Dec.{ltb}
 use lib.IntN.{ℤ}
 use lib.ListN.{length}
-use Rattle.sums.specs.Machine.{Output}
-use Rattle.sums.specs.State.{State, refusal}
-use Rattle.sums.specs.Calls.{newNumber, newState, rateNumber, rateState, clearState, stepState, stepGiven}
+use Rattle.sums.specs.State.{refusal}
+use Rattle.sums.specs.Calls.{newNumber, rateNumber}
+use Rattle.sums.specs.Counted.{Counted, Numbered, takeNumber, newCounted, rateCounted, clearCounted, takeState, takeGiven}
 use Rattle.blocks.specs.Verdicts.{verdictOf}
 use Rattle.blocks.specs.declared.Verdict.{Verdict}
 use Rattle.blocks.specs.declared.Verdict.the-variants as Verdict
 use Rattle.cic.specs.Word.{wordOps}
-use Rattle.cic.specs.Reading.{stateOf, cicOf}
+use Rattle.cic.specs.Reading.{countedOf, cicOf}
 use Rattle.cic.specs.Answers.{answerOutput}
 use Rattle.cic.specs.declared.state.Cic.{Cic}
 use Rattle.records.specs.Lines.{recordOf}
@@ -38,33 +38,33 @@ toldBy s f Verdict.Done = kept f Reply.Silent
 toldBy s f (Verdict.Refused number) = refuse s number
 
 -- the same by the call's number (0: accepted) and its state
-abbrev pub ordered : Session → ℕ → State ℤ → Taken
+abbrev pub ordered : Session → ℕ → Counted ℤ → Taken
 ordered s number t = toldBy s (cicOf t) (verdictOf number)
 
 -- a step: its number, its state, and one output with what it tells or nothing at all
-abbrev pub replied : Option (Output ℤ) → Reply
+abbrev pub replied : Option (Numbered ℤ) → Reply
 replied (some y) = Reply.Output (answerOutput y)
 replied none = Reply.Silent
 
-abbrev pub sampled : Session → ℕ → State ℤ → Option (Output ℤ) → Taken
+abbrev pub sampled : Session → ℕ → Counted ℤ → Option (Numbered ℤ) → Taken
 sampled s zero t given = kept (cicOf t) (replied given)
 sampled s (suc k) t given = refuse s (suc k)
 
 -- the filter's calls by the session: `new`, `set_rate`, `clear` and a step
-abbrev pub filterOf : Session → State ℤ
-filterOf s = stateOf (s .filter)
+abbrev pub filterOf : Session → Counted ℤ
+filterOf s = countedOf (s .filter)
 
 abbrev pub making : Session → ℕ → ℕ → ℕ → Taken
-making s n m rate = ordered s (newNumber n m rate) (newState wordOps n m rate)
+making s n m rate = ordered s (newNumber n m rate) (newCounted wordOps n m rate)
 
 abbrev pub rating : Session → ℕ → Taken
-rating s rate = ordered s (rateNumber (filterOf s) rate) (rateState wordOps (filterOf s) rate)
+rating s rate = ordered s (rateNumber (filterOf s .state) rate) (rateCounted wordOps (filterOf s) rate)
 
 abbrev pub clearing : Session → Taken
-clearing s = ordered s (refusal (filterOf s)) (clearState wordOps (filterOf s))
+clearing s = ordered s (refusal (filterOf s .state)) (clearCounted wordOps (filterOf s))
 
 abbrev pub stepping : Session → ℤ → Taken
-stepping s v = sampled s (refusal (filterOf s)) (stepState wordOps (filterOf s) v) (stepGiven wordOps (filterOf s) v)
+stepping s v = sampled s (takeNumber (filterOf s) 1) (takeState wordOps (filterOf s) v) (takeGiven wordOps (filterOf s) v)
 
 -- 70: malformed line; 71: no `cic` line yet, or a second one; then the filter's own numbers
 unfoldable pub takeOf : Session → Record → Taken
