@@ -1,18 +1,27 @@
 // The example of README.md: a filter of order 3 at R = 4 runs, the encoder's plug is pulled and pushed back, the rate
-// is set anew, and of each block since then the outputs that may be believed are counted.
+// is set anew, and of each block since then the outputs that may be believed are counted, and the encoder sample is named
+// that the first of them stands for.
 use blocks::Verdict;
 use cic::runs::Wrote;
 use cic::runs::settled_number;
 use cic::runs::settled_part;
 use cic::state::Cic;
 use libc::STDOUT_FILENO;
+use words::unsigned::add_u64;
+use words::unsigned::mul_u64;
 
-// What a block left: the filter to go on with, how many of its outputs may be believed, and the number of a
-// refusal, or 0.
+// What a block left: the filter to go on with, how many of its outputs may be believed, the number of the first such
+// output's sample, and the number of a refusal, or 0.
 struct Outcome {
     filter: Cic,
     believed: usize,
+    sample: u64,
     refusal: u32,
+}
+
+// The sample of the output that comes `told` outputs after that of sample `first`: R = rate + 1 samples each.
+fn believed_sample(first: u64, told: usize, rate: u32) -> u64 {
+    add_u64(first, mul_u64(told as u64, rate as u64 + 1))
 }
 
 // Decimates a block. The outputs that may be believed stand in out behind those that may not.
@@ -24,6 +33,7 @@ fn decimate(filter: Cic, input: &[i32], out: &mut [i32]) -> Outcome {
         Wrote::Refused(number) => Outcome {
             filter: after,
             believed: 0,
+            sample: 0,
             refusal: number,
         },
         Wrote::Outputs(written) => {
@@ -32,6 +42,7 @@ fn decimate(filter: Cic, input: &[i32], out: &mut [i32]) -> Outcome {
             Outcome {
                 filter: after,
                 believed: part.len(),
+                sample: believed_sample(written.number, written.told, after.rate()),
                 refusal: number,
             }
         }
@@ -56,9 +67,11 @@ fn refused(number: u32) -> bool {
     true
 }
 
-fn tell(believed: usize) {
+fn tell(believed: usize, sample: u64) {
     io::print_decimal(STDOUT_FILENO, believed as u64);
-    io::write_all(STDOUT_FILENO, b" outputs may be believed\n");
+    io::write_all(STDOUT_FILENO, b" outputs may be believed, from sample ");
+    io::print_decimal(STDOUT_FILENO, sample);
+    io::write_all(STDOUT_FILENO, b" on\n");
 }
 
 fn main() {
@@ -85,12 +98,12 @@ fn main() {
     if refused(first.refusal) {
         return;
     }
-    tell(first.believed);
+    tell(first.believed, first.sample);
     // The next block goes on from the state that this one left.
     let next = first.filter;
     let second = decimate(next, &samples, &mut out);
     if refused(second.refusal) {
         return;
     }
-    tell(second.believed);
+    tell(second.believed, second.sample);
 }

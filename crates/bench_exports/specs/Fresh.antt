@@ -6,7 +6,7 @@ use lib.ListN.{replicate}
 use lib.Ieee.{Float}
 use Rattle.blocks.specs.Scan.{scan}
 use Rattle.blocks.specs.Blocks.{lengthsNumber, unless}
-use Rattle.sums.specs.Calls.{newState}
+use Rattle.sums.specs.Counted.{newCounted}
 use Rattle.cic.specs.Word.{wordOps}
 use Rattle.cic.specs.Reading.{cicOf}
 use Rattle.cic.specs.Answers.{steppedOf}
@@ -46,7 +46,7 @@ blockLeftBy k out next c s xs ys = blockLeft (k c) (out c) (next c) s xs ys
 
 -- Decimator and interpolator.
 abbrev pub freshCic : ℕ → ℕ → ℕ → Cic
-freshCic order delay rate = cicOf (newState wordOps order delay rate)
+freshCic order delay rate = cicOf (newCounted wordOps order delay rate)
 
 unfoldable pub givenIn : Out → ℤ
 givenIn (Out.Given y) = y .value

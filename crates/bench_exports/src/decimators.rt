@@ -4,15 +4,16 @@ use cic::steps::Out;
 ghost use mathlib.Core.Path.{_≡_};
 ghost use lib.ListN.{length};
 ghost use Rattle.blocks.specs.Scan.{scan};
-ghost use Rattle.sums.specs.Runs.{blockOut, fillOut};
+ghost use Rattle.sums.specs.Runs.{fillOut};
+ghost use Rattle.sums.specs.Counted.{blockOut};
 ghost use Rattle.cic.specs.Word.{wordOps};
-ghost use Rattle.cic.specs.Reading.{stateOf};
+ghost use Rattle.cic.specs.Reading.{stateOf, countedOf};
 ghost use Rattle.bench_exports.specs.Fresh.{blockLeft, freshCic, givenIn, stepOut, stepNext};
 
 // A decimator's block.
 #[no_mangle]
 pub extern "C" fn bench_decimate(order: usize, delay: usize, rate: u32, xs: &[i32], ys: &mut [i32])
-    ensures { λ _. ⌜ now (ys .exit) ≡ blockOut wordOps (stateOf (freshCic order delay rate)) (now (xs .entry)) (now (ys .entry)) ⌝ }
+    ensures { λ _. ⌜ now (ys .exit) ≡ blockOut wordOps (countedOf (freshCic order delay rate)) (now (xs .entry)) (now (ys .entry)) ⌝ }
 {
     let made = Cic::new(order, delay, rate);
     let filter = made.state;

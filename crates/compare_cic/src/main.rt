@@ -85,11 +85,14 @@ fn fill(xs: &mut [i32], first: u64) -> u64 {
     draws
 }
 
-// A filter, the generator that feeds it, and the digest of what came out.
+// A filter, the generator that feeds it, and the digest of what came out. The Rust doesn't number: the inputs are counted
+// here, and so are the outputs whose number isn't their input's place.
 struct Running {
     state: Cic,
     draws: u64,
     digest: u64,
+    inputs: u64,
+    misnumbered: u64,
 }
 
 // The state of a line, resumed from its drawn cells.
@@ -98,6 +101,7 @@ fn started(w: [u32; 40]) -> Running {
     let mut b = [0i32; 64];
     let drawn = fill(&mut a, double(0, w[5]));
     let hold = spread(fill(&mut b, drawn));
+    let inputs = double(0, w[5]);
     let made = Cic::resume(
         size(w[1]),
         size(w[2]),
@@ -106,12 +110,15 @@ fn started(w: [u32; 40]) -> Running {
         b,
         u32_as_i32(hold.value),
         w[4],
+        inputs,
     );
     let state = made.state;
     Running {
         state,
         draws: hold.state,
         digest: 0,
+        inputs,
+        misnumbered: 0,
     }
 }
 
@@ -162,6 +169,17 @@ fn rated(r: Running, rate: u32) -> Running {
         state,
         draws: r.draws,
         digest: r.digest,
+        inputs: r.inputs,
+        misnumbered: r.misnumbered,
+    }
+}
+
+// 1 where an output's number isn't this one.
+fn misnumbered(out: Out, number: u64) -> u64 {
+    match out {
+        Out::Given(y) => unlike_double(y.number, number),
+        Out::Nothing => 0,
+        Out::Refused(_) => 0,
     }
 }
 
@@ -171,10 +189,13 @@ fn decimate_turn(r: Running) -> Running {
     let t = s.decimate(u32_as_i32(x.value));
     let state = t.state;
     let out = t.out;
+    let inputs = add_u64(r.inputs, 1);
     Running {
         state,
         draws: x.state,
         digest: digest_state(digest_output(r.digest, out), state),
+        inputs,
+        misnumbered: add_u64(r.misnumbered, misnumbered(out, inputs)),
     }
 }
 
@@ -204,6 +225,8 @@ fn interpolate_turn(r: Running) -> Running {
         state,
         draws: x.state,
         digest: digest_state(digest_value(r.digest, out), state),
+        inputs: r.inputs,
+        misnumbered: r.misnumbered,
     }
 }
 
@@ -237,6 +260,17 @@ fn wrote_count(wrote: Wrote) -> usize {
     }
 }
 
+// 1 where a block's first number isn't that of the input on which the countdown ends, or 0 without an output.
+fn block_misnumbered(wrote: Wrote, inputs: u64, countdown: u32) -> u64 {
+    let Wrote::Outputs(w) = wrote else {
+        return 0;
+    };
+    if w.count == 0 {
+        return unlike_double(w.number, 0);
+    }
+    unlike_double(w.number, add_u64(inputs, countdown as u64 + 1))
+}
+
 fn read_count(read: Read) -> usize {
     match read {
         Read::Inputs(n) => n,
@@ -260,10 +294,13 @@ fn decimate_block_turn(r: Running) -> Running {
     let wrote = t.wrote;
     let count = wrote_count(wrote);
     let given = digest_values(digest_count(r.digest, count), ys, count);
+    let first = block_misnumbered(wrote, r.inputs, s.countdown);
     Running {
         state,
         draws,
         digest: digest_state(given, state),
+        inputs: add_u64(r.inputs, n as u64),
+        misnumbered: add_u64(r.misnumbered, first),
     }
 }
 
@@ -282,6 +319,8 @@ fn interpolate_block_turn(r: Running) -> Running {
         state,
         draws,
         digest: digest_state(given, state),
+        inputs: r.inputs,
+        misnumbered: r.misnumbered,
     }
 }
 
@@ -307,9 +346,16 @@ fn run(code: u32, first: Running, turns: u32, later: u32) -> Running {
     r
 }
 
-// A run, by steps or by blocks, whose digests have the whole state after each.
+// A run, by steps or by blocks, whose digests have the whole state after each; and the numbers of its outputs.
 fn whole_run(w: [u32; 40]) -> u64 {
     let r = run(w[0], started(w), w[6], w[7]);
+    let s = r.state;
+    if r.misnumbered != 0 {
+        return 1;
+    }
+    if s.inputs() != r.inputs {
+        return 1;
+    }
     unlike_double(r.digest, double(w[8], w[9]))
 }
 
@@ -466,7 +512,7 @@ fn makers() -> u64 {
 }
 
 fn resumed(countdown: u32) -> u32 {
-    let m = Cic::resume(1, 1, 1, [0i32; 8], [0i32; 64], 0, countdown);
+    let m = Cic::resume(1, 1, 1, [0i32; 8], [0i32; 64], 0, countdown, 0);
     let v = m.verdict;
     number(v)
 }
@@ -479,6 +525,7 @@ fn state(order: usize, delay: usize, rate: u32, countdown: u32, unsettled: usize
         rate,
         countdown,
         unsettled,
+        inputs: 0,
         hold: 0,
         integrators: [0i32; 8],
         combs: [0i32; 64],

@@ -3,6 +3,7 @@ use crate::print::refusal;
 use crate::print::row;
 use cic::questions::Fitting;
 use cic::questions::Told;
+use cic::runs::Wrote;
 use cic::state::Cic;
 use cic::steps::Out;
 
@@ -13,7 +14,7 @@ fn new(order: usize, delay: usize, rate: u32) -> u32 {
 }
 
 fn resume(countdown: u32) -> u32 {
-    let made = Cic::resume(3, 1, 3, [7; 8], [5; 64], 1, countdown);
+    let made = Cic::resume(3, 1, 3, [7; 8], [5; 64], 1, countdown, 0);
     let verdict = made.verdict;
     refusal(verdict)
 }
@@ -38,6 +39,31 @@ fn step(unsettled: usize) -> u32 {
         Out::Given(_) => 0,
         Out::Nothing => 0,
         Out::Refused(n) => n,
+    }
+}
+
+// The filter after so many inputs, at a countdown: no output falls on its next input.
+fn after(inputs: u64) -> Cic {
+    let made = Cic::resume(3, 1, 3, [7; 8], [5; 64], 1, 2, inputs);
+    made.state
+}
+
+fn step_after(inputs: u64) -> u32 {
+    let stepped = after(inputs).decimate(1);
+    let out = stepped.out;
+    match out {
+        Out::Given(_) => 0,
+        Out::Nothing => 0,
+        Out::Refused(n) => n,
+    }
+}
+
+fn block_after(inputs: u64, input: &[i32], out: &mut [i32]) -> u32 {
+    let done = after(inputs).decimate_block(input, out);
+    let wrote = done.wrote;
+    match wrote {
+        Wrote::Outputs(_) => 0,
+        Wrote::Refused(n) => n,
     }
 }
 
@@ -67,6 +93,32 @@ fn fit(b: u32) -> u32 {
         Fitting::Fits(_) => 0,
         Fitting::Refused(n) => n,
     }
+}
+
+// Input number 2^64 - 1 is the last.
+fn print_inputs() {
+    let most: u64 = 18446744073709551615;
+    let three = [1i32; 3];
+    let mut none = [0i32; 0];
+    let mut one = [0i32; 1];
+    row(
+        b"a step after 2^64 - 1 inputs, no output due",
+        step_after(most),
+        b"after 2^64 - 2",
+        step_after(most - 1),
+    );
+    row(
+        b"a block of 3 after 2^64 - 3 inputs",
+        block_after(most - 2, &three, &mut one),
+        b"after 2^64 - 4",
+        block_after(most - 3, &three, &mut one),
+    );
+    row(
+        b"a block of 3 after 2^64 - 1 inputs, its slice too short",
+        block_after(most, &three, &mut none),
+        b"an empty block there",
+        block_after(most, &three[..0], &mut none),
+    );
 }
 
 pub(crate) fn print_all() {
@@ -99,6 +151,7 @@ pub(crate) fn print_all() {
         b"at 3",
         asked(3),
     );
+    print_inputs();
     row(b"fit of 0 bits", fit(0), b"of 1 bit", fit(1));
     row(b"fit of 33 bits", fit(33), b"of 32 bits", fit(32));
 }
