@@ -25,11 +25,16 @@ pub(crate) fn integrate(cells: &mut [Word; 8], n: usize, x: Word) -> Word
 }
 
 // The comb whose line of m cells starts at base: it gives x less its oldest cell, drops that and stores x
-// last. Other cells stay.
+// last. A line of one cell moves none. Other cells stay.
 pub(crate) fn comb(cells: &mut [Word; 64], base: usize, m: usize, x: Word) -> Word
     requires { ⌜ (1 ≤ m) × (base + m ≤ 64) × (length (now cells) ≡ 64) ⌝ }
     ensures { λ r. ⌜ Pushes wordOps base m (now (cells .entry)) x (now (cells .exit)) r ⌝ }
 {
+    if m == 1 {
+        let only = cells[base];
+        cells[base] = x;
+        return sub(x, only);
+    }
     let last = m - 1;
     let end = base + last;
     let oldest = cells[base];

@@ -120,7 +120,27 @@ fn decimate_stretches(
     }
 }
 
-// The same, once for each order.
+// The same with lines of one cell. The delay as a constant spares the ring's place: after the only cell comes itself.
+fn decimate_one_cell(
+    integrators: &mut [Word; 8],
+    combs: &mut [Word; 64],
+    n: usize,
+    first: Numbers,
+    input: &[Word],
+    out: &mut [Word],
+) -> RingEnd
+    requires { ⌜ (first .delay ≡ 1) × (n ≡ first .order) × Ready (apart first (now integrators) (now combs))
+        × (needed (length (now input)) (first .countdown) (first .rate) ≤ length (now out)) ⌝ }
+    ensures { λ r. ⌜ Ring n (r .at) (figuresOf (r .numbers)) (now (combs .exit))
+        × DecimateRun wordOps (apart first (now (integrators .entry)) (now (combs .entry))) (now (input .entry)) (now (out .entry))
+        (ringed (r .numbers) (now (integrators .exit)) (now (combs .exit)) (r .at)) (r .count) (now (out .exit)) ⌝ }
+{
+    let mut one = first;
+    one.delay = 1;
+    decimate_stretches(integrators, combs, n, one, input, out)
+}
+
+// The same, once for each order, and once more for the orders of nearly every product, whose delay is one.
 fn decimate_by_order(
     integrators: &mut [Word; 8],
     combs: &mut [Word; 64],
@@ -135,6 +155,15 @@ fn decimate_by_order(
         (ringed (r .numbers) (now (integrators .exit)) (now (combs .exit)) (r .at)) (r .count) (now (out .exit)) ⌝ }
 {
     let n = first.order;
+    if first.delay == 1 {
+        match n {
+            1 => return decimate_one_cell(integrators, combs, n, first, input, out),
+            2 => return decimate_one_cell(integrators, combs, n, first, input, out),
+            3 => return decimate_one_cell(integrators, combs, n, first, input, out),
+            4 => return decimate_one_cell(integrators, combs, n, first, input, out),
+            _ => {}
+        }
+    }
     match n {
         0 => decimate_stretches(integrators, combs, n, first, input, out),
         1 => decimate_stretches(integrators, combs, n, first, input, out),
