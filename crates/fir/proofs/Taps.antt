@@ -1,0 +1,110 @@
+-- The table's rule at all of its entries: each row of ways is the windows' sums of the row before, and one test computes the third.
+use mathlib.Core.Path.{_≡_, refl, sym, ap, ap₂, _∙_, fun-ext}
+use mathlib.Core.List.{List, [], _∷_}
+use Prim.Native.Nat.{ℕ, zero, suc, _+_, _-_, _*_, _/_, _%_, _<_, _≤_}
+use native.Mathlib.Nat.{zero-add}
+use native.Mathlib.Omega.{arith}
+use lib.ListN.{take, drop, getD}
+use lib.Seq.{getD-take, getD-drop}
+use Rattle.fir.specs.Ways.{upTo, ways, rest, Total}
+use Rattle.fir.proofs.Weighing.{rest-none, rest-early, rest-on}
+
+unfoldable pub total : List ℕ → ℕ
+total [] = 0
+total (x ∷ xs) = x + total xs
+
+-- the sums of the last L elements, along a list; those before it are given newest first
+unfoldable pub windows : ℕ → List ℕ → List ℕ → List ℕ
+windows L seen [] = []
+windows L seen (x ∷ xs) = total (take L (x ∷ seen)) ∷ windows L (x ∷ seen) xs
+
+-- N values of h from number n on, and those before number n, newest first
+unfoldable pub row : ℕ → ℕ → (ℕ → ℕ) → List ℕ
+row n zero h = []
+row n (suc N) h = h n ∷ row (suc n) N h
+
+newest : (ℕ → ℕ) → ℕ → List ℕ
+newest h zero = []
+newest h (suc n) = h n ∷ newest h n
+
+-- ways with one number more
+more : ℕ → (ℕ → ℕ) → ℕ → ℕ
+more L h n = upTo L (λ i. rest i h n)
+
+zeros : (L : ℕ) → upTo L (λ i. 0) ≡ 0
+unfolding upTo
+zeros zero = refl
+zeros (suc L) = zero-add (upTo L (λ i. 0)) ∙ zeros L
+
+none : (L : ℕ) (h : ℕ → ℕ) → upTo L (λ i. rest (suc i) h 0) ≡ 0
+none L h = ap (upTo L) (fun-ext (λ i. rest-early i h)) ∙ zeros L
+
+none-seen : (L : ℕ) → total (take L []) ≡ 0
+unfolding total
+none-seen zero = refl
+none-seen (suc L) = refl
+
+window-is : (L : ℕ) (h : ℕ → ℕ) (n : ℕ) → total (take L (newest h (suc n))) ≡ more L h n
+unfolding total newest more upTo
+window-is zero h n = refl
+window-is (suc L) h zero = ap₂ _+_ (sym (rest-none h 0)) (none-seen L ∙ sym (none L h))
+window-is (suc L) h (suc n) = ap₂ _+_ (sym (rest-none h (suc n))) (window-is L h n ∙ ap (upTo L) (fun-ext (λ i. sym (rest-on i h n))))
+
+windows-row : (L : ℕ) (h : ℕ → ℕ) (N n : ℕ) → windows L (newest h n) (row n N h) ≡ row n N (more L h)
+unfolding windows row newest
+windows-row L h zero n = refl
+windows-row L h (suc N) n = ap₂ _∷_ (window-is L h n) (windows-row L h N (suc n))
+
+-- the row with one number more
+row-more : (L k N : ℕ) → windows L [] (row 0 N (ways L k)) ≡ row 0 N (ways L (suc k))
+unfolding newest more ways
+row-more L k N = windows-row L (ways L k) N 0
+
+-- the 190 entries, computed by windows
+unfoldable pub entries : List ℕ
+entries = windows 64 [] (windows 64 [] (windows 64 [] (row 0 190 (ways 64 0))))
+
+entries-are : entries ≡ row 0 190 (ways 64 3)
+unfolding entries
+entries-are = ap (λ (r : List ℕ). windows 64 [] (windows 64 [] r)) (row-more 64 0 190) ∙ ap (windows 64 []) (row-more 64 1 190) ∙ row-more 64 2 190
+
+-- in rows of ten
+unfoldable pub tens : ℕ → List ℕ → List (List ℕ)
+tens zero l = []
+tens (suc m) l = take 10 l ∷ tens m (drop 10 l)
+
+row-at : (N n : ℕ) (h : ℕ → ℕ) (i : ℕ) → i < N → getD (row n N h) i 0 ≡ h (n + i)
+unfolding row
+row-at zero n h i l = absurd (omega arith)
+row-at (suc N) n h zero l = ap h (omega arith)
+row-at (suc N) n h (suc i) l = row-at N (suc n) h i (omega arith) ∙ ap h (omega arith)
+
+getD-tens : (m : ℕ) (l : List ℕ) (i j : ℕ) → i < m → j < 10 → getD (getD (tens m l) i []) j 0 ≡ getD l (i * 10 + j) 0
+unfolding tens
+getD-tens zero l i j a b = absurd (omega arith)
+getD-tens (suc m) l zero j a b = getD-take 10 l j 0 b ∙ ap (λ (k : ℕ). getD l k 0) (let e : j ≡ 0 * 10 + j = omega arith in e)
+getD-tens (suc m) l (suc i) j a b = getD-tens m (drop 10 l) i j (omega arith) b ∙ getD-drop 10 l (i * 10 + j) 0 ∙ ap (λ (k : ℕ). getD l k 0) (let e : 10 + (i * 10 + j) ≡ suc i * 10 + j = omega arith in e)
+
+-- a table that passes the test holds the ways
+pub table-is : (table : List (List ℕ)) → table ≡ tens 19 entries → (n : ℕ) → n < 190 → getD (getD table (n / 10) []) (n % 10) 0 ≡ ways 64 3 n
+table-is table e n l =
+    ap (λ (t : List (List ℕ)). getD (getD t (n / 10) []) (n % 10) 0) e
+    ∙ getD-tens 19 entries (n / 10) (n % 10) (omega arith) (omega arith)
+    ∙ ap (λ (k : ℕ). getD entries k 0) (let f : n / 10 * 10 + n % 10 ≡ n = omega arith in f)
+    ∙ ap (λ (r : List ℕ). getD r n 0) entries-are
+    ∙ row-at 190 0 (ways 64 3) n l
+    ∙ ap (ways 64 3) (zero-add n)
+
+-- the sum
+row-total : (N n : ℕ) (h : ℕ → ℕ) → total (row n N h) ≡ upTo N (λ i. h (n + i))
+unfolding total row upTo
+row-total zero n h = refl
+row-total (suc N) n h =
+    ap₂ _+_ (ap h (let e : n ≡ n + 0 = omega arith in e)) (row-total N (suc n) h ∙ ap (upTo N) (fun-ext (λ i. ap h (let e : suc n + i ≡ n + suc i = omega arith in e))))
+
+sum-is : total entries ≡ 262144
+unfolding entries total windows row ways
+sum-is = refl
+
+pub entries-total : Total
+entries-total = ap (upTo 190) (fun-ext (λ i. ap (ways 64 3) (sym (zero-add i)))) ∙ sym (row-total 190 0 (ways 64 3)) ∙ sym (ap total entries-are) ∙ sum-is

@@ -1,0 +1,23 @@
+-- 02, A6: the table's rule.
+use mathlib.Core.Path.{_≡_}
+use mathlib.Core.Bool.{cond}
+use Prim.Native.Nat.{ℕ, zero, suc, _+_, _-_}
+use lib.Dec.{leb, eqb}
+
+-- The sum of g at 0 .. n - 1.
+unfoldable pub upTo : ℕ → (ℕ → ℕ) → ℕ
+upTo zero g = 0
+upTo (suc n) g = g 0 + upTo n (λ i. g (suc i))
+
+-- h at n - i, and 0 where i is more than n.
+unfoldable pub rest : ℕ → (ℕ → ℕ) → ℕ → ℕ
+rest i h n = cond (leb i n) (h (n - i)) 0
+
+-- The number of ways to write n as a sum of k numbers from 0 to L - 1: the first is i, and the others add up to n - i.
+unfoldable pub ways : ℕ → ℕ → ℕ → ℕ
+ways L zero n = cond (eqb n 0) 1 0
+ways L (suc k) n = upTo L (λ i. rest i (ways L k) n)
+
+-- The entries total 262,144.
+abbrev pub Total : Type 0
+Total = upTo 190 (ways 64 3) ≡ 262144
