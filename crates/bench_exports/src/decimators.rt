@@ -1,6 +1,7 @@
-// Decimator and interpolator.
+// Decimator, its plain engine, and interpolator.
 use cic::state::Cic;
 use cic::steps::Out;
+use fir::Fir;
 ghost use mathlib.Core.Path.{_≡_};
 ghost use lib.ListN.{length};
 ghost use Rattle.blocks.specs.Scan.{scan};
@@ -8,6 +9,7 @@ ghost use Rattle.sums.specs.Runs.{fillOut};
 ghost use Rattle.sums.specs.Counted.{blockOut};
 ghost use Rattle.cic.specs.Word.{wordOps};
 ghost use Rattle.cic.specs.Reading.{stateOf, countedOf};
+ghost use Rattle.fir.specs.Calls.{fresh, writtenOf};
 ghost use Rattle.bench_exports.specs.Fresh.{blockLeft, freshCic, givenIn, stepOut, stepNext};
 
 // A decimator's block.
@@ -18,6 +20,15 @@ pub extern "C" fn bench_decimate(order: usize, delay: usize, rate: u32, xs: &[i3
     let made = Cic::new(order, delay, rate);
     let filter = made.state;
     filter.decimate_block(xs, ys);
+}
+
+// The plain engine's block.
+#[no_mangle]
+pub extern "C" fn bench_fir(xs: &[i32], ys: &mut [i32])
+    ensures { λ _. ⌜ now (ys .exit) ≡ writtenOf fresh (now (xs .entry)) (now (ys .entry)) ⌝ }
+{
+    let engine = Fir::new();
+    engine.decimate_block(xs, ys);
 }
 
 // An interpolator's block.

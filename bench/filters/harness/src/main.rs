@@ -106,6 +106,13 @@ fn main() {
     interpolators::<8, 8>(&bench, 0, &xs);
     interpolators::<3, 1>(&bench, 63, &xs[..256]);
     bench.row("decimator (3,1,63), single steps", BLOCK, BLOCK, |y| proved::steps(3, 1, 63, &xs, y), |y| theirs::steps::<3, 1>(63, &xs, y));
+    let lent = BLOCK / 64;
+    bench.row("plain engine (3,1,63)", BLOCK, lent, |y| proved::fir(&xs, y), |y| {
+        theirs::fir(&xs, y);
+    });
+    bench.row("plain engine (3,1,63)", 256, 4, |y| proved::fir(&xs[..256], y), |y| {
+        theirs::fir(&xs[..256], y);
+    });
     others(&bench, &xs);
     if std::env::args().any(|a| a == "--sizes") {
         let long = draw.ints(1 << 24);

@@ -1,6 +1,7 @@
 //! The proved library's exports: a slice goes as pointer and length.
 extern "C" {
     fn bench_decimate(order: usize, delay: usize, rate: u32, x: *const i32, n: usize, y: *mut i32, m: usize);
+    fn bench_fir(x: *const i32, n: usize, y: *mut i32, m: usize);
     fn bench_interpolate(order: usize, delay: usize, rate: u32, x: *const i32, n: usize, y: *mut i32, m: usize);
     fn bench_steps(order: usize, delay: usize, rate: u32, x: *const i32, n: usize, y: *mut i32, m: usize);
     fn bench_dsm(order: usize, x: *const u32, n: usize, y: *mut i16, m: usize);
@@ -28,6 +29,9 @@ macro_rules! call {
 
 pub fn decimate(order: usize, delay: usize, rate: u32, x: &[i32], y: &mut [i32]) {
     call!(bench_decimate(order, delay, rate), x, y)
+}
+pub fn fir(x: &[i32], y: &mut [i32]) {
+    call!(bench_fir(), x, y)
 }
 pub fn interpolate(order: usize, delay: usize, rate: u32, x: &[i32], y: &mut [i32]) {
     call!(bench_interpolate(order, delay, rate), x, y)

@@ -18,6 +18,35 @@ pub fn decimate<const N: usize, const M: usize>(rate: u32, x: &[i32], y: &mut [i
     }
 }
 
+/// Entry n: the number of ways to write n as a sum of three numbers from 0 to 63.
+static TAPS: [i32; 190] = taps();
+
+const fn taps() -> [i32; 190] {
+    let mut row = [0; 190];
+    let mut i = 0;
+    while i < 64 * 64 * 64 {
+        row[i % 64 + i / 64 % 64 + i / 4096] += 1;
+        i += 1;
+    }
+    row
+}
+
+/// The plain engine's block as a Rust programmer would write it (the crate has none): the inputs from the newest back, then those kept
+/// before, zipped with the table. Gives the inputs kept after it.
+#[inline(never)]
+pub fn fir(x: &[i32], y: &mut [i32]) -> [i32; 190] {
+    let cells = core::hint::black_box([0; 190]);
+    for (y, end) in y.iter_mut().zip((1..=x.len()).step_by(64)) {
+        let back = x[..end].iter().rev().chain(&cells);
+        *y = back.zip(&TAPS).fold(0, |sum, (x, tap)| sum.wrapping_add(x.wrapping_mul(*tap)));
+    }
+    let mut kept = [0; 190];
+    for (cell, x) in kept.iter_mut().zip(x.iter().rev().chain(&cells)) {
+        *cell = *x;
+    }
+    kept
+}
+
 #[inline(never)]
 pub fn interpolate<const N: usize, const M: usize>(rate: u32, x: &[i32], y: &mut [i32]) {
     let mut filter = Cic::<i32, N, M>::new(rate);
