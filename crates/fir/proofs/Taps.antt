@@ -6,7 +6,7 @@ use native.Mathlib.Nat.{zero-add}
 use native.Mathlib.Omega.{arith}
 use lib.ListN.{take, drop, getD}
 use lib.Seq.{getD-take, getD-drop}
-use Rattle.fir.specs.Ways.{upTo, ways, rest, Total}
+use Rattle.fir.specs.Ways.{upTo, ways, rest, entry, HoldsWays, Total}
 use Rattle.fir.proofs.Weighing.{rest-none, rest-early, rest-on}
 
 unfoldable pub total : List ℕ → ℕ
@@ -86,9 +86,9 @@ getD-tens (suc m) l zero j a b = getD-take 10 l j 0 b ∙ ap (λ (k : ℕ). getD
 getD-tens (suc m) l (suc i) j a b = getD-tens m (drop 10 l) i j (omega arith) b ∙ getD-drop 10 l (i * 10 + j) 0 ∙ ap (λ (k : ℕ). getD l k 0) (let e : 10 + (i * 10 + j) ≡ suc i * 10 + j = omega arith in e)
 
 -- a table that passes the test holds the ways
-pub table-is : (table : List (List ℕ)) → table ≡ tens 19 entries → (n : ℕ) → n < 190 → getD (getD table (n / 10) []) (n % 10) 0 ≡ ways 64 3 n
+pub table-is : (table : List (List ℕ)) → table ≡ tens 19 entries → HoldsWays table
 table-is table e n l =
-    ap (λ (t : List (List ℕ)). getD (getD t (n / 10) []) (n % 10) 0) e
+    ap (λ (t : List (List ℕ)). entry t n) e
     ∙ getD-tens 19 entries (n / 10) (n % 10) (omega arith) (omega arith)
     ∙ ap (λ (k : ℕ). getD entries k 0) (let f : n / 10 * 10 + n % 10 ≡ n = omega arith in f)
     ∙ ap (λ (r : List ℕ). getD r n 0) entries-are

@@ -1,8 +1,10 @@
 -- 02, A6: the table's rule.
 use mathlib.Core.Path.{_≡_}
 use mathlib.Core.Bool.{cond}
-use Prim.Native.Nat.{ℕ, zero, suc, _+_, _-_}
+use mathlib.Core.List.{List, []}
+use Prim.Native.Nat.{ℕ, zero, suc, _+_, _-_, _/_, _%_, _<_}
 use lib.Dec.{leb, eqb}
+use lib.ListN.{getD}
 
 -- The sum of g at 0 .. n - 1.
 unfoldable pub upTo : ℕ → (ℕ → ℕ) → ℕ
@@ -17,6 +19,13 @@ rest i h n = cond (leb i n) (h (n - i)) 0
 unfoldable pub ways : ℕ → ℕ → ℕ → ℕ
 ways L zero n = cond (eqb n 0) 1 0
 ways L (suc k) n = upTo L (λ i. rest i (ways L k) n)
+
+-- Entry n of a table in rows of ten; and the rule, of a table of 190 entries.
+abbrev pub entry : List (List ℕ) → ℕ → ℕ
+entry table n = getD (getD table (n / 10) []) (n % 10) 0
+
+abbrev pub HoldsWays : List (List ℕ) → Type 0
+HoldsWays table = (n : ℕ) → n < 190 → entry table n ≡ ways 64 3 n
 
 -- The entries total 262,144.
 abbrev pub Total : Type 0

@@ -11,7 +11,7 @@ ghost use Prim.Native.Nat.{_<_, _≤_, _^_};
 ghost use lib.IntN.{pos};
 ghost use lib.ListN.{length, getD, take};
 ghost use Rattle.sums.specs.Runs.{needed, over};
-ghost use Rattle.fir.specs.Ways.{ways};
+ghost use Rattle.fir.specs.Ways.{HoldsWays};
 ghost use Rattle.fir.specs.Weights.{weighed};
 ghost use Rattle.fir.specs.Calls.{fresh, steppedOf, decimatedOf, writtenOf};
 ghost use Rattle.fir.specs.Inner.{kept, dueIn, outputsFrom};
@@ -71,12 +71,11 @@ pub struct Decimated {
     pub wrote: Wrote,
 }
 
-// The weight of the input n places back.
-fn tap(n: usize) -> u32
-    requires { ⌜ n < 190 ⌝ }
-    ensures { λ r. ⌜ r ≡ ways 64 3 n ⌝ }
+// The table, once for each output.
+fn table() -> [[u32; 10]; 19]
+    ensures { λ r. ⌜ HoldsWays r ⌝ }
 {
-    TAPS[n / 10][n % 10]
+    TAPS
 }
 
 // The input n places back when the first `taken` of input have come: one of them, or one that was kept before.
@@ -97,11 +96,13 @@ fn weigh(cells: &[i32; 190], input: &[i32], taken: usize) -> i32
     requires { ⌜ (length (now cells) ≡ 190) × (taken ≤ length (now input)) ⌝ }
     ensures { λ r. ⌜ r ≡ weighed (kept (now (cells .entry)) (take taken (now (input .entry)))) ⌝ }
 {
+    let taps = table();
     let mut sum: i32 = 0;
     let mut n: usize = 0;
     while n < 190 {
+        let tap = taps[n / 10][n % 10];
         let x = input_back(cells, input, taken, n);
-        sum = add_i32(sum, mul_i32(u32_as_i32(tap(n)), x));
+        sum = add_i32(sum, mul_i32(u32_as_i32(tap), x));
         n += 1;
     }
     sum
