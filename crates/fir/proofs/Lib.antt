@@ -4,3 +4,4 @@ pub mod Taps
 pub mod Summing
 pub mod Standing
 pub mod Turns
+pub mod Equal

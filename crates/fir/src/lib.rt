@@ -1,7 +1,7 @@
 // A filter that an inspector can read (02, A6): the decimator of order 3, M = 1, R = 64, as 190 weights on the last
 // 190 inputs. `decimate` takes one input, `decimate_block` a slice of them; no state is bad and no sum is lost, since
-// all sums are modulo 2^32. Callers cite specs/Calls (each answer), which leans on specs/Ways
-// (the rule of the table) and specs/Weights (what an output is).
+// all sums are modulo 2^32. Callers cite specs/Calls (each answer), which leans on specs/Ways (the rule of the table)
+// and specs/Weights (what an output is), and specs/Equal: the decimator's own calls give the same outputs.
 use shape::runs::low_rate;
 use words::casts::u32_as_i32;
 use words::signed::add_i32;
