@@ -1,12 +1,12 @@
 -- The table's rule at all of its entries: each row of ways is the windows' sums of the row before, and one test computes the third.
 use mathlib.Core.Path.{_≡_, refl, sym, ap, ap₂, _∙_, fun-ext}
 use mathlib.Core.List.{List, [], _∷_}
-use Prim.Native.Nat.{ℕ, zero, suc, _+_, _-_, _*_, _/_, _%_, _<_, _≤_}
+use Prim.Native.Nat.{ℕ, zero, suc, _+_, _-_, _*_, _<_}
 use native.Mathlib.Nat.{zero-add}
 use native.Mathlib.Omega.{arith}
 use lib.ListN.{take, drop, getD}
 use lib.Seq.{getD-take, getD-drop}
-use Rattle.fir.specs.Ways.{upTo, ways, rest, entry, HoldsWays, Total}
+use Rattle.fir.specs.Ways.{upTo, ways, rest, HoldsWays, Total}
 use Rattle.fir.proofs.Weighing.{rest-none, rest-early, rest-on}
 
 unfoldable pub total : List ℕ → ℕ
@@ -87,13 +87,12 @@ getD-tens (suc m) l (suc i) j a b = getD-tens m (drop 10 l) i j (omega arith) b 
 
 -- a table that passes the test holds the ways
 pub table-is : (table : List (List ℕ)) → table ≡ tens 19 entries → HoldsWays table
-table-is table e n l =
-    ap (λ (t : List (List ℕ)). entry t n) e
-    ∙ getD-tens 19 entries (n / 10) (n % 10) (omega arith) (omega arith)
-    ∙ ap (λ (k : ℕ). getD entries k 0) (let f : n / 10 * 10 + n % 10 ≡ n = omega arith in f)
-    ∙ ap (λ (r : List ℕ). getD r n 0) entries-are
-    ∙ row-at 190 0 (ways 64 3) n l
-    ∙ ap (ways 64 3) (zero-add n)
+table-is table e i j h k =
+    ap (λ (t : List (List ℕ)). getD (getD t i []) j 0) e
+    ∙ getD-tens 19 entries i j h k
+    ∙ ap (λ (r : List ℕ). getD r (i * 10 + j) 0) entries-are
+    ∙ row-at 190 0 (ways 64 3) (i * 10 + j) (omega arith)
+    ∙ ap (ways 64 3) (zero-add (i * 10 + j))
 
 -- the sum
 row-total : (N n : ℕ) (h : ℕ → ℕ) → total (row n N h) ≡ upTo N (λ i. h (n + i))

@@ -2,7 +2,7 @@
 use mathlib.Core.Path.{_≡_}
 use mathlib.Core.Bool.{cond}
 use mathlib.Core.List.{List, []}
-use Prim.Native.Nat.{ℕ, zero, suc, _+_, _-_, _/_, _%_, _<_}
+use Prim.Native.Nat.{ℕ, zero, suc, _+_, _-_, _*_, _<_}
 use lib.Dec.{leb, eqb}
 use lib.ListN.{getD}
 
@@ -20,12 +20,9 @@ unfoldable pub ways : ℕ → ℕ → ℕ → ℕ
 ways L zero n = cond (eqb n 0) 1 0
 ways L (suc k) n = upTo L (λ i. rest i (ways L k) n)
 
--- Entry n of a table in rows of ten; and the rule, of a table of 190 entries.
-abbrev pub entry : List (List ℕ) → ℕ → ℕ
-entry table n = getD (getD table (n / 10) []) (n % 10) 0
-
+-- The rule of a table of 190 entries, in rows of ten: entry n is the number of ways to write n as a sum of three numbers from 0 to 63.
 abbrev pub HoldsWays : List (List ℕ) → Type 0
-HoldsWays table = (n : ℕ) → n < 190 → entry table n ≡ ways 64 3 n
+HoldsWays table = (row place : ℕ) → row < 19 → place < 10 → getD (getD table row []) place 0 ≡ ways 64 3 (row * 10 + place)
 
 -- The entries total 262,144.
 abbrev pub Total : Type 0

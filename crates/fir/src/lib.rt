@@ -99,11 +99,17 @@ fn weigh(cells: &[i32; 190], input: &[i32], taken: usize) -> i32
     let taps = table();
     let mut sum: i32 = 0;
     let mut n: usize = 0;
-    while n < 190 {
-        let tap = taps[n / 10][n % 10];
-        let x = input_back(cells, input, taken, n);
-        sum = add_i32(sum, mul_i32(u32_as_i32(tap), x));
-        n += 1;
+    let mut row: usize = 0;
+    while row < 19 {
+        let mut place: usize = 0;
+        while place < 10 {
+            let tap = taps[row][place];
+            let x = input_back(cells, input, taken, n);
+            sum = add_i32(sum, mul_i32(u32_as_i32(tap), x));
+            n += 1;
+            place += 1;
+        }
+        row += 1;
     }
     sum
 }
