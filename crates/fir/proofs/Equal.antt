@@ -78,8 +78,9 @@ one {s} {t} (Called.decimate {xs = xs} {ys = ys} x r p rest) =
       o .1 ∙ ap (λ (a : Stepped). after (a .state) xs) p,
     )
 one {s} {t} (Called.decimate-block {xs = xs} {ys = ys} us lent left r p q rest) =
+    let wrote = decimatedOf s us lent in
     subst (λ (a : Decimated). One s (tookBlock (a .wrote) us ++ xs) (gaveBlock (a .wrote) left ++ ys) t) (sym p)
-    (subst (λ (l : List ℤ). One s (tookBlock (decimatedOf s us lent .wrote) us ++ xs) (gaveBlock (decimatedOf s us lent .wrote) l ++ ys) t) (sym q)
+    (subst (λ (l : List ℤ). One s (tookBlock (wrote .wrote) us ++ xs) (gaveBlock (wrote .wrote) l ++ ys) t) (sym q)
     (one-block s t us lent xs ys (blockNumber s us lent) (subst (λ (a : Decimated). One (a .state) xs ys t) p (one rest))))
 
 pub one-list : OneList
@@ -136,11 +137,13 @@ cellsAt x (suc t) = taken (cellsAt x t) (x t)
 cells-weigh : (x : ℕ → ℤ) (t : ℕ) (h : ℕ → ℕ) → ((n : ℕ) → 190 ≤ n → h n ≡ 0) → weights h (cellsAt x (suc t)) ≡ weighs h x t
 unfolding cellsAt taken weights weighs
 cells-weigh x zero h e =
-    ap (λ y. pos (h 0) *ℤ x 0 +ℤ y) (trim 189 (λ n. h (suc n)) (replicate 190 (pos 0)) (λ n k. e (suc n) (omega arith)) ∙ weights-zeros (λ n. h (suc n)) 190)
+    ap (λ y. pos (h 0) *ℤ x 0 +ℤ y)
+    (trim 189 (λ n. h (suc n)) (replicate 190 (pos 0)) (λ n k. e (suc n) (omega arith)) ∙ weights-zeros (λ n. h (suc n)) 190)
     ∙ +ℤ-idr (pos (h 0) *ℤ x 0)
 cells-weigh x (suc t) h e =
     ap (λ y. pos (h 0) *ℤ x (suc t) +ℤ y)
-    (trim 189 (λ n. h (suc n)) (cellsAt x (suc t)) (λ n k. e (suc n) (omega arith)) ∙ cells-weigh x t (λ n. h (suc n)) (λ n k. e (suc n) (omega arith)))
+    (trim 189 (λ n. h (suc n)) (cellsAt x (suc t)) (λ n k. e (suc n) (omega arith))
+    ∙ cells-weigh x t (λ n. h (suc n)) (λ n k. e (suc n) (omega arith)))
 
 -- what the engine gives after input number t
 value : (ℕ → ℤ) → ℕ → ℤ
@@ -180,7 +183,8 @@ first-is : (x : ℕ → ℤ) (t : ℕ) (y : ℤ) (xs : List ℤ) → Follows x t
 unfolding Follows
 first-is x t y xs h = h 0 (omega arith) ∙ ap x (omega arith)
 
-engine-placed : (x : ℕ → ℤ) (xs : List ℤ) (t c : ℕ) → Follows x t xs → (k : ℕ) → getElem? (outputsFrom (cellsAt x t) c xs) k ≡ placed x t c (length xs) k
+engine-placed : (x : ℕ → ℤ) (xs : List ℤ) (t c : ℕ) → Follows x t xs
+    → (k : ℕ) → getElem? (outputsFrom (cellsAt x t) c xs) k ≡ placed x t c (length xs) k
 unfolding outputsFrom placed cellsAt
 engine-placed x [] t c h k = sym (ap (λ (b : Bool). cond b (some (value x (t + (c + k * 64)))) none) (le-ltb (c + k * 64) 0 (omega arith)))
 engine-placed x (y ∷ xs) t zero h zero =

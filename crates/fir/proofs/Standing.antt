@@ -41,7 +41,9 @@ kept-new h (x ∷ xs) n a b =
     ⊎-elim
     (λ z. let e : n - length xs ≡ 0 = omega arith in
     let f : suc (length xs) - 1 - n ≡ 0 = omega arith in
-    kept-old (taken h x) xs n (omega arith) b ∙ ap (λ (m : ℕ). getD (x ∷ take 189 h) m (pos 0)) e ∙ sym (ap (λ (m : ℕ). getD (x ∷ xs) m (pos 0)) f))
+    kept-old (taken h x) xs n (omega arith) b
+    ∙ ap (λ (m : ℕ). getD (x ∷ take 189 h) m (pos 0)) e
+    ∙ sym (ap (λ (m : ℕ). getD (x ∷ xs) m (pos 0)) f))
     (λ p. let f : suc (length xs) - 1 - n ≡ suc (length xs - 1 - n) = omega arith in
     kept-new (taken h x) xs n (omega arith) b ∙ sym (ap (λ (m : ℕ). getD (x ∷ xs) m (pos 0)) f))
     (eq-zero-or-pos (length xs - n))
@@ -51,7 +53,9 @@ module _ (h xs : List ℤ) (u n : ℕ) (fits : u ≤ length xs) (few : n < 190) 
   pub upto-new : n < u → getD xs (u - 1 - n) (pos 0) ≡ getD (kept h (take u xs)) n (pos 0)
   upto-new a =
       let e : length (take u xs) ≡ u = length-take-le u xs fits in
-      sym (kept-new h (take u xs) n (omega arith) few ∙ ap (λ (m : ℕ). getD (take u xs) (m - 1 - n) (pos 0)) e ∙ getD-take u xs (u - 1 - n) (pos 0) (omega arith))
+      sym (kept-new h (take u xs) n (omega arith) few
+      ∙ ap (λ (m : ℕ). getD (take u xs) (m - 1 - n) (pos 0)) e
+      ∙ getD-take u xs (u - 1 - n) (pos 0) (omega arith))
 
   pub upto-old : u ≤ n → getD h (n - u) (pos 0) ≡ getD (kept h (take u xs)) n (pos 0)
   upto-old a =
@@ -71,13 +75,17 @@ pub keeps-turn : (l c : List ℤ) (n : ℕ) (v : ℤ) → n < 190 → Keeps l n 
 keeps-turn l c n v h s e = record {
   few = omega arith;
   long = length-set c n v ∙ s .long;
-  made = λ k a. ⊎-elim (same k a) (λ p. getD-set-other c n k v (pos 0) (λ q. omega arith) ∙ s .made k (omega arith)) (eq-zero-or-pos (n - k));
+  made = λ k a.
+      ⊎-elim (same k a) (λ p. getD-set-other c n k v (pos 0) (λ q. omega arith) ∙ s .made k (omega arith)) (eq-zero-or-pos (n - k));
 }
   where
     same : (k : ℕ) → k < n + 1 → n - k ≡ 0 → getD (set c n v) k (pos 0) ≡ getD l k (pos 0)
     same k a z =
         let at : k ≡ n = omega arith in
-        ap (λ (m : ℕ). getD (set c n v) m (pos 0)) at ∙ getD-set-same c n v (pos 0) (omega (arith, s .long)) ∙ e ∙ ap (λ (m : ℕ). getD l m (pos 0)) (sym at)
+        ap (λ (m : ℕ). getD (set c n v) m (pos 0)) at
+        ∙ getD-set-same c n v (pos 0) (omega (arith, s .long))
+        ∙ e
+        ∙ ap (λ (m : ℕ). getD l m (pos 0)) (sym at)
 
 pub keeps-end : (l c : List ℤ) (n : ℕ) → 190 ≤ n → length l ≡ 190 → Keeps l n c → c ≡ l
 keeps-end l c n h k s = ext-getD (pos 0) c l (s .long ∙ sym k) (λ i a. s .made i (omega (arith, s .long)))
@@ -89,7 +97,9 @@ unfolding outputsFrom
 outputsFrom-length h c [] = sym (needed-none c 63)
 outputsFrom-length h zero (x ∷ xs) = ap suc (outputsFrom-length (taken h x) 63 xs) ∙ sym (needed-give (length xs) 0 63 refl)
 outputsFrom-length h (suc c) (x ∷ xs) =
-    outputsFrom-length (taken h x) c xs ∙ sym (needed-wait (length xs) (suc c) 63 (omega arith) ∙ ap (λ (m : ℕ). needed (length xs) m 63) (let e : suc c - 1 ≡ c = omega arith in e))
+    outputsFrom-length (taken h x) c xs
+    ∙ sym (needed-wait (length xs) (suc c) 63 (omega arith)
+    ∙ ap (λ (m : ℕ). needed (length xs) m 63) (let e : suc c - 1 ≡ c = omega arith in e))
 
 pub outputsFrom-at : (h : List ℤ) (c : ℕ) (xs : List ℤ) (k : ℕ) → k < length (outputsFrom h c xs)
     → getD (outputsFrom h c xs) k (pos 0) ≡ weighed (kept h (take (suc (c + k * 64)) xs))
@@ -109,7 +119,8 @@ unfolding dueIn
 due-in c zero = let z = needed-none c 63 in rw z (omega arith)
 due-in zero (suc n) = let z = needed-give n 0 63 refl in due-in 63 n ∙ rw z (omega arith)
 due-in (suc c) (suc n) =
-    let z : needed (suc n) (suc c) 63 ≡ needed n c 63 = needed-wait n (suc c) 63 (omega arith) ∙ ap (λ (m : ℕ). needed n m 63) (let e : suc c - 1 ≡ c = omega arith in e) in
+    let z : needed (suc n) (suc c) 63 ≡ needed n c 63 = needed-wait n (suc c) 63 (omega arith)
+    ∙ ap (λ (m : ℕ). needed n m 63) (let e : suc c - 1 ≡ c = omega arith in e) in
     due-in c n ∙ rw z (omega arith)
 
 pub due-small : (c n : ℕ) → c < 2 ^ 32 → dueIn c n < 2 ^ 32
@@ -145,12 +156,15 @@ module _ (h : List ℤ) (c : ℕ) (xs old : List ℤ) (room : needed (length xs)
       let f = d .few in let l = outputsFrom-length h c xs in
       ap length (d .out-is) ∙ length-paste old 0 (outputsFrom h c xs) k (omega arith) (omega arith)
 
-  pub weighs-turn : (i k : ℕ) (out : List ℤ) (v : ℤ) → i < length xs → WeighsEach h c xs old i k out → v ≡ weighed (kept h (take (i + 1) xs))
+  pub weighs-turn : (i k : ℕ) (out : List ℤ) (v : ℤ) → i < length xs → WeighsEach h c xs old i k out
+      → v ≡ weighed (kept h (take (i + 1) xs))
       → WeighsEach h c xs old (i + 64) (k + 1) (set out k v)
   weighs-turn i k out v a d e =
       let at = d .at in let b = due k (omega arith) in let l = outputsFrom-length h c xs in
       let s : i + 1 ≡ suc (c + k * 64) = omega arith in
-      let w : v ≡ getD (outputsFrom h c xs) k (pos 0) = e ∙ ap (λ (m : ℕ). weighed (kept h (take m xs))) s ∙ sym (outputsFrom-at h c xs k (omega arith)) in
+      let w : v ≡ getD (outputsFrom h c xs) k (pos 0) = e
+      ∙ ap (λ (m : ℕ). weighed (kept h (take m xs))) s
+      ∙ sym (outputsFrom-at h c xs k (omega arith)) in
       record {
         at = omega arith;
         few = omega arith;
@@ -169,5 +183,7 @@ module _ (h : List ℤ) (c : ℕ) (xs old : List ℤ) (room : needed (length xs)
       let g : k ≡ length (outputsFrom h c xs) = e ∙ sym l in
       let r = due-in c (length xs) in (
         rw r (ap (λ (m : ℕ). m - length xs) (at ∙ ap (λ (m : ℕ). c + m * 64) e)),
-        d .out-is ∙ ap₂ (λ (m n : ℕ). [] ++ take m (outputsFrom h c xs) ++ drop n old) g (zero-add k ∙ g) ∙ ap (λ (t : List ℤ). t ++ drop (length (outputsFrom h c xs)) old) (take-length (outputsFrom h c xs)),
+        d .out-is
+            ∙ ap₂ (λ (m n : ℕ). [] ++ take m (outputsFrom h c xs) ++ drop n old) g (zero-add k ∙ g)
+            ∙ ap (λ (t : List ℤ). t ++ drop (length (outputsFrom h c xs)) old) (take-length (outputsFrom h c xs)),
       )

@@ -27,7 +27,8 @@ later-on : (n : ℕ) (l : List ℤ) → n < length l → later n l ≡ pos (ways
 unfolding later weights
 later-on n l h =
     ap (weights (λ k. ways 64 3 (n + k))) (drop-cons l n (pos 0) h)
-    ∙ ap₂ (λ (m : ℕ) (g : ℕ → ℕ). pos (ways 64 3 m) *ℤ getD l n (pos 0) +ℤ weights g (drop (suc n) l)) (add-zero n) (fun-ext (λ k. ap (ways 64 3) (let e : n + suc k ≡ suc n + k = omega arith in e)))
+    ∙ ap₂ (λ (m : ℕ) (g : ℕ → ℕ). pos (ways 64 3 m) *ℤ getD l n (pos 0) +ℤ weights g (drop (suc n) l)) (add-zero n)
+    (fun-ext (λ k. ap (ways 64 3) (let e : n + suc k ≡ suc n + k = omega arith in e)))
 
 later-none : (l : List ℤ) → length l ≡ 190 → later 190 l ≡ pos 0
 unfolding later weights
@@ -54,7 +55,8 @@ sums-turn l n sum t r h k s e f =
     record {
       few = omega arith;
       left = subst (λ (m : ℕ). Same w32 (r +ℤ later m l) (weights (ways 64 3) l)) (sym (add-one n))
-          ((same-add q (equal {a = later (suc n) l} refl) and equal (+ℤ-assoc sum (a *ℤ x) (later (suc n) l) ∙ ap (λ y. sum +ℤ y) (sym (later-on n l (omega arith))))) and s .left);
+          ((same-add q (equal {a = later (suc n) l} refl)
+          and equal (+ℤ-assoc sum (a *ℤ x) (later (suc n) l) ∙ ap (λ y. sum +ℤ y) (sym (later-on n l (omega arith))))) and s .left);
       word = rw f (wrap-wrap w32 (sum +ℤ wrap w32 (t *ℤ x)));
     }
 
@@ -62,4 +64,5 @@ pub sums-end : (l : List ℤ) (n : ℕ) (sum : ℤ) → 190 ≤ n → length l �
 unfolding weighed
 sums-end l n sum h k s =
     let e : n ≡ 190 = omega (arith, s .few) in
-    sym (s .word) ∙ wrap-same (equal (sym (+ℤ-idr sum) ∙ ap (λ y. sum +ℤ y) (sym (ap (λ (m : ℕ). later m l) e ∙ later-none l k))) and s .left)
+    sym (s .word)
+    ∙ wrap-same (equal (sym (+ℤ-idr sum) ∙ ap (λ y. sum +ℤ y) (sym (ap (λ (m : ℕ). later m l) e ∙ later-none l k))) and s .left)

@@ -66,7 +66,10 @@ entries = windows 64 [] (windows 64 [] (windows 64 [] (row 0 190 (ways 64 0))))
 
 entries-are : entries ≡ row 0 190 (ways 64 3)
 unfolding entries
-entries-are = ap (λ (r : List ℕ). windows 64 [] (windows 64 [] r)) (row-more 64 0 190) ∙ ap (windows 64 []) (row-more 64 1 190) ∙ row-more 64 2 190
+entries-are =
+    ap (λ (r : List ℕ). windows 64 [] (windows 64 [] r)) (row-more 64 0 190)
+    ∙ ap (windows 64 []) (row-more 64 1 190)
+    ∙ row-more 64 2 190
 
 -- in rows of ten
 unfoldable pub tens : ℕ → List ℕ → List (List ℕ)
@@ -83,7 +86,10 @@ getD-tens : (m : ℕ) (l : List ℕ) (i j : ℕ) → i < m → j < 10 → getD (
 unfolding tens
 getD-tens zero l i j a b = absurd (omega arith)
 getD-tens (suc m) l zero j a b = getD-take 10 l j 0 b ∙ ap (λ (k : ℕ). getD l k 0) (let e : j ≡ 0 * 10 + j = omega arith in e)
-getD-tens (suc m) l (suc i) j a b = getD-tens m (drop 10 l) i j (omega arith) b ∙ getD-drop 10 l (i * 10 + j) 0 ∙ ap (λ (k : ℕ). getD l k 0) (let e : 10 + (i * 10 + j) ≡ suc i * 10 + j = omega arith in e)
+getD-tens (suc m) l (suc i) j a b =
+    getD-tens m (drop 10 l) i j (omega arith) b
+    ∙ getD-drop 10 l (i * 10 + j) 0
+    ∙ ap (λ (k : ℕ). getD l k 0) (let e : 10 + (i * 10 + j) ≡ suc i * 10 + j = omega arith in e)
 
 -- a table that passes the test holds the ways
 pub table-is : (table : List (List ℕ)) → table ≡ tens 19 entries → HoldsWays table
@@ -99,11 +105,16 @@ row-total : (N n : ℕ) (h : ℕ → ℕ) → total (row n N h) ≡ upTo N (λ i
 unfolding total row upTo
 row-total zero n h = refl
 row-total (suc N) n h =
-    ap₂ _+_ (ap h (let e : n ≡ n + 0 = omega arith in e)) (row-total N (suc n) h ∙ ap (upTo N) (fun-ext (λ i. ap h (let e : suc n + i ≡ n + suc i = omega arith in e))))
+    ap₂ _+_ (ap h (let e : n ≡ n + 0 = omega arith in e))
+    (row-total N (suc n) h ∙ ap (upTo N) (fun-ext (λ i. ap h (let e : suc n + i ≡ n + suc i = omega arith in e))))
 
 sum-is : total entries ≡ 262144
 unfolding entries total windows row ways
 sum-is = refl
 
 pub entries-total : Total
-entries-total = ap (upTo 190) (fun-ext (λ i. ap (ways 64 3) (sym (zero-add i)))) ∙ sym (row-total 190 0 (ways 64 3)) ∙ sym (ap total entries-are) ∙ sum-is
+entries-total =
+    ap (upTo 190) (fun-ext (λ i. ap (ways 64 3) (sym (zero-add i))))
+    ∙ sym (row-total 190 0 (ways 64 3))
+    ∙ sym (ap total entries-are)
+    ∙ sum-is

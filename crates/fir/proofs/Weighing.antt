@@ -63,7 +63,9 @@ weighs h x (suc t) = pos (h 0) *ℤ x (suc t) +ℤ weighs (λ n. h (suc n)) x t
 
 medial : (a b c d : ℤ) → (a +ℤ b) +ℤ (c +ℤ d) ≡ (a +ℤ c) +ℤ (b +ℤ d)
 medial a b c d =
-    +ℤ-assoc a b (c +ℤ d) ∙ ap (λ y. a +ℤ y) (sym (+ℤ-assoc b c d) ∙ ap (λ y. y +ℤ d) (+ℤ-comm b c) ∙ +ℤ-assoc c b d) ∙ sym (+ℤ-assoc a c (b +ℤ d))
+    +ℤ-assoc a b (c +ℤ d)
+    ∙ ap (λ y. a +ℤ y) (sym (+ℤ-assoc b c d) ∙ ap (λ y. y +ℤ d) (+ℤ-comm b c) ∙ +ℤ-assoc c b d)
+    ∙ sym (+ℤ-assoc a c (b +ℤ d))
 
 neg-add : (a b : ℕ) → negℤ (pos a) +ℤ negℤ (pos b) ≡ negℤ (pos (a + b))
 neg-add a b = sym (negℤ-+ℤ (pos a) (pos b))
@@ -93,7 +95,8 @@ unfolding weighs late
 weigh-late zero h x t = weigh-same (rest 0 h) h x t (rest-none h)
 weigh-late (suc i) h x zero = ap (λ (m : ℕ). pos m *ℤ x 0) (rest-early i h) ∙ zero-*ℤ (x 0)
 weigh-late (suc i) h x (suc t) =
-    ap₂ (λ (m : ℕ) y. pos m *ℤ x (suc t) +ℤ y) (rest-early i h) (weigh-same (λ n. rest (suc i) h (suc n)) (rest i h) x t (rest-on i h) ∙ weigh-late i h x t)
+    ap₂ (λ (m : ℕ) y. pos m *ℤ x (suc t) +ℤ y) (rest-early i h)
+    (weigh-same (λ n. rest (suc i) h (suc n)) (rest i h) x t (rest-on i h) ∙ weigh-late i h x t)
     ∙ ap (λ y. y +ℤ late i (weighs h x) t) (zero-*ℤ (x (suc t)))
     ∙ +ℤ-idl (late i (weighs h x) t)
 
@@ -101,7 +104,9 @@ weigh-late (suc i) h x (suc t) =
 weigh-upTo : (L : ℕ) (g : ℕ → ℕ → ℕ) (x : ℕ → ℤ) (t : ℕ) → weighs (λ n. upTo L (λ i. g i n)) x t ≡ sumTo L (λ i. weighs (g i) x t)
 unfolding upTo sumTo
 weigh-upTo zero g x t = weigh-none x t
-weigh-upTo (suc L) g x t = weigh-sum (g 0) (λ n. upTo L (λ i. g (suc i) n)) x t ∙ ap (λ y. weighs (g 0) x t +ℤ y) (weigh-upTo L (λ i. g (suc i)) x t)
+weigh-upTo (suc L) g x t =
+    weigh-sum (g 0) (λ n. upTo L (λ i. g (suc i) n)) x t
+    ∙ ap (λ y. weighs (g 0) x t +ℤ y) (weigh-upTo L (λ i. g (suc i)) x t)
 
 one-times : (x : ℤ) → pos 1 *ℤ x ≡ x
 one-times (pos n) = ap pos (one-mul n)
@@ -111,7 +116,9 @@ one-weighs : (L : ℕ) (x : ℕ → ℤ) (t : ℕ) → weighs (ways L 0) x t ≡
 unfolding weighs ways
 one-weighs L x zero = one-times (x 0)
 one-weighs L x (suc t) =
-    ap₂ _+ℤ_ (one-times (x (suc t))) (weigh-same (λ n. cond (eqb (suc n) 0) 1 0) (λ n. 0) x t (λ n. ap (λ (b : Bool). cond b 1 0) (ne-eqb (suc n) 0 (λ e. omega arith))) ∙ weigh-none x t)
+    ap₂ _+ℤ_ (one-times (x (suc t)))
+    (weigh-same (λ n. cond (eqb (suc n) 0) 1 0) (λ n. 0) x t
+    (λ n. ap (λ (b : Bool). cond b 1 0) (ne-eqb (suc n) 0 (λ e. omega arith))) ∙ weigh-none x t)
     ∙ +ℤ-idr (x (suc t))
 
 pub moving-weighs : (L k : ℕ) (x : ℕ → ℤ) (t : ℕ) → moving exactOps L k x t ≡ weighs (ways L k) x t

@@ -1,5 +1,5 @@
--- 02, A6: the engine equals the decimator of order 3, M 1, rate 63, said of the answers that a caller of either holds: a few definitions, then
--- the statements, nothing else. Each is proved in proofs/Equal.antt.
+-- 02, A6: the engine equals the decimator of order 3, M 1, rate 63, said of the answers that a caller of either holds: a few
+-- definitions, then the statements, nothing else. Each is proved in proofs/Equal.antt.
 use mathlib.Core.Path.{_≡_}
 use mathlib.Core.List.{List, [], _∷_, _++_}
 use lib.IntN.{ℤ}
@@ -19,7 +19,8 @@ use Rattle.fir.specs.declared.Wrote.the-variants.{Outputs, Refused}
 use Rattle.fir.specs.declared.Decimated.{Decimated}
 use Rattle.fir.specs.Calls.{fresh, steppedOf, outputOf, outputs, after, decimatedOf, writtenOf}
 
--- What a block took in and gave, by its answer: a refused one nothing. It gave the first of the slice that it leaves, as many as it answers.
+-- What a block took in and gave, by its answer: a refused one nothing. It gave the first of the slice that it leaves, as many as it
+-- answers.
 abbrev pub tookBlock : Wrote → List ℤ → List ℤ
 tookBlock (Outputs n) us = us
 tookBlock (Refused k) us = []

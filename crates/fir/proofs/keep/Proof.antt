@@ -26,8 +26,8 @@ loop-holds c = keeps-start (kept (c .args .cells .now) (c .args .input .now)) _ 
 loop-again : tie.Need-loop-again Inv-loop μ-loop
 loop-again c =
     let turn = c .before .before in let l = turn .loop in let a = turn .before .args in
-    keeps-turn (kept (a .cells .now) (a .input .now)) (l .last) (l .n) (toZ w32 (ofZ w32 (c .input-back .result))) (c .before .loop-test .taken)
-    (l .inv)
+    keeps-turn (kept (a .cells .now) (a .input .now)) (l .last) (l .n) (toZ w32 (ofZ w32 (c .input-back .result)))
+    (c .before .loop-test .taken) (l .inv)
     (read w32 (c .input-back .result) (c .input-back .ok) ∙ c .input-back .ensures
     ∙ ap (λ (xs : List ℤ). getD (kept (a .cells .now) xs) (l .n) (pos 0)) (take-length (a .input .now)))
 

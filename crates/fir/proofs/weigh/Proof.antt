@@ -57,7 +57,8 @@ loop2-again c =
       omega arith,
       sums-turn (kept (a .cells .now) xs) n (toZ w32 (l .loop2 .sum)) (u .u32-as-i32 .result) (toZ w32 (ofZ w32 (c .add-i32 .result)))
           (omega (arith, at .1, at .2)) (kept-length (a .cells .now) xs (p .pre .0)) (at .4)
-          (u .u32-as-i32 .ensures ∙ ap (λ (k : ℕ). wrap w32 (pos k)) (at .0 row place (at .2) (i .loop2-test .taken) ∙ ap (ways 64 3) (sym (at .1))))
+          (u .u32-as-i32 .ensures
+          ∙ ap (λ (k : ℕ). wrap w32 (pos k)) (at .0 row place (at .2) (i .loop2-test .taken) ∙ ap (ways 64 3) (sym (at .1))))
           (read w32 (c .add-i32 .result) (c .add-i32 .ok) ∙ (rw (
             read w32 (m .mul-i32 .result) (m .mul-i32 .ok),
             m .mul-i32 .ensures,

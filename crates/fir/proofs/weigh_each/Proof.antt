@@ -38,7 +38,8 @@ loop-again c =
 same-length : tie.Need-same-length Inv-loop μ-loop
 same-length c =
     let l = c .before in let p = l .before in let a = p .args in
-    let r = weighs-long (a .cells .now) (a .countdown) (a .input .now) (a .out .now) (p .pre .2) (l .loop .due) (l .loop .k) (l .loop .out) (l .loop .inv) in
+    let r = weighs-long (a .cells .now) (a .countdown) (a .input .now) (a .out .now) (p .pre .2) (l .loop .due) (l .loop .k)
+    (l .loop .out) (l .loop .inv) in
     search needs
 
 returns : tie.Need-returns Inv-loop μ-loop
