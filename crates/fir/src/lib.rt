@@ -1,7 +1,7 @@
 // A filter that an inspector can read (02, A6): the decimator of order 3, M = 1, R = 64, as 190 weights on the last
-// 190 inputs. `decimate` takes one input, `decimate_block` a slice of them; no state is bad and no sum is lost, since
-// all sums are modulo 2^32. Callers cite specs/Calls (each answer), which leans on specs/Ways (the rule of the table)
-// and specs/Weights (what an output is), and specs/Equal: the decimator's own calls give the same outputs.
+// 190 inputs. All sums are modulo 2^32. `Fir::new` starts from zeros, `decimate` takes one input, `decimate_block` a
+// slice of them; no state is bad. Callers cite specs/Calls (each answer), which leans on specs/Ways (the table's rule)
+// and specs/Weights (what an output is). specs/Equal says that the decimator's own calls give the same outputs.
 use shape::runs::low_rate;
 use words::casts::u32_as_i32;
 use words::signed::add_i32;
@@ -40,8 +40,8 @@ const TAPS: [[u32; 10]; 19] = [
     [55, 45, 36, 28, 21, 15, 10, 6, 3, 1],
 ];
 
-// The engine: the last 190 inputs, the newest first, and how many inputs come before the next output's. Every such
-// value is a state.
+// The engine: the last 190 inputs, the newest first, and how many inputs come before the one that gives the next
+// output. Whatever these hold, it is a state.
 pub struct Fir {
     pub cells: [i32; 190],
     pub countdown: u32,
@@ -71,7 +71,7 @@ pub struct Decimated {
     pub wrote: Wrote,
 }
 
-// The table, once for each output.
+// The whole table, which `weigh` takes once for an output.
 fn table() -> [[u32; 10]; 19]
     ensures { λ r. ⌜ HoldsWays r ⌝ }
 {
@@ -91,7 +91,8 @@ fn input_back(cells: &[i32; 190], input: &[i32], taken: usize, n: usize) -> i32
     cells[at]
 }
 
-// The output when the first `taken` of input have come: the last 190 inputs, each times its weight, added up.
+// The output when the first `taken` of input have come: the last 190 inputs, each times its entry of the table, added
+// up. n counts the places back, row by row of the table.
 fn weigh(cells: &[i32; 190], input: &[i32], taken: usize) -> i32
     requires { ⌜ (length (now cells) ≡ 190) × (taken ≤ length (now input)) ⌝ }
     ensures { λ r. ⌜ r ≡ weighed (kept (now (cells .entry)) (take taken (now (input .entry)))) ⌝ }
