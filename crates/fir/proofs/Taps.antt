@@ -6,17 +6,13 @@ use native.Mathlib.Nat.{zero-add}
 use native.Mathlib.Omega.{arith}
 use lib.ListN.{take, drop, getD}
 use lib.Seq.{getD-take, getD-drop}
-use Rattle.fir.specs.Ways.{upTo, ways, rest, HoldsWays, Total}
+use Rattle.fir.specs.Ways.{upTo, ways, rest, HoldsWays, sum}
 use Rattle.fir.proofs.Weighing.{rest-none, rest-early, rest-on}
-
-unfoldable pub total : List ℕ → ℕ
-total [] = 0
-total (x ∷ xs) = x + total xs
 
 -- the sums of the last L elements, along a list; those before it are given newest first
 unfoldable pub windows : ℕ → List ℕ → List ℕ → List ℕ
 windows L seen [] = []
-windows L seen (x ∷ xs) = total (take L (x ∷ seen)) ∷ windows L (x ∷ seen) xs
+windows L seen (x ∷ xs) = sum (take L (x ∷ seen)) ∷ windows L (x ∷ seen) xs
 
 -- N values of h from number n on, and those before number n, newest first
 unfoldable pub row : ℕ → ℕ → (ℕ → ℕ) → List ℕ
@@ -39,13 +35,13 @@ zeros (suc L) = zero-add (upTo L (λ i. 0)) ∙ zeros L
 none : (L : ℕ) (h : ℕ → ℕ) → upTo L (λ i. rest (suc i) h 0) ≡ 0
 none L h = ap (upTo L) (fun-ext (λ i. rest-early i h)) ∙ zeros L
 
-none-seen : (L : ℕ) → total (take L []) ≡ 0
-unfolding total
+none-seen : (L : ℕ) → sum (take L []) ≡ 0
+unfolding sum
 none-seen zero = refl
 none-seen (suc L) = refl
 
-window-is : (L : ℕ) (h : ℕ → ℕ) (n : ℕ) → total (take L (newest h (suc n))) ≡ more L h n
-unfolding total newest more upTo
+window-is : (L : ℕ) (h : ℕ → ℕ) (n : ℕ) → sum (take L (newest h (suc n))) ≡ more L h n
+unfolding sum newest more upTo
 window-is zero h n = refl
 window-is (suc L) h zero = ap₂ _+_ (sym (rest-none h 0)) (none-seen L ∙ sym (none L h))
 window-is (suc L) h (suc n) = ap₂ _+_ (sym (rest-none h (suc n))) (window-is L h n ∙ ap (upTo L) (fun-ext (λ i. sym (rest-on i h n))))
@@ -99,22 +95,3 @@ table-is table e i j h k =
     ∙ ap (λ (r : List ℕ). getD r (i * 10 + j) 0) entries-are
     ∙ row-at 190 0 (ways 64 3) (i * 10 + j) (omega arith)
     ∙ ap (ways 64 3) (zero-add (i * 10 + j))
-
--- the sum
-row-total : (N n : ℕ) (h : ℕ → ℕ) → total (row n N h) ≡ upTo N (λ i. h (n + i))
-unfolding total row upTo
-row-total zero n h = refl
-row-total (suc N) n h =
-    ap₂ _+_ (ap h (let e : n ≡ n + 0 = omega arith in e))
-    (row-total N (suc n) h ∙ ap (upTo N) (fun-ext (λ i. ap h (let e : suc n + i ≡ n + suc i = omega arith in e))))
-
-sum-is : total entries ≡ 262144
-unfolding entries total windows row ways
-sum-is = refl
-
-pub entries-total : Total
-entries-total =
-    ap (upTo 190) (fun-ext (λ i. ap (ways 64 3) (sym (zero-add i))))
-    ∙ sym (row-total 190 0 (ways 64 3))
-    ∙ sym (ap total entries-are)
-    ∙ sum-is

@@ -1,7 +1,7 @@
 -- 02, A6: the table's rule.
 use mathlib.Core.Path.{_≡_}
 use mathlib.Core.Bool.{cond}
-use mathlib.Core.List.{List, []}
+use mathlib.Core.List.{List, [], _∷_}
 use Prim.Native.Nat.{ℕ, zero, suc, _+_, _-_, _*_, _<_}
 use lib.Dec.{leb, eqb}
 use lib.ListN.{getD}
@@ -24,6 +24,15 @@ ways L (suc k) n = upTo L (λ i. rest i (ways L k) n)
 abbrev pub HoldsWays : List (List ℕ) → Type 0
 HoldsWays table = (row place : ℕ) → row < 19 → place < 10 → getD (getD table row []) place 0 ≡ ways 64 3 (row * 10 + place)
 
--- The entries total 262,144.
-abbrev pub Total : Type 0
-Total = upTo 190 (ways 64 3) ≡ 262144
+-- The sum of all entries.
+unfoldable pub sum : List ℕ → ℕ
+sum [] = 0
+sum (n ∷ l) = n + sum l
+
+unfoldable pub total : List (List ℕ) → ℕ
+total [] = 0
+total (row ∷ table) = sum row + total table
+
+-- 02, A6: the table holds the ways, and its entries total 262,144.
+abbrev pub Table : List (List ℕ) → Type 0
+Table table = HoldsWays table × (total table ≡ 262144)

@@ -11,7 +11,7 @@ ghost use Prim.Native.Nat.{_<_, _≤_, _^_};
 ghost use lib.IntN.{pos};
 ghost use lib.ListN.{length, getD, take};
 ghost use Rattle.sums.specs.Runs.{needed, over};
-ghost use Rattle.fir.specs.Ways.{HoldsWays};
+ghost use Rattle.fir.specs.Ways.{Table};
 ghost use Rattle.fir.specs.Weights.{weighed};
 ghost use Rattle.fir.specs.Calls.{fresh, steppedOf, decimatedOf, writtenOf};
 ghost use Rattle.fir.specs.Inner.{kept, dueIn, outputsFrom};
@@ -73,7 +73,7 @@ pub struct Decimated {
 
 // The whole table, which `weigh` takes once for an output.
 fn table() -> [[u32; 10]; 19]
-    ensures { λ r. ⌜ HoldsWays r ⌝ }
+    ensures { λ r. ⌜ Table r ⌝ }
 {
     TAPS
 }

@@ -33,7 +33,7 @@ abbrev μ-loop : tie.MeasureT-loop
 loop-holds : tie.Need-loop-holds Inv-loop2 μ-loop2 Inv-loop μ-loop
 loop-holds c =
     let p : tie.Start Inv-loop2 μ-loop2 Inv-loop μ-loop = search in let a = p .args in
-    (c .table .ensures, omega arith, sums-start (kept (a .cells .now) (take (a .taken) (a .input .now))))
+    (c .table .ensures .0, omega arith, sums-start (kept (a .cells .now) (take (a .taken) (a .input .now))))
 
 loop2-holds : tie.Need-loop2-holds Inv-loop2 μ-loop2 Inv-loop μ-loop
 loop2-holds c =
