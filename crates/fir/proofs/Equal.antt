@@ -18,12 +18,12 @@ use Rattle.blocks.specs.Verdicts.{verdictOf}
 use Rattle.blocks.specs.Blocks.{unless}
 use Rattle.sums.specs.Signed.{exactOps}
 use Rattle.sums.specs.Moving.{moving}
-use Rattle.sums.specs.Machine.{Output}
+use Rattle.sums.specs.Counted.{Numbered, plain}
 use Rattle.sums.specs.State.{refusalOf}
 use Rattle.sums.specs.Runs.{needed, values, over}
 use Rattle.sums.specs.Demands.{input, modulo, Decimates}
 use Rattle.cic.specs.declared.state.Made.{Made}
-use Rattle.cic.proofs.Demands.{after-new}
+use Rattle.demands.proofs.Demands.{after-new}
 use Rattle.fir.specs.Ways.{upTo, rest, ways}
 use Rattle.fir.specs.Weights.{taken, weights, weighed}
 use Rattle.fir.specs.declared.Fir.{Fir}
@@ -205,30 +205,30 @@ engine-placed x (y ∷ xs) t (suc c) h k =
 
 -- ---- the decimator's
 
-record Found (ys : List (Output ℤ)) (k : ℕ) : Type 0 where
-  output : Output ℤ
+record Found (ys : List (Numbered ℤ)) (k : ℕ) : Type 0 where
+  output : Numbered ℤ
   is : getElem? ys k ≡ some output
-  number : getElem? (values ys) k ≡ some (output .value)
+  number : getElem? (values (plain ys)) k ≡ some (output .value)
 
-found : (ys : List (Output ℤ)) (k : ℕ) → k < length ys → Found ys k
+found : (ys : List (Numbered ℤ)) (k : ℕ) → k < length ys → Found ys k
 found [] k h = absurd (omega arith)
 found (y ∷ ys) zero h = record { output = y; is = refl; number = refl }
 found (y ∷ ys) (suc k) h = let f = found ys k (omega arith) in record { output = f .output; is = f .is; number = f .number }
 
-beyond : (ys : List (Output ℤ)) (k : ℕ) → length ys ≤ k → getElem? (values ys) k ≡ none
+beyond : (ys : List (Numbered ℤ)) (k : ℕ) → length ys ≤ k → getElem? (values (plain ys)) k ≡ none
 beyond [] k h = refl
 beyond (y ∷ ys) zero h = absurd (omega arith)
 beyond (y ∷ ys) (suc k) h = beyond ys k (omega arith)
 
-decimator-placed : (xs : List ℤ) (ys : List (Output ℤ)) → Decimates w32 3 1 63 0 0 xs ys
-    → (k : ℕ) → getElem? (values ys) k ≡ placed (input xs) 0 0 (length xs) k
+decimator-placed : (xs : List ℤ) (ys : List (Numbered ℤ)) → Decimates w32 3 1 63 0 0 0 xs ys
+    → (k : ℕ) → getElem? (values (plain ys)) k ≡ placed (input xs) 0 0 (length xs) k
 unfolding placed value modulo
 decimator-placed xs ys d k = pick (ltb k (length ys)) refl
   where
     v : ℤ
     v = wrap w32 (moving exactOps 64 3 (input xs) (0 + (0 + k * 64)))
 
-    pick : (t : Bool) → ltb k (length ys) ≡ t → getElem? (values ys) k ≡ cond (ltb (0 + k * 64) (length xs)) (some v) none
+    pick : (t : Bool) → ltb k (length ys) ≡ t → getElem? (values (plain ys)) k ≡ cond (ltb (0 + k * 64) (length xs)) (some v) none
     pick true e =
         let f = found ys k (ltb-true k (length ys) e) in
         let m = d .tells k (f .output) (f .is) ∙ zero-sub k in
@@ -259,5 +259,5 @@ same-outputs made m xs ys t c zs u run =
     let d = after-new 3 1 63 made m (ap (λ (q : Made). q .verdict) m ∙ accepted) .0 xs zs u run .1 in
     one c .0
     ∙ outputs-from (replicate 190 (pos 0)) 0 xs
-    ∙ same (outputsFrom (replicate 190 (pos 0)) 0 xs) (values zs)
+    ∙ same (outputsFrom (replicate 190 (pos 0)) 0 xs) (values (plain zs))
     (λ k. engine-placed (input xs) xs 0 0 (follows xs) k ∙ sym (decimator-placed xs zs d k))

@@ -4,14 +4,14 @@ use mathlib.Core.Path.{_≡_}
 use mathlib.Core.List.{List, [], _∷_, _++_}
 use lib.IntN.{ℤ}
 use lib.ListN.{take}
-use Rattle.sums.specs.Machine.{Output}
-use Rattle.sums.specs.Calls.{newNumber, newState}
+use Rattle.sums.specs.Calls.{newNumber}
 use Rattle.sums.specs.Runs.{values}
+use Rattle.sums.specs.Counted.{Numbered, plain, newCounted}
 use Rattle.cic.specs.declared.state.Cic.{Cic}
 use Rattle.cic.specs.declared.state.Made.{Made}
 use Rattle.cic.specs.Word.{wordOps}
 use Rattle.cic.specs.Answers.{madeOf}
-use Rattle.cic.specs.Demands.{Decimating}
+use Rattle.demands.specs.Demands.{Decimating}
 use Rattle.fir.specs.declared.Fir.{Fir}
 use Rattle.fir.specs.declared.Stepped.{Stepped}
 use Rattle.fir.specs.declared.Wrote.{Wrote}
@@ -30,7 +30,7 @@ gaveBlock (Outputs n) left = take n left
 gaveBlock (Refused k) left = []
 
 -- The engine's `decimate` and `decimate_block` in any mixture, each answered as its promise says: from the state s they took in xs, gave ys
--- and left t. What the decimator's took in and gave is `Decimating` (cic, specs/Demands).
+-- and left t. What the decimator's took in and gave is `Decimating` (demands, specs/Demands).
 pub data Called : Fir → List ℤ → List ℤ → Fir → Type 0 where
   none : {s : Fir} → Called s [] [] s
   decimate : {s t : Fir} {xs ys : List ℤ} (x : ℤ) (r : Stepped) → r ≡ steppedOf s x → Called (r .state) xs ys t
@@ -46,7 +46,7 @@ OneList = (s : Fir) (xs ys : List ℤ) (t : Fir) → Called s xs ys t → (ys �
 -- From `Fir::new` and `Cic::new(3, 1, 63)`, by whatever calls both took in xs: their outputs are the same, wrapping included.
 abbrev pub SameOutputs : Type 0
 SameOutputs =
-    (made : Made) → made ≡ madeOf (newNumber 3 1 63) (newState wordOps 3 1 63)
+    (made : Made) → made ≡ madeOf (newNumber 3 1 63) (newCounted wordOps 3 1 63)
     → (xs ys : List ℤ) (t : Fir) → Called fresh xs ys t
-    → (zs : List (Output ℤ)) (u : Cic) → Decimating (made .state) xs zs u
-    → ys ≡ values zs
+    → (zs : List (Numbered ℤ)) (u : Cic) → Decimating (made .state) xs zs u
+    → ys ≡ values (plain zs)
