@@ -4,3 +4,7 @@ pub mod Parting
 pub mod Putting
 pub mod Spelling
 pub mod Sameness
+pub mod Joining
+pub mod OneSpelling
+pub mod Ranges
+pub mod Order

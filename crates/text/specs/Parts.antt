@@ -1,6 +1,6 @@
 -- 01, 'The replay program': fields parted by one tab, each line ended by a newline.
 use mathlib.Core.Bool.{cond}
-use mathlib.Core.List.{List, [], _∷_}
+use mathlib.Core.List.{List, [], _∷_, _++_}
 use Prim.Native.Nat.{ℕ, suc, _+_}
 use lib.Dec.{eqb}
 use lib.ListN.{length, drop}
@@ -14,6 +14,12 @@ onto b (part ∷ rest) = (b ∷ part) ∷ rest
 unfoldable pub parted : ℕ → List ℕ → List (List ℕ)
 parted sep [] = [] ∷ []
 parted sep (b ∷ bs) = cond (eqb b sep) ([] ∷ parted sep bs) (onto b (parted sep bs))
+
+-- parts with the byte `sep` between them
+unfoldable pub joined : ℕ → List (List ℕ) → List ℕ
+joined sep [] = []
+joined sep (p ∷ []) = p
+joined sep (p ∷ q ∷ ps) = p ++ (sep ∷ joined sep (q ∷ ps))
 
 -- the first part
 unfoldable pub before : ℕ → List ℕ → List ℕ

@@ -18,7 +18,7 @@ pub enum Pattern {
 }
 
 // The value of a digit; of any other byte 16.
-fn hex_digit(byte: u8) -> u64
+pub fn hex_digit(byte: u8) -> u64
     ensures { λ r. ⌜ r ≡ hexDigit byte ⌝ }
 {
     let b = byte as u64;
