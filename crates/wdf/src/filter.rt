@@ -42,7 +42,7 @@ pub struct Stepped {
 
 // The number of the first test that a filter fails, or 0: 50 where it has more than 8 sections, 51 where a nibble
 // beyond the last is not zero.
-fn refusal(sections: usize, architecture: u32) -> u32
+pub fn refusal(sections: usize, architecture: u32) -> u32
     ensures { λ r. ⌜ r ≡ sectionsNumber sections architecture ⌝ }
 {
     if 8 < sections {
