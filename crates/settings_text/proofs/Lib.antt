@@ -1,0 +1,5 @@
+pub mod Names
+pub mod Nibbles
+pub mod Stores
+pub mod Lines
+pub mod FormOne

@@ -1,0 +1,264 @@
+-- A record's line holds that record, and no other line does: so form 1 is lawful.
+use native.Mathlib.Omega.{arith}
+use native.Mathlib.Nat.{pow-suc, pow-succ', div-div-eq-div-mul}
+use mathlib.Core.Path.{_≡_, refl, sym, ap, _∙_}
+use mathlib.Core.Bool.{Bool, true, false, cond, _&&_}
+use mathlib.Core.List.{List, [], _∷_, _++_}
+use mathlib.Core.Option.{Option, none, some}
+use Prim.Native.Nat.{ℕ, zero, suc, _+_, _*_, _/_, _^_, _≤_, _<_}
+use lib.Dec.{leb, ltb, eqb}
+use lib.IntN.{ℤ, pos, negsuc, natAbs}
+use lib.ListN.{length, length-append}
+use borrow.Author.Tests.{le-leb, eqb-true, eq-eqb, ltb-false, lt-ltb}
+use Rattle.text.specs.Letters.{bytes}
+use Rattle.text.specs.Numbers.{decimalOf, signedOf}
+use Rattle.text.specs.Parts.{parted, joined, count}
+use Rattle.text.specs.Ranges.{Range, unsigned, signed, lies, allLie, numberIn, numbersIn, texts}
+use Rattle.text.specs.Same.{same}
+use Rattle.text.proofs.Joining.{Plain, none, more, parted-joined, joined-parted, count-joined}
+use Rattle.text.proofs.Ranges.{two, number-again, number-only, number-plain, numbers-again, numbers-only, numbers-plain, natural-text, natural-lies, text-short}
+use Rattle.text.proofs.Sameness.{same-eq}
+use Rattle.text.proofs.Spelling.{decimal-most}
+use Rattle.wdf.specs.Calls.{sectionsNumber}
+use Rattle.settings_text.specs.Fields.{isName, nibblesOf, nibblesIn}
+use Rattle.settings_text.specs.Laws.{Lawful}
+use Rattle.settings_text.specs.Lines.{Setting, Cic, Wdf, fieldsOf, lineOf, cicBy, cicIn, counts, wdfOf, wdfBy, wdfIn, kindIn, fieldsIn, lineIn, nameOf, formed, parameters, form1}
+use Rattle.settings_text.proofs.Names.{name-short, name-plain}
+use Rattle.settings_text.proofs.Nibbles.{nibbles-again, nibbles-only, nibbles-plain, nibbles-length, nibbles-bound}
+
+-- how long a line is
+abbrev weight : List (List ℕ) → ℕ
+weight [] = 0
+weight (f ∷ fs) = suc (length f) + weight fs
+
+joined-short : (fs : List (List ℕ)) → length (joined 9 fs) ≤ weight fs
+unfolding joined
+joined-short [] = omega arith
+joined-short (f ∷ []) = omega arith
+joined-short (f ∷ g ∷ fs) = omega (arith, length-append f (9 ∷ joined 9 (g ∷ fs)), joined-short (g ∷ fs))
+
+texts-weight : (r : Range) → r .least < 2 ^ 32 → r .most < 2 ^ 32 → (zs : List ℤ) → allLie r zs ≡ true → weight (texts zs) ≤ 12 * length zs
+texts-weight r l m [] h = omega arith
+texts-weight r l m (z ∷ zs) h =
+    let p = two (lies r z) (allLie r zs) h in
+    omega (arith, text-short r l m z (p .0), texts-weight r l m zs (p .1))
+
+-- what a record's fields must do: no tab or newline, and not too long
+record Fine (s : Setting) : Type 0 where
+  pub plain-of : (sep : ℕ) → sep < 45 → Plain sep (fieldsOf s)
+  pub short : weight (fieldsOf s) ≤ 160
+  pub again : fieldsIn (fieldsOf s) ≡ some s
+
+yes-c : isName (bytes "cic") ≡ true
+unfolding isName
+yes-c = refl
+
+yes-w : isName (bytes "wdf") ≡ true
+unfolding isName
+yes-w = refl
+
+kind-plain : (sep : ℕ) → sep < 45 → (count sep (bytes "cic") ≡ 0) × (count sep (bytes "wdf") ≡ 0)
+kind-plain sep s = (name-plain sep s (bytes "cic") yes-c, name-plain sep s (bytes "wdf") yes-w)
+
+kind-cic : (name : List ℕ) (fs : List (List ℕ)) → kindIn (bytes "cic") name fs ≡ cicIn name fs
+unfolding kindIn same
+kind-cic name fs = refl
+
+kind-wdf : (name : List ℕ) (fs : List (List ℕ)) → kindIn (bytes "wdf") name fs ≡ wdfIn name fs
+unfolding kindIn same
+kind-wdf name fs = refl
+
+cic-fine : (name : List ℕ) (n m r : ℕ) → formed (Cic name n m r) ≡ true → Fine (Cic name n m r)
+unfolding formed fieldsOf cicIn
+cic-fine name n m r h =
+    let a = two (isName name) (allLie unsigned (pos n ∷ pos m ∷ pos r ∷ [])) h in
+    let g = numbers-again unsigned (omega arith) (omega arith) (pos n ∷ pos m ∷ pos r ∷ []) (a .1) in
+    record {
+      plain-of = λ sep s. more (kind-plain sep s .0) (more (name-plain sep s name (a .0)) (numbers-plain unsigned (omega arith) (omega arith) sep s (texts (pos n ∷ pos m ∷ pos r ∷ [])) (pos n ∷ pos m ∷ pos r ∷ []) g));
+      short = omega (arith, texts-weight unsigned (omega arith) (omega arith) (pos n ∷ pos m ∷ pos r ∷ []) (a .1), name-short name (a .0));
+      again = rw (a .0, kind-cic name (texts (pos n ∷ pos m ∷ pos r ∷ [])), g);
+    }
+
+-- a filter that no number refuses
+pub wdf-small : (k arch : ℕ) → sectionsNumber k arch ≡ 0 → (k ≤ 8) × (arch / 16 ^ k ≡ 0)
+unfolding sectionsNumber
+wdf-small k arch h = by (ltb 8 k) refl (eqb (arch / 16 ^ k) 0) refl h
+  where
+    by : (t : Bool) → ltb 8 k ≡ t → (u : Bool) → eqb (arch / 16 ^ k) 0 ≡ u → cond {A = ℕ} t 50 (cond u 0 51) ≡ 0 → (k ≤ 8) × (arch / 16 ^ k ≡ 0)
+    by true e u f g = absurd (omega arith)
+    by false e true f g = (ltb-false 8 k e, eqb-true (arch / 16 ^ k) 0 f)
+    by false e false f g = absurd (omega arith)
+
+pub below : (k arch : ℕ) → arch / 16 ^ k ≡ 0 → arch < 16 ^ k
+below zero arch h = omega arith
+below (suc k) arch h =
+    let e : arch / 16 / 16 ^ k ≡ arch / 16 ^ suc k = rw (div-div-eq-div-mul arch 16 (16 ^ k), pow-succ' 16 k) in
+    let l = below k (arch / 16) (e ∙ h) in
+    let p = pow-suc 16 k in
+    omega arith
+
+wdf-fine : (name : List ℕ) (arch : ℕ) (cs : List ℤ) → formed (Wdf name arch cs) ≡ true → sectionsNumber (length cs) arch ≡ 0 → Fine (Wdf name arch cs)
+unfolding formed fieldsOf wdfIn
+wdf-fine name arch cs h e =
+    let a = two (isName name) (allLie signed cs) h in
+    let b = wdf-small (length cs) arch e in
+    let l = below (length cs) arch (b .1) in
+    let few = b .0 in
+    let g = numbers-again signed (omega arith) (omega arith) cs (a .1) in
+    let n = number-again unsigned (omega arith) (omega arith) (pos (length cs)) (le-leb (length cs) 4294967295 (omega arith)) in
+    let d = decimal-most (length cs) (omega arith) in
+    let x = nibbles-length (length cs) arch in
+    record {
+      plain-of = λ sep s. more (kind-plain sep s .1) (more (name-plain sep s name (a .0)) (more (number-plain unsigned (omega arith) (omega arith) sep s (decimalOf (length cs)) (pos (length cs)) n) (more (nibbles-plain sep s (length cs) arch l) (numbers-plain signed (omega arith) (omega arith) sep s (texts cs) cs g))));
+      short = omega (arith, texts-weight signed (omega arith) (omega arith) cs (a .1), name-short name (a .0));
+      again = rw (a .0, kind-wdf name (decimalOf (length cs) ∷ nibblesOf (length cs) arch ∷ texts cs), g, n, eq-eqb (length cs) (length cs) refl, nibbles-again (length cs) arch l);
+    }
+
+fine : (s : Setting) → formed s ≡ true → parameters s ≡ 0 → Fine s
+unfolding parameters
+fine (Cic name n m r) h e = cic-fine name n m r h
+fine (Wdf name arch cs) h e = wdf-fine name arch cs h e
+
+-- two fields at least
+record Two-at-least (fs : List (List ℕ)) : Type 0 where
+  pub first : List ℕ
+  pub rest : List (List ℕ)
+  pub is : fs ≡ first ∷ rest
+
+some-fields : (s : Setting) → Two-at-least (fieldsOf s)
+unfolding fieldsOf
+some-fields (Cic name n m r) = record { first = bytes "cic"; rest = name ∷ texts (pos n ∷ pos m ∷ pos r ∷ []); is = refl }
+some-fields (Wdf name arch cs) = record { first = bytes "wdf"; rest = name ∷ decimalOf (length cs) ∷ nibblesOf (length cs) arch ∷ texts cs; is = refl }
+
+parted-fields : (sep : ℕ) (fs : List (List ℕ)) → Two-at-least fs → Plain sep fs → parted sep (joined sep fs) ≡ fs
+parted-fields sep fs t p =
+    let q : Plain sep (t .first ∷ t .rest) = rw (t .is) at p in
+    rw (t .is) (parted-joined sep (t .first) (t .rest) q)
+
+line-again : (s : Setting) → Fine s → lineIn (lineOf s) ≡ some s
+unfolding lineIn lineOf
+line-again s f =
+    let l : length (joined 9 (fieldsOf s)) ≤ 160 = omega (arith, f .short, joined-short (fieldsOf s)) in
+    rw (le-leb _ _ l, parted-fields 9 (fieldsOf s) (some-fields s) (f .plain-of 9 (omega arith))) (f .again)
+
+line-one : (s : Setting) → Fine s → count 10 (lineOf s) ≡ 0
+unfolding lineOf
+line-one s f = let d : _≡_ {A = ℕ} 10 9 → ⊥ = λ e. omega arith in count-joined 9 10 d (fieldsOf s) (f .plain-of 10 (omega arith))
+
+-- no nibble beyond the last section
+abbrev pub fitting : Setting → Bool
+fitting (Cic name n m rate) = true
+fitting (Wdf name arch cs) = ltb arch (16 ^ length cs)
+
+-- what a line holds, it is the line of
+record Held (fs : List (List ℕ)) (s : Setting) : Type 0 where
+  pub fields : fs ≡ fieldsOf s
+  pub good : formed s ≡ true
+  pub fits : fitting s ≡ true
+
+module _ (name : List ℕ) (named : isName name ≡ true) (s : Setting) where
+  cic-only : (fs : List (List ℕ)) → cicIn name fs ≡ some s → Held (bytes "cic" ∷ name ∷ fs) s
+  unfolding cicIn fieldsOf formed
+  cic-only fs e = by (numbersIn unsigned fs) refl e
+    where
+      by : (o : Option (List ℤ)) → numbersIn unsigned fs ≡ o → cicBy name o ≡ some s → Held (bytes "cic" ∷ name ∷ fs) s
+      by none f g = absurd (let z : _≡_ {A = ℕ} 0 1 = cc in omega arith)
+      by (some []) f g = absurd (let z : _≡_ {A = ℕ} 0 1 = cc in omega arith)
+      by (some (n ∷ [])) f g = absurd (let z : _≡_ {A = ℕ} 0 1 = cc in omega arith)
+      by (some (n ∷ m ∷ [])) f g = absurd (let z : _≡_ {A = ℕ} 0 1 = cc in omega arith)
+      by (some (n ∷ m ∷ r ∷ z ∷ zs)) f g = absurd (let z : _≡_ {A = ℕ} 0 1 = cc in omega arith)
+      by (some (n ∷ m ∷ r ∷ [])) f g =
+          let p : Cic name (natAbs n) (natAbs m) (natAbs r) ≡ s = cc in
+          let q = numbers-only unsigned (omega arith) (omega arith) fs (n ∷ m ∷ r ∷ []) f in
+          let a = two (lies unsigned n) (allLie unsigned (m ∷ r ∷ [])) (q .1) in
+          let b = two (lies unsigned m) (allLie unsigned (r ∷ [])) (a .1) in
+          let c = two (lies unsigned r) true (b .1) in
+          rw (← p) (record {
+            fields = rw (q .0, natural-text n (a .0), natural-text m (b .0), natural-text r (c .0));
+            good = rw (named, natural-lies n (a .0), natural-lies m (b .0), natural-lies r (c .0));
+            fits = refl;
+          })
+
+  counts-text : (f : List ℕ) (k : ℕ) → counts k (numberIn unsigned f) ≡ true → f ≡ decimalOf k
+  counts-text f k h = by (numberIn unsigned f) refl h
+    where
+      by : (o : Option ℤ) → numberIn unsigned f ≡ o → counts k o ≡ true → f ≡ decimalOf k
+      by none e g = absurd (let z : _≡_ {A = ℕ} 0 1 = cc in omega arith)
+      by (some (pos n)) e g = number-only unsigned (omega arith) (omega arith) f (pos n) e .0 ∙ ap decimalOf (eqb-true n k g)
+      by (some (negsuc n)) e g = absurd (let z : _≡_ {A = ℕ} 0 1 = cc in omega arith)
+
+  wdf-only : (fs : List (List ℕ)) → wdfIn name fs ≡ some s → Held (bytes "wdf" ∷ name ∷ fs) s
+  unfolding wdfIn fieldsOf formed
+  wdf-only [] e = absurd (let z : _≡_ {A = ℕ} 0 1 = cc in omega arith)
+  wdf-only (k ∷ []) e = absurd (let z : _≡_ {A = ℕ} 0 1 = cc in omega arith)
+  wdf-only (k ∷ nibbles ∷ fs) e = by (numbersIn signed fs) refl e
+    where
+      held : (cs : List ℤ) → numbersIn signed fs ≡ some cs → (t : Bool) → counts (length cs) (numberIn unsigned k) ≡ t → (o : Option ℕ) → nibblesIn (length cs) nibbles ≡ o → cond t (wdfOf name cs o) none ≡ some s
+          → Held (bytes "wdf" ∷ name ∷ k ∷ nibbles ∷ fs) s
+      held cs f true g (some arch) h i =
+          let p : Wdf name arch cs ≡ s = cc in
+          let q = numbers-only signed (omega arith) (omega arith) fs cs f in
+          rw (← p) (record {
+            fields = rw (counts-text k (length cs) g, nibbles-only (length cs) nibbles arch h, q .0);
+            good = rw (named, q .1);
+            fits = lt-ltb arch (16 ^ length cs) (nibbles-bound (length cs) nibbles arch h);
+          })
+      held cs f true g none h i = absurd (let z : _≡_ {A = ℕ} 0 1 = cc in omega arith)
+      held cs f false g o h i = absurd (let z : _≡_ {A = ℕ} 0 1 = cc in omega arith)
+
+      by : (o : Option (List ℤ)) → numbersIn signed fs ≡ o → wdfBy name k nibbles o ≡ some s → Held (bytes "wdf" ∷ name ∷ k ∷ nibbles ∷ fs) s
+      by none f g = absurd (let z : _≡_ {A = ℕ} 0 1 = cc in omega arith)
+      by (some cs) f g = held cs f (counts (length cs) (numberIn unsigned k)) refl (nibblesIn (length cs) nibbles) refl g
+
+fields-only : (ps : List (List ℕ)) (s : Setting) → fieldsIn ps ≡ some s → Held ps s
+unfolding kindIn
+fields-only [] s e = absurd (let z : _≡_ {A = ℕ} 0 1 = cc in omega arith)
+fields-only (kind ∷ []) s e = absurd (let z : _≡_ {A = ℕ} 0 1 = cc in omega arith)
+fields-only (kind ∷ name ∷ fs) s e = by (isName name) refl (same kind (bytes "cic")) refl (same kind (bytes "wdf")) refl e
+  where
+    known : (word : List ℕ) → same kind word ≡ true → Held (word ∷ name ∷ fs) s → Held (kind ∷ name ∷ fs) s
+    known word h held = rw (same-eq _ _ h) held
+
+    by : (t : Bool) → isName name ≡ t → (a : Bool) → same kind (bytes "cic") ≡ a → (b : Bool) → same kind (bytes "wdf") ≡ b
+        → cond t (cond a (cicIn name fs) (cond b (wdfIn name fs) none)) none ≡ some s → Held (kind ∷ name ∷ fs) s
+    by true n true f b g k = known (bytes "cic") f (cic-only name n s fs k)
+    by true n false f true g k = known (bytes "wdf") g (wdf-only name n s fs k)
+    by true n false f false g k = absurd (let z : _≡_ {A = ℕ} 0 1 = cc in omega arith)
+    by false n a f b g k = absurd (let z : _≡_ {A = ℕ} 0 1 = cc in omega arith)
+
+line-only : (l : List ℕ) (s : Setting) → lineIn l ≡ some s → (l ≡ lineOf s) × (formed s ≡ true)
+unfolding lineIn lineOf
+line-only l s e = by (leb (length l) 160) e
+  where
+    by : (t : Bool) → cond t (fieldsIn (parted 9 l)) none ≡ some s → (l ≡ lineOf s) × (formed s ≡ true)
+    by true k = let h = fields-only (parted 9 l) s k in (sym (joined-parted 9 l) ∙ ap (joined 9) (h .fields), h .good)
+    by false k = absurd (let z : _≡_ {A = ℕ} 0 1 = cc in omega arith)
+
+pub line-fits : (l : List ℕ) (s : Setting) → lineIn l ≡ some s → fitting s ≡ true
+unfolding lineIn
+line-fits l s e = by (leb (length l) 160) e
+  where
+    by : (t : Bool) → cond t (fieldsIn (parted 9 l)) none ≡ some s → fitting s ≡ true
+    by true k = fields-only (parted 9 l) s k .fits
+    by false k = absurd (let z : _≡_ {A = ℕ} 0 1 = cc in omega arith)
+
+formed-named : (s : Setting) → formed s ≡ true → isName (nameOf s) ≡ true
+unfolding formed
+formed-named (Cic name n m rate) h = two (isName name) (allLie unsigned (pos n ∷ pos m ∷ pos rate ∷ [])) h .0
+formed-named (Wdf name arch cs) h = two (isName name) (allLie signed cs) h .0
+
+pub line-named : (l : List ℕ) (s : Setting) → lineIn l ≡ some s → length (nameOf s) ≤ 16
+line-named l s e = name-short (nameOf s) (formed-named s (line-only l s e .1))
+
+heading-one : count 10 (form1 .heading) ≡ 0
+unfolding count form1
+heading-one = refl
+
+pub lawful : Lawful form1
+unfolding form1
+lawful = record {
+  again = λ s h e. line-again s (fine s h e);
+  only = line-only;
+  one-line = λ s h e. line-one s (fine s h e);
+  one-heading = heading-one;
+}

@@ -1,0 +1,24 @@
+-- 02, A7: what is shown of a store's text, for any form whose lines are lawful.
+use mathlib.Core.Bool.{true}
+use mathlib.Core.List.{List}
+use mathlib.Core.Option.{some}
+use mathlib.Core.Path.{_≡_}
+use Prim.Native.Nat.{ℕ}
+use Rattle.text.specs.Letters.{newline}
+use Rattle.text.specs.Parts.{count}
+use Rattle.settings_text.specs.Stores.{Form, Good, listNumber, textOf, readOf}
+
+-- a record that is not refused is held by its line, which has no newline; and a line holds only what it is the line of
+pub record Lawful {A : Type 0} (form : Form A) : Type 0 where
+  pub again : (s : A) → form .formed s ≡ true → form .parameters s ≡ 0 → form .lineIn (form .lineOf s) ≡ some s
+  pub only : (l : List ℕ) (s : A) → form .lineIn l ≡ some s → (l ≡ form .lineOf s) × (form .formed s ≡ true)
+  pub one-line : (s : A) → form .formed s ≡ true → form .parameters s ≡ 0 → count newline (form .lineOf s) ≡ 0
+  pub one-heading : count newline (form .heading) ≡ 0
+
+-- reading what was written gives the same settings
+abbrev pub ReadBack : {A : Type 0} → Form A → Type 0
+ReadBack {A} form = (ss : List A) → listNumber form ss ≡ 0 → readOf form (textOf form ss) ≡ Good ss
+
+-- each list of settings has one text, and what can be read can be written
+abbrev pub OneText : {A : Type 0} → Form A → Type 0
+OneText {A} form = (text : List ℕ) (ss : List A) → readOf form text ≡ Good ss → (text ≡ textOf form ss) × (listNumber form ss ≡ 0)

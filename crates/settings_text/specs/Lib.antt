@@ -1,0 +1,4 @@
+pub mod Stores
+pub mod Fields
+pub mod Lines
+pub mod Laws
