@@ -17,6 +17,18 @@ use Rattle.text.proofs.Ranges.{both-some}
 use Rattle.text.proofs.Sameness.{same-eq}
 use Rattle.settings_text.specs.Fields.{hexOf, hexIn, hexesOf, hexesIn, nibblesOf, nibblesIn}
 
+-- a digit's value, and 16 for any other byte
+pub digit-most : (b : ℕ) → hexDigit b ≤ 16
+digit-most b = by (ltb b 48) refl (leb b 57) refl (ltb b 97) refl (leb b 102) refl
+  where
+    by : (s : Bool) → ltb b 48 ≡ s → (t : Bool) → leb b 57 ≡ t → (u : Bool) → ltb b 97 ≡ u → (v : Bool) → leb b 102 ≡ v
+        → cond s 16 (cond t (b - 48) (cond u 16 (cond v (b - 97 + 10) 16))) ≤ 16
+    by true f t g u h v i = omega arith
+    by false f true g u h v i = let m = leb-true b 57 g in omega arith
+    by false f false g true h v i = omega arith
+    by false f false g false h true i = let m = leb-true b 102 i in omega arith
+    by false f false g false h false i = omega arith
+
 pub hex-again : (d : ℕ) → d < 16 → hexIn (hexOf d) ≡ some d
 unfolding hexIn hexOf
 hex-again d h = by (ltb d 10) refl

@@ -1,0 +1,9 @@
+pub mod Copying
+pub mod Counting
+pub mod Ends
+pub mod Numbering
+pub mod Putting
+pub mod Judging
+pub mod Saved
+pub mod Turns
+pub mod Theorems

@@ -1,0 +1,28 @@
+-- A word beyond the eighth changes nothing.
+use borrow.Author.Needs.{needs}
+use native.Mathlib.Omega.{arith}
+use mathlib.Core.Path.{sym, ap}
+use mir.Syntax.{w32}
+use lib.Seq.{set-out}
+use mir.ValLaws.{toZ-ofZ}
+use Rattle.store.proofs.line.keep.Statement.{statement}
+use Rattle.store.proofs.line.keep.Tie as tie
+
+u32-as-i32-requires : tie.Need-u32-as-i32-requires
+u32-as-i32-requires c κs = search needs
+
+mul-t6 : tie.Need-mul-t6
+mul-t6 c = search needs
+
+element-set-from-words : tie.Need-element-set-from-words
+element-set-from-words c = search needs
+
+returns : tie.Need-returns
+returns c = rw (toZ-ofZ w32 (c .u32-as-i32 .result) (record { sfits = c .u32-as-i32 .ok }), c .u32-as-i32 .ensures)
+
+returns-2 : tie.Need-returns-2
+returns-2 c = sym (set-out _ _ _ (omega arith))
+
+pub keep-spec : {M : Type 1} → statement M
+keep-spec =
+    tie.close (tie.spec u32-as-i32-requires mul-t6 element-set-from-words returns returns-2)

@@ -1,0 +1,84 @@
+-- Each way that the number's parser ends is one of the range's.
+use borrow.Author.Needs.{needs}
+use native.Mathlib.Omega.{arith}
+use Rattle.store.proofs.Counting.{minus-in, minus-out, minus-some, plus-in, plus-out, wrong-out}
+use Rattle.store.proofs.line.word_of.Statement.{statement}
+use Rattle.store.proofs.line.word_of.Tie as tie
+
+parsed-requires : tie.Need-parsed-requires
+parsed-requires c κs = search needs
+
+enum-known-v : tie.Need-enum-known-v
+enum-known-v c = search needs
+
+cast-t10 : tie.Need-cast-t10
+cast-t10 c = search needs
+
+enum-known-v-2 : tie.Need-enum-known-v-2
+enum-known-v-2 c = search needs
+
+sub-t13 : tie.Need-sub-t13
+sub-t13 c = search needs
+
+cast-t14 : tie.Need-cast-t14
+cast-t14 c =
+    let begin : tie.Start = search in
+    let at-parsed : tie.After-parsed = search in
+    let a = begin .args in
+    let s = minus-some (a .field .now) (a .least) (a .most) (begin .pre .0) (begin .pre .1) (at-parsed .parsed .result) (at-parsed .parsed .ensures) _ (c .before .before .v2 .given .1) in
+    record { fits = omega arith }
+
+enum-told : tie.Need-enum-told
+enum-told c = search needs
+
+returns : tie.Need-returns
+returns c =
+    let begin : tie.Start = search in
+    let at-parsed : tie.After-parsed = search in
+    let a = begin .args in
+    plus-in (a .field .now) (a .least) (a .most) (begin .pre .0) (begin .pre .1) (at-parsed .parsed .result) (at-parsed .parsed .ensures) _ (c .before .before .v .given .1) (c .if1 .taken)
+
+returns-2 : tie.Need-returns-2
+returns-2 c =
+    let begin : tie.Start = search in
+    let at-parsed : tie.After-parsed = search in
+    let a = begin .args in
+    plus-out (a .field .now) (a .least) (a .most) (begin .pre .0) (begin .pre .1) (at-parsed .parsed .result) (at-parsed .parsed .ensures) _ (c .before .before .v .given .1) (c .if1 .left)
+
+returns-3 : tie.Need-returns-3
+returns-3 c =
+    let begin : tie.Start = search in
+    let at-parsed : tie.After-parsed = search in
+    let a = begin .args in
+    minus-in (a .field .now) (a .least) (a .most) (begin .pre .0) (begin .pre .1) (at-parsed .parsed .result) (at-parsed .parsed .ensures) _ (c .before .before .v2 .given .1) (c .if2 .taken)
+
+returns-4 : tie.Need-returns-4
+returns-4 c =
+    let begin : tie.Start = search in
+    let at-parsed : tie.After-parsed = search in
+    let a = begin .args in
+    minus-out (a .field .now) (a .least) (a .most) (begin .pre .0) (begin .pre .1) (at-parsed .parsed .result) (at-parsed .parsed .ensures) _ (c .before .before .v2 .given .1) (c .if2 .left)
+
+returns-5 : tie.Need-returns-5
+returns-5 c =
+    let begin : tie.Start = search in
+    let at-parsed : tie.After-parsed = search in
+    let a = begin .args in
+    wrong-out (a .field .now) (a .least) (a .most) (begin .pre .0) (begin .pre .1) (at-parsed .parsed .result) (at-parsed .parsed .ensures) (c .enum-told .given .1)
+
+pub word-of-spec : {M : Type 1} → statement M
+word-of-spec =
+    tie.close
+    (tie.spec
+    parsed-requires
+    enum-known-v
+    cast-t10
+    enum-known-v-2
+    sub-t13
+    cast-t14
+    enum-told
+    returns
+    returns-2
+    returns-3
+    returns-4
+    returns-5)

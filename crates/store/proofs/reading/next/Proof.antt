@@ -1,0 +1,84 @@
+-- A line that ends and holds a record is judged; any other is 81 (Turns).
+use borrow.Author.Needs.{needs}
+use native.Mathlib.Omega.{arith}
+use mathlib.Core.Path.{sym, _∙_}
+use borrow.Author.Tests.{not-true, not-false}
+use Rattle.store.specs.Entries.{nameIn}
+use Rattle.store.proofs.Turns.{next-none, next-open, next-short, next-some}
+use Rattle.store.proofs.reading.next.Statement.{statement}
+use Rattle.store.proofs.reading.next.Tie as tie
+
+part-end-requires : tie.Need-part-end-requires
+part-end-requires c κs = search needs
+
+stopped-requires : tie.Need-stopped-requires
+stopped-requires c κs = search needs
+
+returns : tie.Need-returns
+returns c =
+    let begin : tie.Start = search in
+    let at-part-end : tie.After-part-end = search in
+    let then1 : tie.Then1 = search in
+    let a = begin .args in
+    c .stopped .ensures ∙ next-open (a .text .now) (a .at) (a .k) (nameIn (a .last)) (at-part-end .part-end .result) (at-part-end .part-end .ensures) (then1 .if1 .taken)
+
+sub-record-in : tie.Need-sub-record-in
+sub-record-in c = search needs
+
+part-record-in-start : tie.Need-part-record-in-start
+part-record-in-start c = search needs
+
+part-record-in-end : tie.Need-part-record-in-end
+part-record-in-end c = search needs
+
+record-in-requires : tie.Need-record-in-requires
+record-in-requires c κs = search needs
+
+stopped-requires-2 : tie.Need-stopped-requires-2
+stopped-requires-2 c κs = search needs
+
+returns-2 : tie.Need-returns-2
+returns-2 c =
+    let begin : tie.Start = search in
+    let at-part-end : tie.After-part-end = search in
+    let else1 : tie.Else1 = search in
+    let at-record-in : tie.After-record-in = search in
+    let then2 : tie.Then2 = search in
+    let a = begin .args in
+    c .stopped2 .ensures ∙ next-none (a .text .now) (a .at) (a .k) (nameIn (a .last)) (at-part-end .part-end .result) (at-part-end .part-end .ensures) (else1 .if1 .left) (at-record-in .record-in .result) (at-record-in .record-in .ensures) (not-true _ (then2 .if2 .taken))
+
+number-of-requires : tie.Need-number-of-requires
+number-of-requires c κs =
+    let begin : tie.Start = search in
+    let at-part-end : tie.After-part-end = search in
+    let else1 : tie.Else1 = search in
+    let at-record-in : tie.After-record-in = search in
+    let else2 : tie.Else2 = search in
+    let a = begin .args in
+    (begin .pre .1, next-short (a .text .now) (a .at) (a .k) (nameIn (a .last)) (at-part-end .part-end .result) (at-part-end .part-end .ensures) (else1 .if1 .left) (at-record-in .record-in .result) (at-record-in .record-in .ensures) (not-false _ (else2 .if2 .left)))
+
+returns-3 : tie.Need-returns-3
+returns-3 c =
+    let begin : tie.Start = search in
+    let at-part-end : tie.After-part-end = search in
+    let else1 : tie.Else1 = search in
+    let at-record-in : tie.After-record-in = search in
+    let else2 : tie.Else2 = search in
+    let a = begin .args in
+    next-some (a .text .now) (a .at) (a .k) (nameIn (a .last)) (at-part-end .part-end .result) (at-part-end .part-end .ensures) (else1 .if1 .left) (at-record-in .record-in .result) (at-record-in .record-in .ensures) (not-false _ (else2 .if2 .left)) (c .number-of .result) (c .number-of .ensures .0)
+
+pub next-spec : {M : Type 1} → statement M
+next-spec =
+    tie.close
+    (tie.spec
+    part-end-requires
+    stopped-requires
+    returns
+    sub-record-in
+    part-record-in-start
+    part-record-in-end
+    record-in-requires
+    stopped-requires-2
+    returns-2
+    number-of-requires
+    returns-3)

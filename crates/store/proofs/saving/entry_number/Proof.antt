@@ -1,0 +1,67 @@
+-- The name's test, then the numbers that reading gives (Judging).
+use native.Mathlib.Omega.{arith}
+use mathlib.Core.Path.{_≡_, sym, _∙_}
+use Prim.Native.Nat.{_≤_}
+use lib.ListN.{length}
+use lib.Seq.{length-take-le}
+use borrow.Author.Tests.{not-true, not-false}
+use borrow.Author.Needs.{needs}
+use Rattle.store.specs.Entries.{nameIn}
+use Rattle.store.proofs.Judging.{name-long, name-wrong, kind-right, few-sections}
+use Rattle.store.proofs.saving.entry_number.Statement.{statement}
+use Rattle.store.proofs.saving.entry_number.Tie as tie
+
+returns : tie.Need-returns
+returns c =
+    let begin : tie.Start = search in
+    let a = begin .args in
+    let l : length (a .entry .a) ≡ 8 = search needs in
+    let b : length (a .entry .name .bytes) ≡ 16 = search needs in
+    (name-long (a .k) (nameIn (a .last)) (a .entry) l b (c .if1 .taken), λ z. absurd (omega arith))
+
+array-share-prefix-bytes : tie.Need-array-share-prefix-bytes
+array-share-prefix-bytes c =
+    let begin : tie.Start = search in
+    let b : length (begin .args .entry .name .bytes) ≡ 16 = search needs in
+    omega arith
+
+slice-aggregate-is-name : tie.Need-slice-aggregate-is-name
+slice-aggregate-is-name c =
+    let begin : tie.Start = search in
+    let b : length (begin .args .entry .name .bytes) ≡ 16 = search needs in
+    let h : begin .args .entry .name .len ≤ length (begin .args .entry .name .bytes) = omega arith in
+    sym (length-take-le _ _ h)
+
+returns-2 : tie.Need-returns-2
+returns-2 c =
+    let begin : tie.Start = search in
+    let a = begin .args in
+    let l : length (a .entry .a) ≡ 8 = search needs in
+    let b : length (a .entry .name .bytes) ≡ 16 = search needs in
+    let named : tie.After-is-name = search in
+    let short : tie.Else1 = search in
+    (
+      name-wrong (a .k) (nameIn (a .last)) (a .entry) l b (short .if1 .left) (sym (named .is-name .ensures) ∙ not-true _ (c .if2 .taken)),
+      λ z. absurd (omega arith),
+    )
+
+returns-3 : tie.Need-returns-3
+returns-3 c =
+    let begin : tie.Start = search in
+    let a = begin .args in
+    let l : length (a .entry .a) ≡ 8 = search needs in
+    let b : length (a .entry .name .bytes) ≡ 16 = search needs in
+    let is : tie.Else2 = search in
+    let named : tie.After-is-name = search in
+    let short : tie.Else1 = search in
+    let n = c .number-of .ensures in
+    (
+      kind-right (a .k) (nameIn (a .last)) (a .entry) l b (short .if1 .left)
+      (sym (named .is-name .ensures) ∙ not-false _ (is .if2 .left)) (c .number-of .result) (n .1) (n .0),
+      λ z. (short .if1 .left, few-sections (a .k) (nameIn (a .last)) (nameIn (a .entry .name)) (a .entry .kind) (sym (n .0) ∙ z)),
+    )
+
+pub entry-number-spec : {M : Type 1} → statement M
+entry-number-spec =
+    tie.close (tie.spec returns array-share-prefix-bytes slice-aggregate-is-name (λ c κs. search needs) returns-2
+    (λ c κs. search needs) returns-3)

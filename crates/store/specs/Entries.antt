@@ -1,0 +1,97 @@
+-- How a record stands in the settings by value.
+use mathlib.Core.Bool.{Bool, true, cond}
+use mathlib.Core.List.{List, [], _∷_, _++_, map}
+use Prim.Native.Nat.{ℕ, zero, suc, _-_, _%_, _^_}
+use lib.Dec.{leb}
+use lib.IntN.{ℤ, pos}
+use lib.ListN.{length, take, replicate}
+use mir.Syntax.{w32}
+use Rattle.words.specs.Words.{wrap}
+use Rattle.sums.specs.Calls.{newNumber}
+use Rattle.wdf.specs.Calls.{sectionsNumber}
+use Rattle.text.specs.Letters.{bytes}
+use Rattle.text.specs.Numbers.{decimalOf}
+use Rattle.text.specs.Order.{precedes}
+use Rattle.text.specs.Ranges.{unsigned, allLie, texts}
+use Rattle.settings_text.specs.Fields.{nibblesOf}
+use Rattle.settings_text.specs.Lines.{Setting, Cic, Wdf, form1}
+use Rattle.settings_text.specs.Stores.{orElse, listNumber}
+use Rattle.store.specs.declared.settings.Settings.{Settings}
+use Rattle.store.specs.declared.settings.Name.{Name}
+use Rattle.store.specs.declared.settings.Kind.{Kind}
+use Rattle.store.specs.declared.settings.Kind.the-variants as kinds
+use Rattle.store.specs.declared.settings.Entry.{Entry}
+
+-- the first k of a list, or zeros in their places
+abbrev pub padTo : ℕ → List ℤ → List ℤ
+padTo zero zs = []
+padTo (suc k) [] = pos 0 ∷ padTo k []
+padTo (suc k) (z ∷ zs) = z ∷ padTo k zs
+
+-- eight words
+abbrev pub eight : List ℤ → List ℤ
+eight zs = padTo 8 (map (wrap w32) zs)
+
+-- a name in 16 bytes, and then zeros
+abbrev pub padded : List ℕ → Name
+padded l = record { bytes = l ++ replicate (16 - length l) 0; len = length l }
+
+abbrev pub nameIn : Name → List ℕ
+nameIn n = take (n .len) (n .bytes)
+
+-- the entry of a record
+abbrev pub entry : List ℕ → Kind → List ℤ → Entry
+entry name kind cs = record { name = padded name; kind = kind; a = eight cs }
+
+unfoldable pub entryOf : Setting → Entry
+entryOf (Cic name n m rate) = entry name (kinds.Cic n m rate) []
+entryOf (Wdf name arch cs) = entry name (kinds.Wdf (length cs) (arch % 2 ^ 32)) cs
+
+-- what stands where there is no record
+abbrev pub blank : Entry
+blank = entry [] (kinds.Cic 0 1 0) []
+
+-- the record of an entry. Coefficients beyond the eighth are zero, and so are a name's bytes beyond the sixteenth: either is refused
+unfoldable pub settingBy : List ℕ → Kind → List ℤ → Setting
+settingBy name (kinds.Cic n m rate) a = Cic name n m rate
+settingBy name (kinds.Wdf k arch) a = Wdf name arch (take k a ++ replicate (k - 8) (pos 0))
+
+abbrev pub wholeName : Name → List ℕ
+wholeName n = nameIn n ++ replicate (n .len - 16) 0
+
+abbrev pub settingOf : Entry → Setting
+settingOf e = settingBy (wholeName (e .name)) (e .kind) (map (wrap w32) (e .a))
+
+-- the records of the settings
+abbrev pub settingsIn : Settings → List Setting
+settingsIn s = map settingOf (take (s .count) (s .entries))
+
+-- the number of the first bad record, or 83 where there are more than 64
+unfoldable pub storeNumber : Settings → ℕ
+storeNumber s = orElse (listNumber form1 (settingsIn s)) (cond (leb (s .count) 64) 0 83)
+
+-- the parameter numbers of an entry, and before these 83 and 82 after k records, the last of them named `last`
+abbrev pub kindNumber : Kind → ℕ
+kindNumber (kinds.Cic n m rate) = newNumber n m rate
+kindNumber (kinds.Wdf k arch) = sectionsNumber k arch
+
+unfoldable pub numberFor : ℕ → List ℕ → List ℕ → Kind → ℕ
+numberFor k last name kind = cond (leb 64 k) 83 (cond (precedes last name) (kindNumber kind) 82)
+
+-- the numbers of an entry are u32
+abbrev pub fitsWords : Kind → Bool
+fitsWords (kinds.Cic n m rate) = allLie unsigned (pos n ∷ pos m ∷ pos rate ∷ [])
+fitsWords (kinds.Wdf k arch) = true
+
+-- an entry's line: its kind's word, its name, and the fields after it
+abbrev pub kindWord : Kind → List ℕ
+kindWord (kinds.Cic n m rate) = bytes "cic"
+kindWord (kinds.Wdf k arch) = bytes "wdf"
+
+abbrev pub bodyOf : Kind → List ℤ → List (List ℕ)
+bodyOf (kinds.Cic n m rate) a = decimalOf n ∷ decimalOf m ∷ decimalOf rate ∷ []
+bodyOf (kinds.Wdf k arch) a = decimalOf k ∷ nibblesOf k arch ∷ texts (take k a)
+
+abbrev pub sections : Kind → ℕ
+sections (kinds.Cic n m rate) = 0
+sections (kinds.Wdf k arch) = k

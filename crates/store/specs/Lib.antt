@@ -1,0 +1,5 @@
+pub mod Entries
+pub mod Reading
+pub mod Writing
+pub mod Saving
+pub mod Laws

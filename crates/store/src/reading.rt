@@ -1,0 +1,115 @@
+// Reading a store: a line at a time into 64 entries.
+use crate::line::record_in;
+use crate::numbers::number_of;
+use crate::settings::Entry;
+use crate::settings::Name;
+use crate::settings::Settings;
+use crate::settings::no_entry;
+use crate::settings::no_name;
+use text::comparing::same_bytes;
+use text::parts::part_end;
+ghost use mathlib.Core.Path.{_≡_};
+ghost use mathlib.Core.Option.{none};
+ghost use Prim.Native.Nat.{_≤_, _<_};
+ghost use lib.ListN.{length};
+ghost use Rattle.settings_text.specs.Lines.{form1};
+ghost use Rattle.settings_text.specs.Stores.{Bad, readOf};
+ghost use Rattle.store.specs.Entries.{nameIn};
+ghost use Rattle.store.specs.Reading.{stepBy, stepOf, found};
+
+// A line's record, where the line ends, and the number that refuses it or 0.
+pub struct Step {
+    pub entry: Entry,
+    pub end: usize,
+    pub number: u32,
+}
+
+// The settings, with line and number 0; or no settings, the first bad line, from 1, and its number.
+pub struct Read {
+    pub settings: Settings,
+    pub line: usize,
+    pub number: u32,
+}
+
+fn refused(line: usize, number: u32) -> Read
+    ensures { λ r. ⌜ r ≡ found (Bad line number) ⌝ }
+{
+    let e = no_entry();
+    let entries = [e; 64];
+    let settings = Settings { count: 0, entries };
+    Read {
+        settings,
+        line,
+        number,
+    }
+}
+
+// A line that holds no record.
+fn stopped(k: usize, last: Name, end: usize) -> Step
+    ensures { λ r. ⌜ r ≡ stepBy none end k (nameIn last) ⌝ }
+{
+    let entry = no_entry();
+    Step {
+        entry,
+        end,
+        number: 81,
+    }
+}
+
+// The line at a place, after k records, the last of them named `last`.
+fn next(text: &[u8], at: usize, k: usize, last: Name) -> Step
+    requires { ⌜ (at < length (now text)) × (last .len ≤ 16) ⌝ }
+    ensures { λ r. ⌜ r ≡ stepOf (now (text .entry)) at k (nameIn last) ⌝ }
+{
+    let end = part_end(text, at, b'\n');
+    if text.len() <= end {
+        return stopped(k, last, end);
+    }
+    let line = record_in(&text[at..end]);
+    if !line.found {
+        return stopped(k, last, end);
+    }
+    let entry = line.entry;
+    let name = entry.name;
+    let kind = entry.kind;
+    let number = number_of(k, last, name, kind);
+    Step { entry, end, number }
+}
+
+// Reads a store of form 1: its settings, or its first bad line and what that is refused with.
+pub fn read_form1(text: &[u8]) -> Read
+    ensures { λ r. ⌜ r ≡ found (readOf form1 (now (text .entry))) ⌝ }
+{
+    let e = part_end(text, 0, b'\n');
+    if text.len() <= e {
+        return refused(1, 80);
+    }
+    if !same_bytes(&text[..e], b"set\t1") {
+        return refused(1, 80);
+    }
+    let blank = no_entry();
+    let mut entries = [blank; 64];
+    let mut last = no_name();
+    let mut n: usize = 0;
+    let mut at = e + 1;
+    while at < text.len() {
+        let step = next(text, at, n, last);
+        let number = step.number;
+        if number != 0 {
+            let line = n + 2;
+            return refused(line, number);
+        }
+        let entry = step.entry;
+        entries[n] = entry;
+        let name = entry.name;
+        last = name;
+        n += 1;
+        at = step.end + 1;
+    }
+    let settings = Settings { count: n, entries };
+    Read {
+        settings,
+        line: 0,
+        number: 0,
+    }
+}
