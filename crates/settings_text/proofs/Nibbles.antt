@@ -41,8 +41,14 @@ hex-again d h = by (ltb d 10) refl
     by false e =
         let k = ltb-false d 10 e in
         let m : 97 + (d - 10) - 97 + 10 ≡ d = omega arith in
-        rw (le-ltb (97 + (d - 10)) 48 (omega arith), lt-leb (97 + (d - 10)) 57 (omega arith), le-ltb (97 + (d - 10)) 97 (omega arith),
-        le-leb (97 + (d - 10)) 102 (omega arith), m, le-ltb 15 d (omega arith))
+        rw (
+          le-ltb (97 + (d - 10)) 48 (omega arith),
+          lt-leb (97 + (d - 10)) 57 (omega arith),
+          le-ltb (97 + (d - 10)) 97 (omega arith),
+          le-leb (97 + (d - 10)) 102 (omega arith),
+          m,
+          le-ltb 15 d (omega arith),
+        )
 
 pub record Hex (b d : ℕ) : Type 0 where
   pub text : b ≡ hexOf d

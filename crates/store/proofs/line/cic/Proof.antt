@@ -13,12 +13,6 @@ use Rattle.store.proofs.Ends.{cic-none, cic-other, cic-some, words-fit}
 use Rattle.store.proofs.line.cic.Statement.{statement}
 use Rattle.store.proofs.line.cic.Tie as tie
 
-numbers-from-requires : tie.Need-numbers-from-requires
-numbers-from-requires c κs = search needs
-
-nothing-requires : tie.Need-nothing-requires
-nothing-requires c κs = search needs
-
 returns : tie.Need-returns
 returns c =
     let begin : tie.Start = search in
@@ -27,9 +21,6 @@ returns c =
     let a = begin .args in
     c .nothing .ensures ∙ cic-none (a .name) (begin .pre .0) (fieldsFrom (a .line .now) (a .from)) (at-numbers-from .numbers-from .result) (at-numbers-from .numbers-from .ensures) (not-true _ (then1 .if1 .taken))
 
-nothing-requires-2 : tie.Need-nothing-requires-2
-nothing-requires-2 c κs = search needs
-
 returns-2 : tie.Need-returns-2
 returns-2 c =
     let begin : tie.Start = search in
@@ -37,24 +28,6 @@ returns-2 c =
     let then2 : tie.Then2 = search in
     let a = begin .args in
     c .nothing2 .ensures ∙ cic-other (a .name) (begin .pre .0) (fieldsFrom (a .line .now) (a .from)) (at-numbers-from .numbers-from .result) (at-numbers-from .numbers-from .ensures) (then2 .if2 .taken)
-
-array-copy-out-i32-as-u32 : tie.Need-array-copy-out-i32-as-u32
-array-copy-out-i32-as-u32 c = search needs
-
-i32-as-u32-requires : tie.Need-i32-as-u32-requires
-i32-as-u32-requires c κs = search needs
-
-array-copy-out-i32-as-u32-2 : tie.Need-array-copy-out-i32-as-u32-2
-array-copy-out-i32-as-u32-2 c = search needs
-
-i32-as-u32-requires-2 : tie.Need-i32-as-u32-requires-2
-i32-as-u32-requires-2 c κs = search needs
-
-array-copy-out-i32-as-u32-3 : tie.Need-array-copy-out-i32-as-u32-3
-array-copy-out-i32-as-u32-3 c = search needs
-
-i32-as-u32-requires-3 : tie.Need-i32-as-u32-requires-3
-i32-as-u32-requires-3 c κs = search needs
 
 returns-3 : tie.Need-returns-3
 returns-3 c =
@@ -75,17 +48,6 @@ returns-3 c =
 
 pub cic-spec : {M : Type 1} → statement M
 cic-spec =
-    tie.close
-    (tie.spec
-    numbers-from-requires
-    nothing-requires
-    returns
-    nothing-requires-2
-    returns-2
-    array-copy-out-i32-as-u32
-    i32-as-u32-requires
-    array-copy-out-i32-as-u32-2
-    i32-as-u32-requires-2
-    array-copy-out-i32-as-u32-3
-    i32-as-u32-requires-3
-    returns-3)
+    tie.close (tie.spec (λ c κs. search needs) (λ c κs. search needs) returns (λ c κs. search needs) returns-2
+    (λ c. search needs) (λ c κs. search needs) (λ c. search needs) (λ c κs. search needs) (λ c. search needs)
+    (λ c κs. search needs) returns-3)

@@ -25,15 +25,6 @@ loop-holds c =
     let begin : tie.Start Inv-loop μ-loop = search in
     (c .if1 .left, omega arith, sofar-none (begin .args .field .now) (begin .args .k) (c .if1 .left))
 
-sub-i : tie.Need-sub-i Inv-loop μ-loop
-sub-i c = search needs
-
-shared-slice-read-nibble-of : tie.Need-shared-slice-read-nibble-of Inv-loop μ-loop
-shared-slice-read-nibble-of c = search needs
-
-nibble-of-requires : tie.Need-nibble-of-requires Inv-loop μ-loop
-nibble-of-requires c κs = search needs
-
 returns-2 : tie.Need-returns-2 Inv-loop μ-loop
 returns-2 c =
     let begin : tie.Start Inv-loop μ-loop = search in
@@ -44,15 +35,6 @@ returns-2 c =
     let h = l .inv .0 in
     let g = l .inv .1 in
     rw (← h) (hex-wrong f (l .i - 1) (at-nibble-of .nibble-of .result) (omega arith) (at-nibble-of .nibble-of .ensures) (c .if2 .taken))
-
-mul-m : tie.Need-mul-m Inv-loop μ-loop
-mul-m c = search needs
-
-add-m : tie.Need-add-m Inv-loop μ-loop
-add-m c = search needs
-
-loop-less : tie.Need-loop-less Inv-loop μ-loop
-loop-less c = search needs
 
 loop-again : tie.Need-loop-again Inv-loop μ-loop
 loop-again c =
@@ -76,18 +58,5 @@ returns-3 c =
 
 pub hexes-spec : {M : Type 1} → statement M
 hexes-spec =
-    tie.close
-    (tie.spec
-    Inv-loop
-    μ-loop
-    returns
-    loop-holds
-    sub-i
-    shared-slice-read-nibble-of
-    nibble-of-requires
-    returns-2
-    mul-m
-    add-m
-    loop-less
-    loop-again
-    returns-3)
+    tie.close (tie.spec Inv-loop μ-loop returns loop-holds (λ c. search needs) (λ c. search needs)
+    (λ c κs. search needs) returns-2 (λ c. search needs) (λ c. search needs) (λ c. search needs) loop-again returns-3)

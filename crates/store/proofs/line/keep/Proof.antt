@@ -8,15 +8,6 @@ use mir.ValLaws.{toZ-ofZ}
 use Rattle.store.proofs.line.keep.Statement.{statement}
 use Rattle.store.proofs.line.keep.Tie as tie
 
-u32-as-i32-requires : tie.Need-u32-as-i32-requires
-u32-as-i32-requires c κs = search needs
-
-mul-t6 : tie.Need-mul-t6
-mul-t6 c = search needs
-
-element-set-from-words : tie.Need-element-set-from-words
-element-set-from-words c = search needs
-
 returns : tie.Need-returns
 returns c = rw (toZ-ofZ w32 (c .u32-as-i32 .result) (record { sfits = c .u32-as-i32 .ok }), c .u32-as-i32 .ensures)
 
@@ -25,4 +16,4 @@ returns-2 c = sym (set-out _ _ _ (omega arith))
 
 pub keep-spec : {M : Type 1} → statement M
 keep-spec =
-    tie.close (tie.spec u32-as-i32-requires mul-t6 element-set-from-words returns returns-2)
+    tie.close (tie.spec (λ c κs. search needs) (λ c. search needs) (λ c. search needs) returns returns-2)

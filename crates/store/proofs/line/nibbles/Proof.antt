@@ -7,20 +7,11 @@ use Rattle.store.proofs.Counting.{dash, no-dash, some-nibbles}
 use Rattle.store.proofs.line.nibbles.Statement.{statement}
 use Rattle.store.proofs.line.nibbles.Tie as tie
 
-hexes-requires : tie.Need-hexes-requires
-hexes-requires c κs = search needs
-
 returns : tie.Need-returns
 returns c =
     let begin : tie.Start = search in
     let then1 : tie.Then1 = search in
     c .hexes .ensures ∙ some-nibbles (begin .args .k) (begin .args .field .now) (then1 .if1 .taken)
-
-slice-aggregate-same-bytes : tie.Need-slice-aggregate-same-bytes
-slice-aggregate-same-bytes c = search needs
-
-same-bytes-requires : tie.Need-same-bytes-requires
-same-bytes-requires c κs = search needs
 
 returns-2 : tie.Need-returns-2
 returns-2 c =
@@ -38,5 +29,4 @@ returns-3 c =
 
 pub nibbles-spec : {M : Type 1} → statement M
 nibbles-spec =
-    tie.close
-    (tie.spec hexes-requires returns slice-aggregate-same-bytes same-bytes-requires returns-2 returns-3)
+    tie.close (tie.spec (λ c κs. search needs) returns (λ c. search needs) (λ c κs. search needs) returns-2 returns-3)

@@ -21,15 +21,6 @@ loop-holds c =
     let begin : tie.Start Inv-loop μ-loop = search in
     (begin .pre .1, begin .pre .2, begin .pre .3, counting-none (range (begin .args .least) (begin .args .most)) (begin .args .line .now) (begin .args .from) (begin .pre .0))
 
-part-end-requires : tie.Need-part-end-requires Inv-loop μ-loop
-part-end-requires c κs = search needs
-
-sub-word-of : tie.Need-sub-word-of Inv-loop μ-loop
-sub-word-of c = search needs
-
-part-word-of-start : tie.Need-part-word-of-start Inv-loop μ-loop
-part-word-of-start c = search needs
-
 part-word-of-end : tie.Need-part-word-of-end Inv-loop μ-loop
 part-word-of-end c =
     let begin : tie.Start Inv-loop μ-loop = search in
@@ -42,15 +33,6 @@ word-of-requires : tie.Need-word-of-requires Inv-loop μ-loop
 word-of-requires c κs =
     let turn : tie.At-loop Inv-loop μ-loop = search in
     (turn .loop .inv .1, turn .loop .inv .2)
-
-enum-known-w : tie.Need-enum-known-w Inv-loop μ-loop
-enum-known-w c = search needs
-
-enum-told : tie.Need-enum-told Inv-loop μ-loop
-enum-told c = search needs
-
-no-numbers-requires : tie.Need-no-numbers-requires Inv-loop μ-loop
-no-numbers-requires c κs = search needs
 
 returns : tie.Need-returns Inv-loop μ-loop
 returns c =
@@ -122,23 +104,6 @@ returns-2 c =
 
 pub numbers-from-spec : {M : Type 1} → statement M
 numbers-from-spec =
-    tie.close
-    (tie.spec
-    Inv-loop
-    μ-loop
-    loop-holds
-    part-end-requires
-    sub-word-of
-    part-word-of-start
-    part-word-of-end
-    word-of-requires
-    enum-known-w
-    enum-told
-    no-numbers-requires
-    returns
-    keep-requires
-    add-n
-    add-at
-    loop-less
-    loop-again
-    returns-2)
+    tie.close (tie.spec Inv-loop μ-loop loop-holds (λ c κs. search needs) (λ c. search needs) (λ c. search needs)
+    part-word-of-end word-of-requires (λ c. search needs) (λ c. search needs) (λ c κs. search needs) returns
+    keep-requires add-n add-at loop-less loop-again returns-2)

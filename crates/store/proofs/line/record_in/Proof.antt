@@ -12,20 +12,11 @@ use Rattle.store.proofs.Ends.{is-cic, is-wdf, name-kept, no-kind, no-na
 use Rattle.store.proofs.line.record_in.Statement.{statement}
 use Rattle.store.proofs.line.record_in.Tie as tie
 
-nothing-requires : tie.Need-nothing-requires
-nothing-requires c κs = search needs
-
 returns : tie.Need-returns
 returns c =
     let then1 : tie.Then1 = search in
     let begin : tie.Start = search in
     c .nothing .ensures ∙ too-long (begin .args .line .now) (then1 .if1 .taken)
-
-part-end-requires : tie.Need-part-end-requires
-part-end-requires c κs = search needs
-
-nothing-requires-2 : tie.Need-nothing-requires-2
-nothing-requires-2 c κs = search needs
 
 returns-2 : tie.Need-returns-2
 returns-2 c =
@@ -34,12 +25,6 @@ returns-2 c =
     let else1 : tie.Else1 = search in
     let begin : tie.Start = search in
     c .nothing2 .ensures ∙ one-field (begin .args .line .now) (else1 .if1 .left) (at-part-end .part-end .result) (at-part-end .part-end .ensures) (then2 .if2 .taken)
-
-add-e1 : tie.Need-add-e1
-add-e1 c = search needs
-
-part-end-requires-2 : tie.Need-part-end-requires-2
-part-end-requires-2 c κs = search needs
 
 add-f1 : tie.Need-add-f1
 add-f1 c =
@@ -52,12 +37,6 @@ add-f1 c =
     let s = else1 .if1 .left in
     record { fits = omega arith }
 
-sub-is-name : tie.Need-sub-is-name
-sub-is-name c = search needs
-
-part-is-name-start : tie.Need-part-is-name-start
-part-is-name-start c = search needs
-
 part-is-name-end : tie.Need-part-is-name-end
 part-is-name-end c =
     let at-part-end : tie.After-part-end = search in
@@ -66,12 +45,6 @@ part-is-name-end c =
     let t = end-high 9 (begin .args .line .now) (at-part-end .part-end .result + 1) i in
     let e = c .part-end2 .ensures in
     omega arith
-
-is-name-requires : tie.Need-is-name-requires
-is-name-requires c κs = search needs
-
-nothing-requires-3 : tie.Need-nothing-requires-3
-nothing-requires-3 c κs = search needs
 
 returns-3 : tie.Need-returns-3
 returns-3 c =
@@ -83,12 +56,6 @@ returns-3 c =
     let else1 : tie.Else1 = search in
     let begin : tie.Start = search in
     c .nothing3 .ensures ∙ no-name (begin .args .line .now) (else1 .if1 .left) (at-part-end .part-end .result) (at-part-end .part-end .ensures) (else2 .if2 .left) (at-part-end2 .part-end2 .result) (at-part-end2 .part-end2 .ensures) (sym (at-is-name .is-name .ensures) ∙ not-true _ (then3 .if3 .taken))
-
-sub-name-of : tie.Need-sub-name-of
-sub-name-of c = search needs
-
-part-name-of-start : tie.Need-part-name-of-start
-part-name-of-start c = search needs
 
 part-name-of-end : tie.Need-part-name-of-end
 part-name-of-end c =
@@ -113,12 +80,6 @@ slice-aggregate-same-bytes c =
     let begin : tie.Start = search in
     let h : at-part-end .part-end .result ≤ length (begin .args .line .now) = omega (arith, else2 .if2 .left) in
     sym (length-take-le _ _ h)
-
-slice-aggregate-same-bytes-2 : tie.Need-slice-aggregate-same-bytes-2
-slice-aggregate-same-bytes-2 c = search needs
-
-same-bytes-requires : tie.Need-same-bytes-requires
-same-bytes-requires c κs = search needs
 
 cic-requires : tie.Need-cic-requires
 cic-requires c κs =
@@ -155,12 +116,6 @@ slice-aggregate-same-bytes-3 c =
     let h : at-part-end .part-end .result ≤ length (begin .args .line .now) = omega (arith, else2 .if2 .left) in
     sym (length-take-le _ _ h)
 
-slice-aggregate-same-bytes-4 : tie.Need-slice-aggregate-same-bytes-4
-slice-aggregate-same-bytes-4 c = search needs
-
-same-bytes-requires-2 : tie.Need-same-bytes-requires-2
-same-bytes-requires-2 c κs = search needs
-
 wdf-requires : tie.Need-wdf-requires
 wdf-requires c κs =
     let at-name-of : tie.After-name-of = search in
@@ -190,9 +145,6 @@ returns-5 c =
     let begin : tie.Start = search in
     is-wdf (begin .args .line .now) (else1 .if1 .left) (at-part-end .part-end .result) (at-part-end .part-end .ensures) (else2 .if2 .left) (at-part-end2 .part-end2 .result) (at-part-end2 .part-end2 .ensures) (sym (at-is-name .is-name .ensures) ∙ not-false _ (else3 .if3 .left)) (at-name-of .name-of .result) (at-name-of .name-of .ensures) (sym (at-same-bytes .same-bytes .ensures) ∙ else4 .if4 .left) _ (c .wdf .ensures) (sym (at-same-bytes2 .same-bytes2 .ensures) ∙ then5 .if5 .taken)
 
-nothing-requires-4 : tie.Need-nothing-requires-4
-nothing-requires-4 c κs = search needs
-
 returns-6 : tie.Need-returns-6
 returns-6 c =
     let else5 : tie.Else5 = search in
@@ -211,35 +163,9 @@ returns-6 c =
 
 pub record-in-spec : {M : Type 1} → statement M
 record-in-spec =
-    tie.close
-    (tie.spec
-    nothing-requires
-    returns
-    part-end-requires
-    nothing-requires-2
-    returns-2
-    add-e1
-    part-end-requires-2
-    add-f1
-    sub-is-name
-    part-is-name-start
-    part-is-name-end
-    is-name-requires
-    nothing-requires-3
-    returns-3
-    sub-name-of
-    part-name-of-start
-    part-name-of-end
-    name-of-requires
-    slice-aggregate-same-bytes
-    slice-aggregate-same-bytes-2
-    same-bytes-requires
-    cic-requires
-    returns-4
-    slice-aggregate-same-bytes-3
-    slice-aggregate-same-bytes-4
-    same-bytes-requires-2
-    wdf-requires
-    returns-5
-    nothing-requires-4
-    returns-6)
+    tie.close (tie.spec (λ c κs. search needs) returns (λ c κs. search needs) (λ c κs. search needs) returns-2
+    (λ c. search needs) (λ c κs. search needs) add-f1 (λ c. search needs) (λ c. search needs) part-is-name-end
+    (λ c κs. search needs) (λ c κs. search needs) returns-3 (λ c. search needs) (λ c. search needs) part-name-of-end
+    name-of-requires slice-aggregate-same-bytes (λ c. search needs) (λ c κs. search needs) cic-requires returns-4
+    slice-aggregate-same-bytes-3 (λ c. search needs) (λ c κs. search needs) wdf-requires returns-5
+    (λ c κs. search needs) returns-6)

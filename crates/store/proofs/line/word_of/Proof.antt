@@ -5,21 +5,6 @@ use Rattle.store.proofs.Counting.{minus-in, minus-out, minus-some, plus
 use Rattle.store.proofs.line.word_of.Statement.{statement}
 use Rattle.store.proofs.line.word_of.Tie as tie
 
-parsed-requires : tie.Need-parsed-requires
-parsed-requires c κs = search needs
-
-enum-known-v : tie.Need-enum-known-v
-enum-known-v c = search needs
-
-cast-t10 : tie.Need-cast-t10
-cast-t10 c = search needs
-
-enum-known-v-2 : tie.Need-enum-known-v-2
-enum-known-v-2 c = search needs
-
-sub-t13 : tie.Need-sub-t13
-sub-t13 c = search needs
-
 cast-t14 : tie.Need-cast-t14
 cast-t14 c =
     let begin : tie.Start = search in
@@ -27,9 +12,6 @@ cast-t14 c =
     let a = begin .args in
     let s = minus-some (a .field .now) (a .least) (a .most) (begin .pre .0) (begin .pre .1) (at-parsed .parsed .result) (at-parsed .parsed .ensures) _ (c .before .before .v2 .given .1) in
     record { fits = omega arith }
-
-enum-told : tie.Need-enum-told
-enum-told c = search needs
 
 returns : tie.Need-returns
 returns c =
@@ -68,17 +50,5 @@ returns-5 c =
 
 pub word-of-spec : {M : Type 1} → statement M
 word-of-spec =
-    tie.close
-    (tie.spec
-    parsed-requires
-    enum-known-v
-    cast-t10
-    enum-known-v-2
-    sub-t13
-    cast-t14
-    enum-told
-    returns
-    returns-2
-    returns-3
-    returns-4
-    returns-5)
+    tie.close (tie.spec (λ c κs. search needs) (λ c. search needs) (λ c. search needs) (λ c. search needs)
+    (λ c. search needs) cast-t14 (λ c. search needs) returns returns-2 returns-3 returns-4 returns-5)

@@ -27,15 +27,6 @@ returns-2 c =
     let begin : tie.Start Inv-loop μ-loop = search in
     long-name (begin .args .s .now) (omega arith) (c .if2 .taken)
 
-loop-holds : tie.Need-loop-holds Inv-loop μ-loop
-loop-holds c = search needs
-
-shared-slice-read-is-letter : tie.Need-shared-slice-read-is-letter Inv-loop μ-loop
-shared-slice-read-is-letter c = search needs
-
-is-letter-requires : tie.Need-is-letter-requires Inv-loop μ-loop
-is-letter-requires c κs = search needs
-
 returns-3 : tie.Need-returns-3 Inv-loop μ-loop
 returns-3 c =
     let begin : tie.Start Inv-loop μ-loop = search in
@@ -44,12 +35,6 @@ returns-3 c =
     let s = begin .args .s .now in
     let l = turn .loop in
     sym (by-letters s (l .inv .1) (l .inv .2) ∙ sym (l .inv .3) ∙ letter-not s (l .i) (omega arith) (sym (at-is-letter .is-letter .ensures) ∙ not-true _ (c .if3 .taken)))
-
-add-i : tie.Need-add-i Inv-loop μ-loop
-add-i c = search needs
-
-loop-less : tie.Need-loop-less Inv-loop μ-loop
-loop-less c = search needs
 
 loop-again : tie.Need-loop-again Inv-loop μ-loop
 loop-again c =
@@ -70,17 +55,5 @@ returns-4 c =
 
 pub is-name-spec : {M : Type 1} → statement M
 is-name-spec =
-    tie.close
-    (tie.spec
-    Inv-loop
-    μ-loop
-    returns
-    returns-2
-    loop-holds
-    shared-slice-read-is-letter
-    is-letter-requires
-    returns-3
-    add-i
-    loop-less
-    loop-again
-    returns-4)
+    tie.close (tie.spec Inv-loop μ-loop returns returns-2 (λ c. search needs) (λ c. search needs) (λ c κs. search needs)
+    returns-3 (λ c. search needs) (λ c. search needs) loop-again returns-4)

@@ -61,13 +61,12 @@ returns-3 c =
     let order : tie.After-comes-before = search in
     let few : tie.Else1 = search in
     let asked : tie.After-kind-number = search in
-    let w = not-false (order .comes-before .result) (c .if2 .left) in
-    (
+    let w = not-false (order .comes-before .result) (c .if2 .left) in (
       sym (rw (lt-leb _ _ (few .if1 .left), ← order .comes-before .ensures, w, asked .kind-number .ensures .0)),
       asked .kind-number .ensures .1,
     )
 
 pub number-of-spec : {M : Type 1} → statement M
 number-of-spec =
-    tie.close (tie.spec (λ c κs. search needs) returns array-share-prefix-xs slice-aggregate-comes-before array-share-prefix-ys
-    slice-aggregate-comes-before-2 (λ c κs. search needs) returns-2 returns-3)
+    tie.close (tie.spec (λ c κs. search needs) returns array-share-prefix-xs slice-aggregate-comes-before
+    array-share-prefix-ys slice-aggregate-comes-before-2 (λ c κs. search needs) returns-2 returns-3)

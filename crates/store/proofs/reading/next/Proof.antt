@@ -8,12 +8,6 @@ use Rattle.store.proofs.Turns.{next-none, next-open, next-short, next-s
 use Rattle.store.proofs.reading.next.Statement.{statement}
 use Rattle.store.proofs.reading.next.Tie as tie
 
-part-end-requires : tie.Need-part-end-requires
-part-end-requires c κs = search needs
-
-stopped-requires : tie.Need-stopped-requires
-stopped-requires c κs = search needs
-
 returns : tie.Need-returns
 returns c =
     let begin : tie.Start = search in
@@ -21,21 +15,6 @@ returns c =
     let then1 : tie.Then1 = search in
     let a = begin .args in
     c .stopped .ensures ∙ next-open (a .text .now) (a .at) (a .k) (nameIn (a .last)) (at-part-end .part-end .result) (at-part-end .part-end .ensures) (then1 .if1 .taken)
-
-sub-record-in : tie.Need-sub-record-in
-sub-record-in c = search needs
-
-part-record-in-start : tie.Need-part-record-in-start
-part-record-in-start c = search needs
-
-part-record-in-end : tie.Need-part-record-in-end
-part-record-in-end c = search needs
-
-record-in-requires : tie.Need-record-in-requires
-record-in-requires c κs = search needs
-
-stopped-requires-2 : tie.Need-stopped-requires-2
-stopped-requires-2 c κs = search needs
 
 returns-2 : tie.Need-returns-2
 returns-2 c =
@@ -69,16 +48,5 @@ returns-3 c =
 
 pub next-spec : {M : Type 1} → statement M
 next-spec =
-    tie.close
-    (tie.spec
-    part-end-requires
-    stopped-requires
-    returns
-    sub-record-in
-    part-record-in-start
-    part-record-in-end
-    record-in-requires
-    stopped-requires-2
-    returns-2
-    number-of-requires
-    returns-3)
+    tie.close (tie.spec (λ c κs. search needs) (λ c κs. search needs) returns (λ c. search needs) (λ c. search needs)
+    (λ c. search needs) (λ c κs. search needs) (λ c κs. search needs) returns-2 number-of-requires returns-3)

@@ -19,12 +19,6 @@ Inv-loop text e entries₀ last₀ n₀ at₀ entries last n at = (length text <
 abbrev μ-loop : tie.MeasureT-loop
 μ-loop text e entries₀ last₀ n₀ at₀ entries last n at = length text - at
 
-part-end-requires : tie.Need-part-end-requires Inv-loop μ-loop
-part-end-requires c κs = search needs
-
-refused-requires : tie.Need-refused-requires Inv-loop μ-loop
-refused-requires c κs = search needs
-
 returns : tie.Need-returns Inv-loop μ-loop
 returns c =
     let begin : tie.Start Inv-loop μ-loop = search in
@@ -38,15 +32,6 @@ slice-aggregate-same-bytes c =
     let begin : tie.Start Inv-loop μ-loop = search in
     sym (length-take-le (at-part-end .part-end .result) (begin .args .text .now) (omega arith))
 
-slice-aggregate-same-bytes-2 : tie.Need-slice-aggregate-same-bytes-2 Inv-loop μ-loop
-slice-aggregate-same-bytes-2 c = search needs
-
-same-bytes-requires : tie.Need-same-bytes-requires Inv-loop μ-loop
-same-bytes-requires c κs = search needs
-
-refused-requires-2 : tie.Need-refused-requires-2 Inv-loop μ-loop
-refused-requires-2 c κs = search needs
-
 returns-2 : tie.Need-returns-2 Inv-loop μ-loop
 unfolding form1
 returns-2 c =
@@ -56,15 +41,6 @@ returns-2 c =
     let then2 : tie.Then2 Inv-loop μ-loop = search in
     c .refused2 .ensures ∙ ap found (other-line (begin .args .text .now) (at-part-end .part-end .result) (at-part-end .part-end .ensures) (omega arith) (sym (at-same-bytes .same-bytes .ensures) ∙ not-true _ (then2 .if2 .taken)))
 
-no-entry-requires : tie.Need-no-entry-requires Inv-loop μ-loop
-no-entry-requires c κs = search needs
-
-no-name-requires : tie.Need-no-name-requires Inv-loop μ-loop
-no-name-requires c κs = search needs
-
-add-at : tie.Need-add-at Inv-loop μ-loop
-add-at c = search needs
-
 loop-holds : tie.Need-loop-holds Inv-loop μ-loop
 unfolding form1
 loop-holds c =
@@ -72,8 +48,7 @@ loop-holds c =
     let begin : tie.Start Inv-loop μ-loop = search in
     let at-part-end : tie.After-part-end Inv-loop μ-loop = search in
     let at-same-bytes : tie.After-same-bytes Inv-loop μ-loop = search in
-    let else2 : tie.Else2 Inv-loop μ-loop = search in
-    (
+    let else2 : tie.Else2 Inv-loop μ-loop = search in (
       omega arith,
       rw (at-no-entry .no-entry .ensures) (started (begin .args .text .now) (at-part-end .part-end .result) (c .no-name .result) (at-part-end .part-end .ensures) (omega arith) (same-eq _ _ (sym (at-same-bytes .same-bytes .ensures) ∙ not-false _ (else2 .if2 .left))) (c .no-name .ensures .0) (c .no-name .ensures .1)),
     )
@@ -89,9 +64,6 @@ add-line c =
     let r = turn .loop .inv .1 .room in
     record { fits = omega arith }
 
-refused-requires-3 : tie.Need-refused-requires-3 Inv-loop μ-loop
-refused-requires-3 c κs = search needs
-
 returns-3 : tie.Need-returns-3 Inv-loop μ-loop
 returns-3 c =
     let turn : tie.At-loop Inv-loop μ-loop = search in
@@ -101,9 +73,6 @@ returns-3 c =
     let then3 : tie.Then3 Inv-loop μ-loop = search in
     let l = turn .loop in
     c .refused3 .ensures ∙ stops (begin .args .text .now) (l .entries) (l .last) (l .n) (l .at) (l .inv .1) (inside .loop-test .taken) (at-next .next .result) (at-next .next .ensures) (then3 .if3 .taken)
-
-mul-entries : tie.Need-mul-entries Inv-loop μ-loop
-mul-entries c = search needs
 
 array-set-from-entries : tie.Need-array-set-from-entries Inv-loop μ-loop
 array-set-from-entries c =
@@ -170,30 +139,7 @@ returns-4 c =
 
 pub read-form1-spec : {M : Type 1} → statement M
 read-form1-spec =
-    tie.close
-    (tie.spec
-    Inv-loop
-    μ-loop
-    part-end-requires
-    refused-requires
-    returns
-    slice-aggregate-same-bytes
-    slice-aggregate-same-bytes-2
-    same-bytes-requires
-    refused-requires-2
-    returns-2
-    no-entry-requires
-    no-name-requires
-    add-at
-    loop-holds
-    next-requires
-    add-line
-    refused-requires-3
-    returns-3
-    mul-entries
-    array-set-from-entries
-    add-n
-    add-at-2
-    loop-less
-    loop-again
-    returns-4)
+    tie.close (tie.spec Inv-loop μ-loop (λ c κs. search needs) (λ c κs. search needs) returns slice-aggregate-same-bytes
+    (λ c. search needs) (λ c κs. search needs) (λ c κs. search needs) returns-2 (λ c κs. search needs)
+    (λ c κs. search needs) (λ c. search needs) loop-holds next-requires add-line (λ c κs. search needs) returns-3
+    (λ c. search needs) array-set-from-entries add-n add-at-2 loop-less loop-again returns-4)

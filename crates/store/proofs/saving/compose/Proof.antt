@@ -15,12 +15,6 @@ Inv-loop out₀ entries count last₀ end₀ i₀ out last end i = (length entri
 abbrev μ-loop : tie.MeasureT-loop
 μ-loop out₀ entries count last₀ end₀ i₀ out last end i = count - i
 
-no-name-requires : tie.Need-no-name-requires Inv-loop μ-loop
-no-name-requires c κs = search needs
-
-put-heading-requires : tie.Need-put-heading-requires Inv-loop μ-loop
-put-heading-requires c κs = search needs
-
 loop-holds : tie.Need-loop-holds Inv-loop μ-loop
 loop-holds c =
     let begin : tie.Start Inv-loop μ-loop = search in
@@ -50,12 +44,6 @@ returns c =
       wrote = λ z. absurd (omega arith);
       long = turn .loop .inv .4 .long ∙ at-put-heading .put-heading .ensures .long;
     }
-
-mul-entry : tie.Need-mul-entry Inv-loop μ-loop
-mul-entry c = search needs
-
-array-copy-out-entry : tie.Need-array-copy-out-entry Inv-loop μ-loop
-array-copy-out-entry c = search needs
 
 entry-number-requires : tie.Need-entry-number-requires Inv-loop μ-loop
 entry-number-requires c κs =
@@ -95,12 +83,6 @@ put-line-requires c κs =
     let s = at-entry-number .entry-number .ensures .1 (else2 .if2 .left) in
     (omega arith, s .1, s .0)
 
-add-i : tie.Need-add-i Inv-loop μ-loop
-add-i c = search needs
-
-loop-less : tie.Need-loop-less Inv-loop μ-loop
-loop-less c = search needs
-
 loop-again : tie.Need-loop-again Inv-loop μ-loop
 loop-again c =
     let begin : tie.Start Inv-loop μ-loop = search in
@@ -115,10 +97,13 @@ loop-again c =
     let s = at-entry-number .entry-number .ensures .1 (else2 .if2 .left) in
     let p = l .inv .1 in
     let q = l .inv .2 in
-    let n = l .inv .0 in
-    (n, p, q,
+    let n = l .inv .0 in (
+      n,
+      p,
+      q,
       judged-on (a .settings .entries) (a .settings .count) (l .last) (l .i) n (l .inv .3) (inside .loop-test .taken) (else1 .if1 .left) _ _ refl (at-entry-number .entry-number .result) (at-entry-number .entry-number .ensures .0) (else2 .if2 .left) (s .0),
-      lines-on (a .settings .entries) _ _ (l .i) _ _ _ _ _ _ (omega arith) refl (omega arith) (l .inv .4) (at-put-line .put-line .ensures))
+      lines-on (a .settings .entries) _ _ (l .i) _ _ _ _ _ _ (omega arith) refl (omega arith) (l .inv .4) (at-put-line .put-line .ensures),
+    )
 
 same-length-3 : tie.Need-same-length-3 Inv-loop μ-loop
 same-length-3 c =
@@ -142,23 +127,6 @@ returns-3 c =
 
 pub compose-spec : {M : Type 1} → statement M
 compose-spec =
-    tie.close
-    (tie.spec
-    Inv-loop
-    μ-loop
-    no-name-requires
-    put-heading-requires
-    loop-holds
-    same-length
-    returns
-    mul-entry
-    array-copy-out-entry
-    entry-number-requires
-    same-length-2
-    returns-2
-    put-line-requires
-    add-i
-    loop-less
-    loop-again
-    same-length-3
-    returns-3)
+    tie.close (tie.spec Inv-loop μ-loop (λ c κs. search needs) (λ c κs. search needs) loop-holds same-length returns
+    (λ c. search needs) (λ c. search needs) entry-number-requires same-length-2 returns-2 put-line-requires
+    (λ c. search needs) (λ c. search needs) loop-again same-length-3 returns-3)

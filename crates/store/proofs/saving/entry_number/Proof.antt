@@ -39,8 +39,7 @@ returns-2 c =
     let l : length (a .entry .a) ≡ 8 = search needs in
     let b : length (a .entry .name .bytes) ≡ 16 = search needs in
     let named : tie.After-is-name = search in
-    let short : tie.Else1 = search in
-    (
+    let short : tie.Else1 = search in (
       name-wrong (a .k) (nameIn (a .last)) (a .entry) l b (short .if1 .left) (sym (named .is-name .ensures) ∙ not-true _ (c .if2 .taken)),
       λ z. absurd (omega arith),
     )
@@ -54,10 +53,9 @@ returns-3 c =
     let is : tie.Else2 = search in
     let named : tie.After-is-name = search in
     let short : tie.Else1 = search in
-    let n = c .number-of .ensures in
-    (
+    let n = c .number-of .ensures in (
       kind-right (a .k) (nameIn (a .last)) (a .entry) l b (short .if1 .left)
-      (sym (named .is-name .ensures) ∙ not-false _ (is .if2 .left)) (c .number-of .result) (n .1) (n .0),
+          (sym (named .is-name .ensures) ∙ not-false _ (is .if2 .left)) (c .number-of .result) (n .1) (n .0),
       λ z. (short .if1 .left, few-sections (a .k) (nameIn (a .last)) (nameIn (a .entry .name)) (a .entry .kind) (sym (n .0) ∙ z)),
     )
 

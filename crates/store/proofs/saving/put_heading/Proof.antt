@@ -14,4 +14,5 @@ returns c =
     bytes-ended _ _ _ _ _ _ (begin .pre) (omega arith) (put .put-bytes .ensures)
 
 pub put-heading-spec : {M : Type 1} → statement M
-put-heading-spec = tie.close (tie.spec (λ c. search needs) (λ c κs. search needs) (λ c. search needs) returns)
+put-heading-spec =
+    tie.close (tie.spec (λ c. search needs) (λ c κs. search needs) (λ c. search needs) returns)

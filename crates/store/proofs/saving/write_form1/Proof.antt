@@ -9,12 +9,6 @@ use Rattle.store.proofs.Saved.{all-written, bad-list, short-slice}
 use Rattle.store.proofs.saving.write_form1.Statement.{statement}
 use Rattle.store.proofs.saving.write_form1.Tie as tie
 
-slice-aggregate-compose : tie.Need-slice-aggregate-compose
-slice-aggregate-compose c = search needs
-
-compose-requires : tie.Need-compose-requires
-compose-requires c κs = search needs
-
 returns : tie.Need-returns
 returns c =
     let begin : tie.Start = search in
@@ -48,12 +42,6 @@ slice-aggregate-put-bytes c =
     let l = length-replicate {A = ℕ} 8838 0 in
     sym (length-take-le (at-compose .compose .result .end) (at-compose .compose .last .1 .0) (omega arith))
 
-put-bytes-requires : tie.Need-put-bytes-requires
-put-bytes-requires c κs = search needs
-
-same-length : tie.Need-same-length
-same-length c = search needs
-
 returns-3 : tie.Need-returns-3
 returns-3 c =
     let begin : tie.Start = search in
@@ -65,14 +53,5 @@ returns-3 c =
 
 pub write-form1-spec : {M : Type 1} → statement M
 write-form1-spec =
-    tie.close
-    (tie.spec
-    slice-aggregate-compose
-    compose-requires
-    returns
-    returns-2
-    array-share-prefix-buf
-    slice-aggregate-put-bytes
-    put-bytes-requires
-    same-length
-    returns-3)
+    tie.close (tie.spec (λ c. search needs) (λ c κs. search needs) returns returns-2 array-share-prefix-buf
+    slice-aggregate-put-bytes (λ c κs. search needs) (λ c. search needs) returns-3)

@@ -16,4 +16,5 @@ returns-2 c = sym (rw (le-ltb _ _ (c .if1 .left)))
 
 pub hex-byte-spec : {M : Type 1} → statement M
 hex-byte-spec =
-    tie.close (tie.spec (λ c. search needs) (λ c. search needs) returns (λ c. search needs) (λ c. search needs) returns-2)
+    tie.close (tie.spec (λ c. search needs) (λ c. search needs) returns (λ c. search needs) (λ c. search needs)
+    returns-2)

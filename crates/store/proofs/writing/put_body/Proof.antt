@@ -8,15 +8,6 @@ use Rattle.store.proofs.Putting.{wider}
 use Rattle.store.proofs.writing.put_body.Statement.{statement}
 use Rattle.store.proofs.writing.put_body.Tie as tie
 
-enum-known-kind : tie.Need-enum-known-kind
-enum-known-kind c = search needs
-
-put-cic-requires : tie.Need-put-cic-requires
-put-cic-requires c κs = search needs
-
-enum-known-kind-2 : tie.Need-enum-known-kind-2
-enum-known-kind-2 c = search needs
-
 put-wdf-requires : tie.Need-put-wdf-requires
 put-wdf-requires c κs =
     let begin : tie.Start = search in
@@ -24,16 +15,10 @@ put-wdf-requires c κs =
     let e = ap sections (c .before .before .kind2 .given .1) in
     (begin .pre .0, omega arith, begin .pre .2)
 
-same-length : tie.Need-same-length
-same-length c = search needs
-
 returns : tie.Need-returns
 returns c =
     let at-put-cic : tie.After-put-cic = search in
     rw (c .before .before .before .before .before .kind .given .1) (wider (at-put-cic .put-cic .ensures) (omega arith))
-
-same-length-2 : tie.Need-same-length-2
-same-length-2 c = search needs
 
 returns-2 : tie.Need-returns-2
 returns-2 c =
@@ -42,13 +27,5 @@ returns-2 c =
 
 pub put-body-spec : {M : Type 1} → statement M
 put-body-spec =
-    tie.close
-    (tie.spec
-    enum-known-kind
-    put-cic-requires
-    enum-known-kind-2
-    put-wdf-requires
-    same-length
-    returns
-    same-length-2
-    returns-2)
+    tie.close (tie.spec (λ c. search needs) (λ c κs. search needs) (λ c. search needs) put-wdf-requires
+    (λ c. search needs) returns (λ c. search needs) returns-2)

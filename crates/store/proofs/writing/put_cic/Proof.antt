@@ -7,9 +7,6 @@ use Rattle.store.proofs.Putting.{more-fields}
 use Rattle.store.proofs.writing.put_cic.Statement.{statement}
 use Rattle.store.proofs.writing.put_cic.Tie as tie
 
-put-natural-requires : tie.Need-put-natural-requires
-put-natural-requires c κs = search needs
-
 put-natural-requires-2 : tie.Need-put-natural-requires-2
 put-natural-requires-2 c κs =
     let at-put-natural : tie.After-put-natural = search in
@@ -31,9 +28,6 @@ put-natural-requires-3 c κs =
     let p = begin .pre in
     omega arith
 
-same-length : tie.Need-same-length
-same-length c = search needs
-
 returns : tie.Need-returns
 returns c =
     let begin : tie.Start = search in
@@ -50,10 +44,4 @@ returns c =
 
 pub put-cic-spec : {M : Type 1} → statement M
 put-cic-spec =
-    tie.close
-    (tie.spec
-    put-natural-requires
-    put-natural-requires-2
-    put-natural-requires-3
-    same-length
-    returns)
+    tie.close (tie.spec (λ c κs. search needs) put-natural-requires-2 put-natural-requires-3 (λ c. search needs) returns)

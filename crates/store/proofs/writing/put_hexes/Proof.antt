@@ -18,18 +18,6 @@ loop-holds c =
     let begin : tie.Start Inv-loop μ-loop = search in
     (begin .pre, hexing-none (begin .args .out .now) (begin .args .at) (begin .args .k) (begin .args .m))
 
-hex-byte-requires : tie.Need-hex-byte-requires Inv-loop μ-loop
-hex-byte-requires c κs = search needs
-
-put-byte-requires : tie.Need-put-byte-requires Inv-loop μ-loop
-put-byte-requires c κs = search needs
-
-add-i : tie.Need-add-i Inv-loop μ-loop
-add-i c = search needs
-
-loop-less : tie.Need-loop-less Inv-loop μ-loop
-loop-less c = search needs
-
 loop-again : tie.Need-loop-again Inv-loop μ-loop
 loop-again c =
     let begin : tie.Start Inv-loop μ-loop = search in
@@ -59,15 +47,5 @@ returns c =
 
 pub put-hexes-spec : {M : Type 1} → statement M
 put-hexes-spec =
-    tie.close
-    (tie.spec
-    Inv-loop
-    μ-loop
-    loop-holds
-    hex-byte-requires
-    put-byte-requires
-    add-i
-    loop-less
-    loop-again
-    same-length
-    returns)
+    tie.close (tie.spec Inv-loop μ-loop loop-holds (λ c κs. search needs) (λ c κs. search needs) (λ c. search needs)
+    (λ c. search needs) loop-again same-length returns)

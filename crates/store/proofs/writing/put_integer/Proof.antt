@@ -10,15 +10,6 @@ use Rattle.store.proofs.Putting.{one-field, integer-most}
 use Rattle.store.proofs.writing.put_integer.Statement.{statement}
 use Rattle.store.proofs.writing.put_integer.Tie as tie
 
-put-byte-requires : tie.Need-put-byte-requires
-put-byte-requires c κs = search needs
-
-put-signed-requires : tie.Need-put-signed-requires
-put-signed-requires c κs = search needs
-
-same-length : tie.Need-same-length
-same-length c = search needs
-
 returns : tie.Need-returns
 returns c =
     let begin : tie.Start = search in
@@ -28,4 +19,5 @@ returns c =
     one-field (a .out .now) (a .at) (signedOf (a .v)) 12 _ _ _ _ (begin .pre) (integer-most (a .v) (c .before .before .before .before .before .before .before .before .before .fits .v)) (at-put-byte .put-byte .ensures) (puts-same (ap signedOf (toZ-ofZ w32 (a .v) (c .before .before .before .before .before .before .before .before .before .fits .v))) (at-put-signed .put-signed .ensures))
 
 pub put-integer-spec : {M : Type 1} → statement M
-put-integer-spec = tie.close (tie.spec put-byte-requires put-signed-requires same-length returns)
+put-integer-spec =
+    tie.close (tie.spec (λ c κs. search needs) (λ c κs. search needs) (λ c. search needs) returns)

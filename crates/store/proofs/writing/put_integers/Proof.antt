@@ -26,12 +26,6 @@ loop-holds c =
     let begin : tie.Start Inv-loop μ-loop = search in
     (omega arith, begin .pre .1, begin .pre .2, begin .pre .0, no-fields (begin .args .out .now) (begin .args .at))
 
-mul-v : tie.Need-mul-v Inv-loop μ-loop
-mul-v c = search needs
-
-element-copy-out-v : tie.Need-element-copy-out-v Inv-loop μ-loop
-element-copy-out-v c = search needs
-
 put-integer-requires : tie.Need-put-integer-requires Inv-loop μ-loop
 put-integer-requires c κs =
     let turn : tie.At-loop Inv-loop μ-loop = search in
@@ -40,12 +34,6 @@ put-integer-requires c κs =
     let l = p .long in
     let r = turn .loop .inv .3 in
     omega arith
-
-add-i : tie.Need-add-i Inv-loop μ-loop
-add-i c = search needs
-
-loop-less : tie.Need-loop-less Inv-loop μ-loop
-loop-less c = search needs
 
 loop-again : tie.Need-loop-again Inv-loop μ-loop
 loop-again c =
@@ -71,16 +59,5 @@ returns c =
 
 pub put-integers-spec : {M : Type 1} → statement M
 put-integers-spec =
-    tie.close
-    (tie.spec
-    Inv-loop
-    μ-loop
-    loop-holds
-    mul-v
-    element-copy-out-v
-    put-integer-requires
-    add-i
-    loop-less
-    loop-again
-    same-length
-    returns)
+    tie.close (tie.spec Inv-loop μ-loop loop-holds (λ c. search needs) (λ c. search needs) put-integer-requires
+    (λ c. search needs) (λ c. search needs) loop-again same-length returns)

@@ -13,9 +13,6 @@ use Rattle.store.proofs.Putting.{whole-line, whole-name, wrapped-length
 use Rattle.store.proofs.writing.put_line.Statement.{statement}
 use Rattle.store.proofs.writing.put_line.Tie as tie
 
-put-kind-requires : tie.Need-put-kind-requires
-put-kind-requires c κs = search needs
-
 array-share-prefix-bytes : tie.Need-array-share-prefix-bytes
 array-share-prefix-bytes c =
     let begin : tie.Start = search in
@@ -61,12 +58,6 @@ put-body-requires c κs =
     let b2 = at-put-text .put-text .ensures .long in
     (omega arith, begin .pre .1, k)
 
-put-byte-requires : tie.Need-put-byte-requires
-put-byte-requires c κs = search needs
-
-same-length : tie.Need-same-length
-same-length c = search needs
-
 returns : tie.Need-returns
 returns c =
     let begin : tie.Start = search in
@@ -83,13 +74,5 @@ returns c =
 
 pub put-line-spec : {M : Type 1} → statement M
 put-line-spec =
-    tie.close
-    (tie.spec
-    put-kind-requires
-    array-share-prefix-bytes
-    slice-aggregate-put-text
-    put-text-requires
-    put-body-requires
-    put-byte-requires
-    same-length
-    returns)
+    tie.close (tie.spec (λ c κs. search needs) array-share-prefix-bytes slice-aggregate-put-text put-text-requires
+    put-body-requires (λ c κs. search needs) (λ c. search needs) returns)

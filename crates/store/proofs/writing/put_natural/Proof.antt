@@ -6,15 +6,6 @@ use Rattle.store.proofs.Putting.{one-field, natural-most}
 use Rattle.store.proofs.writing.put_natural.Statement.{statement}
 use Rattle.store.proofs.writing.put_natural.Tie as tie
 
-put-byte-requires : tie.Need-put-byte-requires
-put-byte-requires c κs = search needs
-
-put-decimal-requires : tie.Need-put-decimal-requires
-put-decimal-requires c κs = search needs
-
-same-length : tie.Need-same-length
-same-length c = search needs
-
 returns : tie.Need-returns
 returns c =
     let begin : tie.Start = search in
@@ -24,4 +15,5 @@ returns c =
     one-field (a .out .now) (a .at) (decimalOf (a .n)) 11 _ _ _ _ (begin .pre) (natural-most (a .n) (omega arith)) (at-put-byte .put-byte .ensures) (at-put-decimal .put-decimal .ensures)
 
 pub put-natural-spec : {M : Type 1} → statement M
-put-natural-spec = tie.close (tie.spec put-byte-requires put-decimal-requires same-length returns)
+put-natural-spec =
+    tie.close (tie.spec (λ c κs. search needs) (λ c κs. search needs) (λ c. search needs) returns)

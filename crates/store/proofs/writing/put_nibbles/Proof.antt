@@ -7,15 +7,6 @@ use Rattle.store.proofs.Putting.{dash-field, hexes-field}
 use Rattle.store.proofs.writing.put_nibbles.Statement.{statement}
 use Rattle.store.proofs.writing.put_nibbles.Tie as tie
 
-slice-aggregate-put-text : tie.Need-slice-aggregate-put-text
-slice-aggregate-put-text c = search needs
-
-put-text-requires : tie.Need-put-text-requires
-put-text-requires c κs = search needs
-
-same-length : tie.Need-same-length
-same-length c = search needs
-
 returns : tie.Need-returns
 returns c =
     let begin : tie.Start = search in
@@ -23,9 +14,6 @@ returns c =
     let at-put-text : tie.After-put-text = search in
     let a = begin .args in
     dash-field (a .out .now) (a .at) (a .k) (a .m) _ _ (then1 .if1 .taken) (at-put-text .put-text .ensures)
-
-put-byte-requires : tie.Need-put-byte-requires
-put-byte-requires c κs = search needs
 
 put-hexes-requires : tie.Need-put-hexes-requires
 put-hexes-requires c κs =
@@ -39,9 +27,6 @@ put-hexes-requires c κs =
     let l = wrote-length (omega arith) w in
     omega arith
 
-same-length-2 : tie.Need-same-length-2
-same-length-2 c = search needs
-
 returns-2 : tie.Need-returns-2
 returns-2 c =
     let begin : tie.Start = search in
@@ -53,13 +38,5 @@ returns-2 c =
 
 pub put-nibbles-spec : {M : Type 1} → statement M
 put-nibbles-spec =
-    tie.close
-    (tie.spec
-    slice-aggregate-put-text
-    put-text-requires
-    same-length
-    returns
-    put-byte-requires
-    put-hexes-requires
-    same-length-2
-    returns-2)
+    tie.close (tie.spec (λ c. search needs) (λ c κs. search needs) (λ c. search needs) returns (λ c κs. search needs)
+    put-hexes-requires (λ c. search needs) returns-2)

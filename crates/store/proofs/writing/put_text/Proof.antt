@@ -7,15 +7,6 @@ use Rattle.store.proofs.Putting.{one-field}
 use Rattle.store.proofs.writing.put_text.Statement.{statement}
 use Rattle.store.proofs.writing.put_text.Tie as tie
 
-put-byte-requires : tie.Need-put-byte-requires
-put-byte-requires c κs = search needs
-
-put-bytes-requires : tie.Need-put-bytes-requires
-put-bytes-requires c κs = search needs
-
-same-length : tie.Need-same-length
-same-length c = search needs
-
 returns : tie.Need-returns
 returns c =
     let begin : tie.Start = search in
@@ -25,4 +16,5 @@ returns c =
     one-field (a .out .now) (a .at) (a .s .now) (length (a .s .now) + 1) _ _ _ _ (begin .pre) (omega arith) (at-put-byte .put-byte .ensures) (at-put-bytes .put-bytes .ensures)
 
 pub put-text-spec : {M : Type 1} → statement M
-put-text-spec = tie.close (tie.spec put-byte-requires put-bytes-requires same-length returns)
+put-text-spec =
+    tie.close (tie.spec (λ c κs. search needs) (λ c κs. search needs) (λ c. search needs) returns)

@@ -12,12 +12,6 @@ use Rattle.store.proofs.Putting.{more-fields, wider}
 use Rattle.store.proofs.writing.put_wdf.Statement.{statement}
 use Rattle.store.proofs.writing.put_wdf.Tie as tie
 
-cast-put-natural : tie.Need-cast-put-natural
-cast-put-natural c = search needs
-
-put-natural-requires : tie.Need-put-natural-requires
-put-natural-requires c κs = search needs
-
 put-nibbles-requires : tie.Need-put-nibbles-requires
 put-nibbles-requires c κs =
     let at-put-natural : tie.After-put-natural = search in
@@ -40,9 +34,6 @@ put-integers-requires c κs =
     let q = begin .pre .1 in
     (omega arith, q, begin .pre .2)
 
-same-length : tie.Need-same-length
-same-length c = search needs
-
 returns : tie.Need-returns
 returns c =
     let begin : tie.Start = search in
@@ -62,11 +53,5 @@ returns c =
 
 pub put-wdf-spec : {M : Type 1} → statement M
 put-wdf-spec =
-    tie.close
-    (tie.spec
-    cast-put-natural
-    put-natural-requires
-    put-nibbles-requires
-    put-integers-requires
-    same-length
-    returns)
+    tie.close (tie.spec (λ c. search needs) (λ c κs. search needs) put-nibbles-requires put-integers-requires
+    (λ c. search needs) returns)
