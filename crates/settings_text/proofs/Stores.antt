@@ -13,7 +13,7 @@ use Rattle.text.specs.Parts.{parted, joined, count}
 use Rattle.text.specs.Same.{same}
 use Rattle.text.proofs.Joining.{Plain, none, more, parted-joined, joined-parted}
 use Rattle.text.proofs.Sameness.{same-self, same-eq}
-use Rattle.settings_text.specs.Laws.{Lawful, ReadBack, OneText}
+use Rattle.settings_text.specs.Laws.{Lawful, ReadBack, OneText, Numbered}
 use Rattle.settings_text.specs.Stores.{Form, Found, Good, Bad, orElse, recordNumber, writeNumber, listFrom, listNumber, ended, textOf, refusedAt, onto, judged, lineThen, linesIn, openedBy, readOf}
 
 module _ {A : Type 0} (form : Form A) where
@@ -136,3 +136,46 @@ module _ {A : Type 0} (form : Form A) (laws : Lawful form) where
                 w .good,
               )
           first false h k = absurd (let z : _≡_ {A = ℕ} 0 1 = cc in omega arith)
+
+-- every refusal's number is above 0
+abbrev told : {A : Type 0} → Found A → ℕ
+told (Good ss) = 1
+told (Bad line n) = n
+
+module _ {A : Type 0} (form : Form A) where
+  lines-told : (parts : List (List ℕ)) (k : ℕ) (last : List ℕ) → 0 < told (linesIn form k last parts)
+  unfolding linesIn
+  lines-told [] k last = omega arith
+  lines-told (rest ∷ []) k last = by (eqb (length rest) 0)
+    where
+      by : (t : Bool) → 0 < told (cond t (Good []) (refusedAt form k 81))
+      by true = omega arith
+      by false = omega arith
+  lines-told (line ∷ next ∷ rest) k last = by (form .lineIn line) (λ s. lines-told (next ∷ rest) (suc k) (form .nameOf s))
+    where
+      behind : (s : A) (r : Found A) → 0 < told r → 0 < told (onto form s r)
+      behind s (Good ss) h = omega arith
+      behind s (Bad l n) h = h
+
+      numbered : (n : ℕ) (s : A) (r : Found A) → 0 < told r → 0 < told (judged form k n s r)
+      numbered zero s r h = behind s r h
+      numbered (suc n) s r h = omega arith
+
+      by : (o : Option A) → ((s : A) → 0 < told (linesIn form (suc k) (form .nameOf s) (next ∷ rest)))
+          → 0 < told (lineThen form k last o (λ s. linesIn form (suc k) (form .nameOf s) (next ∷ rest)))
+      by none f = omega arith
+      by (some s) f = numbered (recordNumber form k last s) s (linesIn form (suc k) (form .nameOf s) (next ∷ rest)) (f s)
+
+  opened-told : (parts : List (List ℕ)) → 0 < told (openedBy form parts)
+  unfolding openedBy
+  opened-told [] = omega arith
+  opened-told (p ∷ []) = omega arith
+  opened-told (p ∷ q ∷ ps) = by (same p (form .heading))
+    where
+      by : (t : Bool) → 0 < told (cond t (linesIn form 0 [] (q ∷ ps)) (Bad 1 80))
+      by true = lines-told (q ∷ ps) 0 []
+      by false = omega arith
+
+  pub numbered : Numbered form
+  unfolding readOf
+  numbered text line e = let h = opened-told (parted 10 text) in let z : told (readOf form text) ≡ 0 = ap told e in omega arith

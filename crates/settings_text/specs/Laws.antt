@@ -6,7 +6,7 @@ use mathlib.Core.Path.{_≡_}
 use Prim.Native.Nat.{ℕ}
 use Rattle.text.specs.Letters.{newline}
 use Rattle.text.specs.Parts.{count}
-use Rattle.settings_text.specs.Stores.{Form, Good, listNumber, textOf, readOf}
+use Rattle.settings_text.specs.Stores.{Form, Good, Bad, listNumber, textOf, readOf}
 
 -- a record that is not refused is held by its line, which has no newline; and a line holds only what it is the line of
 pub record Lawful {A : Type 0} (form : Form A) : Type 0 where
@@ -22,3 +22,7 @@ ReadBack {A} form = (ss : List A) → listNumber form ss ≡ 0 → readOf form (
 -- each list of settings has one text, and what can be read can be written
 abbrev pub OneText : {A : Type 0} → Form A → Type 0
 OneText {A} form = (text : List ℕ) (ss : List A) → readOf form text ≡ Good ss → (text ≡ textOf form ss) × (listNumber form ss ≡ 0)
+
+-- what is refused is refused by a number, so that 0 can stand for none
+abbrev pub Numbered : {A : Type 0} → Form A → Type 0
+Numbered form = (text : List ℕ) (line : ℕ) → readOf form text ≡ Bad line 0 → ⊥

@@ -7,3 +7,4 @@ pub mod Judging
 pub mod Saved
 pub mod Turns
 pub mod Theorems
+pub mod Copied

@@ -1,0 +1,115 @@
+-- What was read is written as it stood: an entry holds its record whole, so the settings have the text that they were read from.
+use native.Mathlib.Omega.{arith}
+use native.Mathlib.Nat.{pow-le-pow-right}
+use mathlib.Core.Path.{_≡_, refl, sym, ap, _∙_}
+use mathlib.Core.Bool.{Bool, true, false, cond, _&&_}
+use mathlib.Core.List.{List, [], _∷_, _++_, map, append-nil}
+use Prim.Native.Nat.{ℕ, zero, suc, _+_, _-_, _%_, _/_, _^_, _≤_, _<_}
+use lib.Dec.{leb}
+use lib.IntN.{ℤ, pos, negsuc}
+use lib.ListN.{length, take, replicate}
+use lib.Seq.{take-at}
+use mir.Syntax.{w32}
+use mir.Val.{SFits}
+use borrow.Author.Tests.{leb-true, leb-false, le-leb}
+use Rattle.words.specs.Words.{wrap}
+use Rattle.words.proofs.Reading.{wrap-is}
+use Rattle.text.specs.Order.{precedes}
+use Rattle.text.specs.Ranges.{signed, unsigned, lies, allLie}
+use Rattle.text.proofs.Ranges.{two}
+use Rattle.settings_text.specs.Fields.{isName}
+use Rattle.settings_text.specs.Lines.{Setting, Cic, Wdf, formed, parameters, form1}
+use Rattle.settings_text.specs.Stores.{Good, orElse, recordNumber, writeNumber, listFrom, listNumber, textOf, readOf}
+use Rattle.settings_text.proofs.FormOne.{only-text}
+use Rattle.settings_text.proofs.Lines.{wdf-small, below}
+use Rattle.settings_text.proofs.Names.{name-short}
+use Rattle.settings_text.proofs.Stores.{both-zero, write-zero, no-parameter}
+use Rattle.store.specs.Entries.{padTo, eight, padded, nameIn, wholeName, entryOf, settingBy, settingOf, settingsIn, storeNumber, blank}
+use Rattle.store.specs.Laws.{CopySame}
+use Rattle.store.specs.Reading.{found}
+use Rattle.store.specs.declared.settings.Entry.{Entry}
+use Rattle.store.specs.declared.settings.Kind.the-variants as kinds
+use Rattle.store.proofs.Ends.{name-back}
+use Rattle.store.proofs.Putting.{whole-name}
+
+-- a coefficient of i32 is its word
+lies-fits : (z : ℤ) → lies signed z ≡ true → SFits w32 z
+lies-fits (pos v) h = let k = leb-true v 2147483647 h in record { sfits = omega arith }
+lies-fits (negsuc v) h = let k = leb-true (suc v) 2147483648 h in record { sfits = omega arith }
+
+kept : (z : ℤ) → lies signed z ≡ true → wrap w32 z ≡ z
+kept z h = wrap-is w32 z (lies-fits z h)
+
+words-back : (k : ℕ) (cs : List ℤ) → length cs ≤ k → allLie signed cs ≡ true → take (length cs) (map (wrap w32) (padTo k (map (wrap w32) cs))) ≡ cs
+words-back k [] l h = refl
+words-back zero (z ∷ cs) l h = absurd (omega arith)
+words-back (suc k) (z ∷ cs) l h =
+    let p = two (lies signed z) (allLie signed cs) h in
+    rw (kept z (p .0), kept z (p .0)) (ap (λ (x : List ℤ). z ∷ x) (words-back k cs (omega arith) (p .1)))
+
+name-whole : (name : List ℕ) → length name ≤ 16 → wholeName (padded name) ≡ name
+name-whole name h = whole-name (padded name) h ∙ name-back name
+
+small : (arch k : ℕ) → k ≤ 8 → arch / 16 ^ k ≡ 0 → arch % 2 ^ 32 ≡ arch
+small arch k h e =
+    let b = below k arch e in
+    let p : 16 ^ k ≤ 16 ^ 8 = pow-le-pow-right (omega arith) h in
+    omega arith
+
+pub record-back : (s : Setting) → formed s ≡ true → parameters s ≡ 0 → settingOf (entryOf s) ≡ s
+unfolding formed parameters entryOf settingBy
+record-back (Cic name n m rate) h e =
+    let a = two (isName name) (allLie unsigned (pos n ∷ pos m ∷ pos rate ∷ [])) h in
+    ap (λ (x : List ℕ). Cic x n m rate) (name-whole name (name-short name (a .0)))
+record-back (Wdf name arch cs) h e =
+    let a = two (isName name) (allLie signed cs) h in
+    let w = wdf-small (length cs) arch e in
+    let few = w .0 in
+    let z : length cs - 8 ≡ 0 = omega arith in
+    let c : take (length cs) (map (wrap w32) (eight cs)) ++ replicate (length cs - 8) (pos 0) ≡ cs =
+    rw z (append-nil (take (length cs) (map (wrap w32) (eight cs))) ∙ words-back 8 cs few (a .1)) in
+    rw (name-whole name (name-short name (a .0)), small arch (length cs) few (w .1), c)
+
+-- a list that isn't refused: its records come back, and there are at most 64
+records-back : (ss : List Setting) (k : ℕ) (last : List ℕ) → listFrom form1 k last ss ≡ 0 → map settingOf (map entryOf ss) ≡ ss
+unfolding listFrom form1
+records-back [] k last h = refl
+records-back (s ∷ ss) k last h =
+    let z = both-zero form1 (writeNumber form1 k last s) (listFrom form1 (suc k) (form1 .nameOf s) ss) h in
+    let w = write-zero form1 k last s (z .0) in
+    rw (record-back s (w .0) (no-parameter form1 k last s (w .1)), records-back ss (suc k) (form1 .nameOf s) (z .1))
+
+room-of : (k : ℕ) (last : List ℕ) (s : Setting) → recordNumber form1 k last s ≡ 0 → k < 64
+unfolding recordNumber
+room-of k last s e = by (leb 64 k) refl e
+  where
+    by : (t : Bool) → leb 64 k ≡ t → cond t 83 (cond (precedes last (form1 .nameOf s)) (form1 .parameters s) 82) ≡ 0 → k < 64
+    by true f g = absurd (omega arith)
+    by false f g = leb-false 64 k f
+
+at-most : (ss : List Setting) (k : ℕ) (last : List ℕ) → listFrom form1 k last ss ≡ 0 → k ≤ 64 → k + length ss ≤ 64
+unfolding listFrom
+at-most [] k last h r = omega arith
+at-most (s ∷ ss) k last h r =
+    let z = both-zero form1 (writeNumber form1 k last s) (listFrom form1 (suc k) (form1 .nameOf s) ss) h in
+    let m = room-of k last s (write-zero form1 k last s (z .0) .1) in
+    let n = at-most ss (suc k) (form1 .nameOf s) (z .1) (omega arith) in
+    omega arith
+
+map-length : (ss : List Setting) → length (map entryOf ss) ≡ length ss
+map-length [] = refl
+map-length (s ∷ ss) = ap suc (map-length ss)
+
+settings-back : (ss : List Setting) → listNumber form1 ss ≡ 0 → settingsIn (found (Good ss) .settings) ≡ ss
+settings-back ss h =
+    let t : take (length ss) (map entryOf ss ++ replicate (64 - length ss) blank) ≡ map entryOf ss =
+    take-at (map entryOf ss) (replicate (64 - length ss) blank) (length ss) (map-length ss) in
+    ap (map settingOf) t ∙ records-back ss 0 [] h
+
+pub copy-same : CopySame
+unfolding storeNumber
+copy-same text ss e =
+    let o = only-text text ss e in
+    let b = settings-back ss (o .1) in
+    let m = at-most ss 0 [] (o .1) (omega arith) in
+    (rw (b, o .1, le-leb (length ss) 64 (omega arith)), ap (textOf form1) b ∙ sym (o .0))
