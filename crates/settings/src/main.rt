@@ -124,7 +124,10 @@ fn answer(question: Asked, text: &[u8], out: &mut [u8])
             io::write_all(STDOUT_FILENO, &out[..n]);
         }
         Asked::Unknown => {
-            io::write_all(STDERR_FILENO, b"settings, settings check or settings copy\n");
+            io::write_all(
+                STDERR_FILENO,
+                b"settings, settings check or settings copy\n",
+            );
         }
     }
 }
