@@ -97,7 +97,8 @@ module _ (text : List ℕ) (r : Read) (e : r ≡ found (readOf form1 text)) wher
       let g = held h in
       ap (λ (x : Settings). okLine (x .count)) (g .by-value) ∙ sym (ap checked (g .are))
 
-  module _ (h : r .number ≡ 0) (o : List ℕ) (room : length text ≤ length o) (w : Written) (o' : List ℕ) (s : Saves (r .settings) o w o') where
+  module _ (h : r .number ≡ 0) (o : List ℕ) (room : length text ≤ length o) (w : Written) (o' : List ℕ)
+      (s : Saves (r .settings) o w o') where
     none : storeNumber (r .settings) ≡ 0
     none = let g = held h in ap storeNumber (g .by-value) ∙ copy-same text (g .ss) (g .are) .0
 

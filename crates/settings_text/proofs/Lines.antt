@@ -16,13 +16,15 @@ use Rattle.text.specs.Parts.{parted, joined, count}
 use Rattle.text.specs.Ranges.{Range, unsigned, signed, lies, allLie, numberIn, numbersIn, texts}
 use Rattle.text.specs.Same.{same}
 use Rattle.text.proofs.Joining.{Plain, none, more, parted-joined, joined-parted, count-joined}
-use Rattle.text.proofs.Ranges.{two, number-again, number-only, number-plain, numbers-again, numbers-only, numbers-plain, natural-text, natural-lies, text-short}
+use Rattle.text.proofs.Ranges.{two, number-again, number-only, number-plain, numbers-again, numbers-only, numbers-plain}
+use Rattle.text.proofs.Ranges.{natural-text, natural-lies, text-short}
 use Rattle.text.proofs.Sameness.{same-eq}
 use Rattle.text.proofs.Spelling.{decimal-most}
 use Rattle.wdf.specs.Calls.{sectionsNumber}
 use Rattle.settings_text.specs.Fields.{isName, nibblesOf, nibblesIn}
 use Rattle.settings_text.specs.Laws.{Lawful}
-use Rattle.settings_text.specs.Lines.{Setting, Cic, Wdf, fieldsOf, lineOf, cicBy, cicIn, counts, wdfOf, wdfBy, wdfIn, kindIn, fieldsIn, lineIn, nameOf, formed, parameters, form1}
+use Rattle.settings_text.specs.Lines.{Setting, Cic, Wdf, fieldsOf, lineOf, cicBy, cicIn, counts, wdfOf, wdfBy, wdfIn}
+use Rattle.settings_text.specs.Lines.{kindIn, fieldsIn, lineIn, nameOf, formed, parameters, form1}
 use Rattle.settings_text.proofs.Names.{name-short, name-plain}
 use Rattle.settings_text.proofs.Nibbles.{nibbles-again, nibbles-only, nibbles-plain, nibbles-length, nibbles-bound}
 
@@ -74,7 +76,9 @@ cic-fine name n m r h =
     let a = two (isName name) (allLie unsigned (pos n ∷ pos m ∷ pos r ∷ [])) h in
     let g = numbers-again unsigned (omega arith) (omega arith) (pos n ∷ pos m ∷ pos r ∷ []) (a .1) in
     record {
-      plain-of = λ sep s. more (kind-plain sep s .0) (more (name-plain sep s name (a .0)) (numbers-plain unsigned (omega arith) (omega arith) sep s (texts (pos n ∷ pos m ∷ pos r ∷ [])) (pos n ∷ pos m ∷ pos r ∷ []) g));
+      plain-of = λ sep s. more (kind-plain sep s .0)
+          (more (name-plain sep s name (a .0))
+          (numbers-plain unsigned (omega arith) (omega arith) sep s (texts (pos n ∷ pos m ∷ pos r ∷ [])) (pos n ∷ pos m ∷ pos r ∷ []) g));
       short = omega (arith, texts-weight unsigned (omega arith) (omega arith) (pos n ∷ pos m ∷ pos r ∷ []) (a .1), name-short name (a .0));
       again = rw (a .0, kind-cic name (texts (pos n ∷ pos m ∷ pos r ∷ [])), g);
     }
@@ -84,7 +88,8 @@ pub wdf-small : (k arch : ℕ) → sectionsNumber k arch ≡ 0 → (k ≤ 8) × 
 unfolding sectionsNumber
 wdf-small k arch h = by (ltb 8 k) refl (eqb (arch / 16 ^ k) 0) refl h
   where
-    by : (t : Bool) → ltb 8 k ≡ t → (u : Bool) → eqb (arch / 16 ^ k) 0 ≡ u → cond {A = ℕ} t 50 (cond u 0 51) ≡ 0 → (k ≤ 8) × (arch / 16 ^ k ≡ 0)
+    by : (t : Bool) → ltb 8 k ≡ t → (u : Bool) → eqb (arch / 16 ^ k) 0 ≡ u → cond {A = ℕ} t 50 (cond u 0 51) ≡ 0 → (k ≤ 8) ×
+        (arch / 16 ^ k ≡ 0)
     by true e u f g = absurd (omega arith)
     by false e true f g = (ltb-false 8 k e, eqb-true (arch / 16 ^ k) 0 f)
     by false e false f g = absurd (omega arith)
@@ -97,7 +102,8 @@ below (suc k) arch h =
     let p = pow-suc 16 k in
     omega arith
 
-wdf-fine : (name : List ℕ) (arch : ℕ) (cs : List ℤ) → formed (Wdf name arch cs) ≡ true → sectionsNumber (length cs) arch ≡ 0 → Fine (Wdf name arch cs)
+wdf-fine : (name : List ℕ) (arch : ℕ) (cs : List ℤ) → formed (Wdf name arch cs) ≡ true → sectionsNumber (length cs) arch ≡ 0
+    → Fine (Wdf name arch cs)
 unfolding formed fieldsOf wdfIn
 wdf-fine name arch cs h e =
     let a = two (isName name) (allLie signed cs) h in
@@ -109,9 +115,20 @@ wdf-fine name arch cs h e =
     let d = decimal-most (length cs) (omega arith) in
     let x = nibbles-length (length cs) arch in
     record {
-      plain-of = λ sep s. more (kind-plain sep s .1) (more (name-plain sep s name (a .0)) (more (number-plain unsigned (omega arith) (omega arith) sep s (decimalOf (length cs)) (pos (length cs)) n) (more (nibbles-plain sep s (length cs) arch l) (numbers-plain signed (omega arith) (omega arith) sep s (texts cs) cs g))));
+      plain-of = λ sep s. more (kind-plain sep s .1)
+          (more (name-plain sep s name (a .0))
+          (more (number-plain unsigned (omega arith) (omega arith) sep s (decimalOf (length cs)) (pos (length cs)) n)
+          (more (nibbles-plain sep s (length cs) arch l) (numbers-plain signed (omega arith) (omega arith) sep s (texts cs) cs g))));
       short = omega (arith, texts-weight signed (omega arith) (omega arith) cs (a .1), name-short name (a .0));
-      again = rw (a .0, kind-wdf name (decimalOf (length cs) ∷ nibblesOf (length cs) arch ∷ texts cs), g, n, eq-eqb (length cs) (length cs) refl, nibbles-again (length cs) arch l);
+      again = rw (
+        a .0,
+        kind-wdf name (decimalOf (length cs) ∷ nibblesOf (length cs) arch ∷ texts cs),
+        g,
+        n,
+        eq-eqb (length cs)
+            (length cs) refl,
+        nibbles-again (length cs) arch l,
+      );
     }
 
 fine : (s : Setting) → formed s ≡ true → parameters s ≡ 0 → Fine s
@@ -128,7 +145,12 @@ record Two-at-least (fs : List (List ℕ)) : Type 0 where
 some-fields : (s : Setting) → Two-at-least (fieldsOf s)
 unfolding fieldsOf
 some-fields (Cic name n m r) = record { first = bytes "cic"; rest = name ∷ texts (pos n ∷ pos m ∷ pos r ∷ []); is = refl }
-some-fields (Wdf name arch cs) = record { first = bytes "wdf"; rest = name ∷ decimalOf (length cs) ∷ nibblesOf (length cs) arch ∷ texts cs; is = refl }
+some-fields (Wdf name arch cs) = record {
+  first = bytes "wdf";
+  rest = name ∷ decimalOf (length cs) ∷ nibblesOf
+      (length cs) arch ∷ texts cs;
+  is = refl;
+}
 
 parted-fields : (sep : ℕ) (fs : List (List ℕ)) → Two-at-least fs → Plain sep fs → parted sep (joined sep fs) ≡ fs
 parted-fields sep fs t p =
@@ -193,7 +215,8 @@ module _ (name : List ℕ) (named : isName name ≡ true) (s : Setting) where
   wdf-only (k ∷ []) e = absurd (let z : _≡_ {A = ℕ} 0 1 = cc in omega arith)
   wdf-only (k ∷ nibbles ∷ fs) e = by (numbersIn signed fs) refl e
     where
-      held : (cs : List ℤ) → numbersIn signed fs ≡ some cs → (t : Bool) → counts (length cs) (numberIn unsigned k) ≡ t → (o : Option ℕ) → nibblesIn (length cs) nibbles ≡ o → cond t (wdfOf name cs o) none ≡ some s
+      held : (cs : List ℤ) → numbersIn signed fs ≡ some cs → (t : Bool) → counts (length cs) (numberIn unsigned k) ≡ t →
+          (o : Option ℕ) → nibblesIn (length cs) nibbles ≡ o → cond t (wdfOf name cs o) none ≡ some s
           → Held (bytes "wdf" ∷ name ∷ k ∷ nibbles ∷ fs) s
       held cs f true g (some arch) h i =
           let p : Wdf name arch cs ≡ s = cc in
@@ -206,7 +229,8 @@ module _ (name : List ℕ) (named : isName name ≡ true) (s : Setting) where
       held cs f true g none h i = absurd (let z : _≡_ {A = ℕ} 0 1 = cc in omega arith)
       held cs f false g o h i = absurd (let z : _≡_ {A = ℕ} 0 1 = cc in omega arith)
 
-      by : (o : Option (List ℤ)) → numbersIn signed fs ≡ o → wdfBy name k nibbles o ≡ some s → Held (bytes "wdf" ∷ name ∷ k ∷ nibbles ∷ fs) s
+      by : (o : Option (List ℤ)) → numbersIn signed fs ≡ o → wdfBy name k nibbles o ≡ some s → Held
+          (bytes "wdf" ∷ name ∷ k ∷ nibbles ∷ fs) s
       by none f g = absurd (let z : _≡_ {A = ℕ} 0 1 = cc in omega arith)
       by (some cs) f g = held cs f (counts (length cs) (numberIn unsigned k)) refl (nibblesIn (length cs) nibbles) refl g
 

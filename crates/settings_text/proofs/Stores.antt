@@ -14,18 +14,21 @@ use Rattle.text.specs.Same.{same}
 use Rattle.text.proofs.Joining.{Plain, none, more, parted-joined, joined-parted}
 use Rattle.text.proofs.Sameness.{same-self, same-eq}
 use Rattle.settings_text.specs.Laws.{Lawful, ReadBack, OneText, Numbered}
-use Rattle.settings_text.specs.Stores.{Form, Found, Good, Bad, orElse, recordNumber, writeNumber, listFrom, listNumber, ended, textOf, refusedAt, onto, judged, lineThen, linesIn, openedBy, readOf}
+use Rattle.settings_text.specs.Stores.{Form, Found, Good, Bad, orElse, recordNumber, writeNumber, listFrom, listNumber}
+use Rattle.settings_text.specs.Stores.{ended, textOf, refusedAt, onto, judged, lineThen, linesIn, openedBy, readOf}
 
 module _ {A : Type 0} (form : Form A) where
   pub both-zero : (n m : ℕ) → orElse n m ≡ 0 → (n ≡ 0) × (m ≡ 0)
   both-zero zero m h = (refl, h)
   both-zero (suc n) m h = absurd (omega arith)
 
-  pub write-zero : (k : ℕ) (last : List ℕ) (s : A) → writeNumber form k last s ≡ 0 → (form .formed s ≡ true) × (recordNumber form k last s ≡ 0)
+  pub write-zero : (k : ℕ) (last : List ℕ) (s : A) → writeNumber form k last s ≡ 0 → (form .formed s ≡ true) ×
+      (recordNumber form k last s ≡ 0)
   unfolding writeNumber
   write-zero k last s h = by (form .formed s) refl h
     where
-      by : (t : Bool) → form .formed s ≡ t → cond t (recordNumber form k last s) 81 ≡ 0 → (form .formed s ≡ true) × (recordNumber form k last s ≡ 0)
+      by : (t : Bool) → form .formed s ≡ t → cond t (recordNumber form k last s) 81 ≡ 0 → (form .formed s ≡ true) ×
+          (recordNumber form k last s ≡ 0)
       by true e g = (e, g)
       by false e g = absurd (omega arith)
 
@@ -99,10 +102,12 @@ module _ {A : Type 0} (form : Form A) (laws : Lawful form) where
           let p : [] ≡ ss = cc in
           rw (← p) (record { text = ap (λ (l : List ℕ). l ∷ []) (empty rest (eqb-true _ _ f)); good = refl })
       by false f g = absurd (let z : _≡_ {A = ℕ} 0 1 = cc in omega arith)
-  lines-only (line ∷ next ∷ rest) k last ss e = taken (form .lineIn line) refl (λ s ts. lines-only (next ∷ rest) (suc k) (form .nameOf s) ts) e
+  lines-only (line ∷ next ∷ rest) k last ss e = taken (form .lineIn line) refl
+      (λ s ts. lines-only (next ∷ rest) (suc k) (form .nameOf s) ts) e
     where
       held : (s : A) → form .lineIn line ≡ some s → (n : ℕ) → recordNumber form k last s ≡ n → (r : Found A)
-          → ((ts : List A) → r ≡ Good ts → Written (suc k) (form .nameOf s) (next ∷ rest) ts) → judged form k n s r ≡ Good ss → Written k last (line ∷ next ∷ rest) ss
+          → ((ts : List A) → r ≡ Good ts → Written (suc k) (form .nameOf s) (next ∷ rest) ts) → judged form k n s r ≡ Good ss
+          → Written k last (line ∷ next ∷ rest) ss
       held s f zero d (Good ts) w g =
           let p : s ∷ ts ≡ ss = cc in
           let l = laws .only line s f in
@@ -114,8 +119,11 @@ module _ {A : Type 0} (form : Form A) (laws : Lawful form) where
       held s f zero d (Bad line m) w g = absurd (let z : _≡_ {A = ℕ} 0 1 = cc in omega arith)
       held s f (suc n) d r w g = absurd (let z : _≡_ {A = ℕ} 0 1 = cc in omega arith)
 
-      taken : (o : Option A) → form .lineIn line ≡ o → ((s : A) (ts : List A) → linesIn form (suc k) (form .nameOf s) (next ∷ rest) ≡ Good ts → Written (suc k) (form .nameOf s) (next ∷ rest) ts)
-          → lineThen form k last o (λ s. linesIn form (suc k) (form .nameOf s) (next ∷ rest)) ≡ Good ss → Written k last (line ∷ next ∷ rest) ss
+      taken : (o : Option A) → form .lineIn line ≡ o →
+          ((s : A) (ts : List A) → linesIn form (suc k) (form .nameOf s) (next ∷ rest) ≡ Good ts → Written (suc k)
+          (form .nameOf s) (next ∷ rest) ts)
+          → lineThen form k last o (λ s. linesIn form (suc k) (form .nameOf s) (next ∷ rest)) ≡ Good ss → Written k last
+          (line ∷ next ∷ rest) ss
       taken none f w g = absurd (let z : _≡_ {A = ℕ} 0 1 = cc in omega arith)
       taken (some s) f w g = held s f (recordNumber form k last s) refl (linesIn form (suc k) (form .nameOf s) (next ∷ rest)) (w s) g
 
@@ -129,10 +137,12 @@ module _ {A : Type 0} (form : Form A) (laws : Lawful form) where
       by (p ∷ []) f g = absurd (let z : _≡_ {A = ℕ} 0 1 = cc in omega arith)
       by (p ∷ q ∷ ps) f g = first (same p (form .heading)) refl g
         where
-          first : (t : Bool) → same p (form .heading) ≡ t → cond t (linesIn form 0 [] (q ∷ ps)) (Bad 1 80) ≡ Good ss → (text ≡ textOf form ss) × (listNumber form ss ≡ 0)
+          first : (t : Bool) → same p (form .heading) ≡ t → cond t (linesIn form 0 [] (q ∷ ps)) (Bad 1 80) ≡ Good ss →
+              (text ≡ textOf form ss) × (listNumber form ss ≡ 0)
           first true h k =
               let w = lines-only (q ∷ ps) 0 [] ss k in (
-                sym (joined-parted 10 text) ∙ ap (joined 10) (f ∙ ap (λ (x : List ℕ). x ∷ q ∷ ps) (same-eq _ _ h) ∙ ap (λ (x : List (List ℕ)). form .heading ∷ x) (w .text)),
+                sym (joined-parted 10 text) ∙ ap (joined 10)
+                    (f ∙ ap (λ (x : List ℕ). x ∷ q ∷ ps) (same-eq _ _ h) ∙ ap (λ (x : List (List ℕ)). form .heading ∷ x) (w .text)),
                 w .good,
               )
           first false h k = absurd (let z : _≡_ {A = ℕ} 0 1 = cc in omega arith)

@@ -24,7 +24,8 @@ use Rattle.settings_text.proofs.FormOne.{only-text}
 use Rattle.settings_text.proofs.Lines.{wdf-small, below}
 use Rattle.settings_text.proofs.Names.{name-short}
 use Rattle.settings_text.proofs.Stores.{both-zero, write-zero, no-parameter}
-use Rattle.store.specs.Entries.{padTo, eight, padded, nameIn, wholeName, entryOf, settingBy, settingOf, settingsIn, storeNumber, blank}
+use Rattle.store.specs.Entries.{padTo, eight, padded, nameIn, wholeName, entryOf, settingBy, settingOf, settingsIn}
+use Rattle.store.specs.Entries.{storeNumber, blank}
 use Rattle.store.specs.Laws.{CopySame}
 use Rattle.store.specs.Reading.{found}
 use Rattle.store.specs.declared.settings.Entry.{Entry}
@@ -40,7 +41,8 @@ lies-fits (negsuc v) h = let k = leb-true (suc v) 2147483648 h in record { sfits
 kept : (z : ℤ) → lies signed z ≡ true → wrap w32 z ≡ z
 kept z h = wrap-is w32 z (lies-fits z h)
 
-words-back : (k : ℕ) (cs : List ℤ) → length cs ≤ k → allLie signed cs ≡ true → take (length cs) (map (wrap w32) (padTo k (map (wrap w32) cs))) ≡ cs
+words-back : (k : ℕ) (cs : List ℤ) → length cs ≤ k → allLie signed cs ≡ true → take (length cs)
+    (map (wrap w32) (padTo k (map (wrap w32) cs))) ≡ cs
 words-back k [] l h = refl
 words-back zero (z ∷ cs) l h = absurd (omega arith)
 words-back (suc k) (z ∷ cs) l h =

@@ -15,11 +15,13 @@ drop-zeros zero n = let z : n - 0 ≡ n = omega arith in sym (ap zeros z)
 drop-zeros (suc k) zero = let z : 0 - suc k ≡ 0 = omega arith in sym (ap zeros z)
 drop-zeros (suc k) (suc n) = let z : suc n - suc k ≡ n - k = omega arith in drop-zeros k n ∙ sym (ap zeros z)
 
-pub copy-on : (s : List ℕ) (i : ℕ) → i < length s → length s ≤ 16 → set (paste (replicate 16 0) 0 s i) i (getD s i 0) ≡ paste (replicate 16 0) 0 s (i + 1)
+pub copy-on : (s : List ℕ) (i : ℕ) → i < length s → length s ≤ 16 → set (paste (replicate 16 0) 0 s i) i (getD s i 0) ≡ paste
+    (replicate 16 0) 0 s (i + 1)
 copy-on s i h k =
     let z : 0 + i ≡ i = omega arith in
     let l = length-replicate {A = ℕ} 16 0 in
-    let p : set (paste (replicate 16 0) 0 s i) (0 + i) (getD s i 0) ≡ paste (replicate 16 0) 0 s (suc i) = paste-suc (replicate 16 0) 0 s i 0 (omega arith) h in
+    let p : set (paste (replicate 16 0) 0 s i) (0 + i) (getD s i 0) ≡ paste (replicate 16 0) 0 s (suc i) = paste-suc
+    (replicate 16 0) 0 s i 0 (omega arith) h in
     ap (λ (j : ℕ). set (paste (replicate 16 0) 0 s i) j (getD s i 0)) (sym z) ∙ p ∙ ap (paste (replicate 16 0) 0 s) (sym (add-one i))
 
 pub copied : (s : List ℕ) (i : ℕ) → i ≡ length s → paste (replicate 16 0) 0 s i ≡ s ++ replicate (16 - length s) 0

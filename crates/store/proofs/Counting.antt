@@ -30,7 +30,8 @@ use Rattle.store.specs.Reading.{archBy, fieldsFrom, numbersRead, wordBy}
 use Rattle.store.specs.declared.line.Natural.the-variants.{Outside, Within}
 
 -- a field's word
-module _ (field : List ℕ) (least most : ℕ) (low : least ≤ 2147483648) (high : most ≤ 4294967295) (n : Number) (e : n ≡ capped (numberOf field)) where
+module _ (field : List ℕ) (least most : ℕ) (low : least ≤ 2147483648) (high : most ≤ 4294967295) (n : Number)
+    (e : n ≡ capped (numberOf field)) where
   same-size : (v u : ℕ) → v ≡ min u cap → v ≤ 4294967295 → v ≡ u
   same-size v u p h = omega arith
 
@@ -125,7 +126,8 @@ other-length (suc k) (b ∷ f) h = by (hexIn b) (other-length k f (λ e. h (ap s
     by (some d) e = rw e
 
 module _ (f : List ℕ) where
-  hexes-at : (i : ℕ) → i < length f → hexesIn (length f - i) (drop i f) ≡ both (λ d m. d + 16 * m) (hexIn (getD f i 0)) (hexesIn (length f - (i + 1)) (drop (i + 1) f))
+  hexes-at : (i : ℕ) → i < length f → hexesIn (length f - i) (drop i f) ≡ both (λ d m. d + 16 * m) (hexIn (getD f i 0))
+      (hexesIn (length f - (i + 1)) (drop (i + 1) f))
   unfolding hexesIn
   hexes-at i h =
       let m : length f - i ≡ suc (length f - (i + 1)) = omega arith in
@@ -166,7 +168,8 @@ module _ (f : List ℕ) where
       let r : m % 268435456 * 16 + d ≡ (d + 16 * w) % 4294967296 = omega arith in
       record { whole = d + 16 * w; is = hexes-at i h ∙ rw (le-ltb 15 (hexDigit (getD f i 0)) k, s .is, ← e); low = r }
 
-  pub sofar-down : (m i d : ℕ) → 0 < i → i ≤ length f → Sofar m i → d ≡ hexDigit (getD f (i - 1) 0) → d < 16 → Sofar (m % 268435456 * 16 + d) (i - 1)
+  pub sofar-down : (m i d : ℕ) → 0 < i → i ≤ length f → Sofar m i → d ≡ hexDigit (getD f (i - 1) 0) → d < 16 → Sofar
+      (m % 268435456 * 16 + d) (i - 1)
   sofar-down m i d p h s e l =
       let q : i ≡ i - 1 + 1 = omega arith in
       sofar-on m (i - 1) d (omega arith) (subst (λ (k : ℕ). Sofar m k) q s) e l
@@ -196,17 +199,25 @@ map-length (z ∷ zs) = ap suc (map-length zs)
 eight-on : (zs : List ℤ) (z : ℤ) (n : ℕ) → length zs ≡ n → set (eight zs) n (wrap w32 (pos (word w32 z))) ≡ eight (zs ++ (z ∷ []))
 eight-on zs z n e =
     rw (wrap-word w32 z)
-    (ap (λ (k : ℕ). set (eight zs) k (wrap w32 z)) (sym (map-length zs ∙ e)) ∙ pad-set 8 (map (wrap w32) zs) (wrap w32 z) ∙ ap (padTo 8) (sym (map-append (wrap w32) zs (z ∷ []))))
+    (ap (λ (k : ℕ). set (eight zs) k (wrap w32 z)) (sym (map-length zs ∙ e)) ∙ pad-set 8 (map (wrap w32) zs) (wrap w32 z) ∙ ap
+    (padTo 8) (sym (map-append (wrap w32) zs (z ∷ []))))
 
 -- the fields from a place on
 module _ (line : List ℕ) (at : ℕ) where
-  pub field-here : at ≤ length line → fieldsFrom line at ≡ take (endOf 9 line at - at) (drop at line) ∷ fieldsFrom line (endOf 9 line at + 1)
+  pub field-here : at ≤ length line → fieldsFrom line at ≡ take (endOf 9 line at - at) (drop at line) ∷ fieldsFrom line
+      (endOf 9 line at + 1)
   unfolding fieldsFrom parted
-  field-here h = rw (le-leb at (length line) h) (end-parted 9 line at h ∙ ap (λ (x : List (List ℕ)). take (endOf 9 line at - at) (drop at line) ∷ x) (by (leb (endOf 9 line at + 1) (length line)) refl))
+  field-here h = rw (le-leb at (length line) h)
+      (end-parted 9 line at h ∙ ap (λ (x : List (List ℕ)). take (endOf 9 line at - at) (drop at line) ∷ x)
+      (by (leb (endOf 9 line at + 1) (length line)) refl))
     where
-      by : (t : Bool) → leb (endOf 9 line at + 1) (length line) ≡ t → behind 9 (drop (endOf 9 line at) line) ≡ cond t (parted 9 (drop (endOf 9 line at + 1) line)) []
-      by true e = let k = leb-true (endOf 9 line at + 1) (length line) e in let j : endOf 9 line at < length line = omega arith in rw (drop-cons line (endOf 9 line at) 0 j, add-one (endOf 9 line at))
-      by false e = let k = leb-false (endOf 9 line at + 1) (length line) e in let j : length line ≤ endOf 9 line at = omega arith in rw (drop-of-length-le line j)
+      by : (t : Bool) → leb (endOf 9 line at + 1) (length line) ≡ t → behind 9 (drop (endOf 9 line at) line) ≡ cond t
+          (parted 9 (drop (endOf 9 line at + 1) line)) []
+      by true e = let k = leb-true (endOf 9 line at + 1)
+          (length line) e in let j : endOf 9 line at < length line = omega arith in rw
+          (drop-cons line (endOf 9 line at) 0 j, add-one (endOf 9 line at))
+      by false e = let k = leb-false (endOf 9 line at + 1)
+          (length line) e in let j : length line ≤ endOf 9 line at = omega arith in rw (drop-of-length-le line j)
 
   pub fields-over : length line < at → fieldsFrom line at ≡ []
   unfolding fieldsFrom
@@ -231,7 +242,15 @@ pub record Counting (r : Range) (line : List ℕ) (from : ℕ) (words : List ℤ
 
 module _ (r : Range) (line : List ℕ) (from : ℕ) where
   pub counting-none : from ≤ length line + 1 → Counting r line from (eight []) 0 from
-  counting-none h = record { so-far = []; counted = refl; few = omega arith; inside = h; shape = refl; rest = by (numbersIn r (fieldsFrom line from)) }
+  counting-none h = record {
+    so-far = [];
+    counted = refl;
+    few = omega arith;
+    inside = h;
+    shape = refl;
+    rest = by
+        (numbersIn r (fieldsFrom line from));
+  }
     where
       by : (o : Option (List ℤ)) → o ≡ after [] o
       by none = refl
@@ -241,28 +260,35 @@ module _ (r : Range) (line : List ℕ) (from : ℕ) where
     pub words-eight : length words ≡ 8
     words-eight = ap length (c .shape) ∙ pad-length 8 (map (wrap w32) (c .so-far))
 
-    pub counting-over : length line < at → record { found = true; count = n; words = words } ≡ numbersRead (numbersIn r (fieldsFrom line from))
+    pub counting-over : length line < at → record { found = true; count = n; words = words } ≡ numbersRead
+        (numbersIn r (fieldsFrom line from))
     unfolding numbersIn
     counting-over h =
-        let q : numbersIn r (fieldsFrom line from) ≡ some (c .so-far) = c .rest ∙ rw (fields-over line at h) (ap some (append-nil (c .so-far))) in
+        let q : numbersIn r (fieldsFrom line from) ≡ some (c .so-far) = c .rest ∙ rw (fields-over line at h)
+        (ap some (append-nil (c .so-far))) in
         rw (q, c .counted, c .shape)
 
     module _ (h : at ≤ length line) (e : ℕ) (p : e ≡ endOf 9 line at) where
-      step : numbersIn r (fieldsFrom line from) ≡ after (c .so-far) (both (λ y ys. y ∷ ys) (numberIn r (take (e - at) (drop at line))) (numbersIn r (fieldsFrom line (e + 1))))
+      step : numbersIn r (fieldsFrom line from) ≡ after (c .so-far)
+          (both (λ y ys. y ∷ ys) (numberIn r (take (e - at) (drop at line))) (numbersIn r (fieldsFrom line (e + 1))))
       unfolding numbersIn
       step = rw p (c .rest ∙ rw (field-here line at h))
 
-      pub counting-stops : wordBy (numberIn r (take (e - at) (drop at line))) ≡ Outside → numbersRead none ≡ numbersRead (numbersIn r (fieldsFrom line from))
+      pub counting-stops : wordBy (numberIn r (take (e - at) (drop at line))) ≡ Outside → numbersRead none ≡ numbersRead
+          (numbersIn r (fieldsFrom line from))
       counting-stops q = by (numberIn r (take (e - at) (drop at line))) refl q
         where
-          by : (o : Option ℤ) → numberIn r (take (e - at) (drop at line)) ≡ o → wordBy o ≡ Outside → numbersRead none ≡ numbersRead (numbersIn r (fieldsFrom line from))
+          by : (o : Option ℤ) → numberIn r (take (e - at) (drop at line)) ≡ o → wordBy o ≡ Outside → numbersRead none
+              ≡ numbersRead (numbersIn r (fieldsFrom line from))
           by none g k = let q : numbersIn r (fieldsFrom line from) ≡ none = step ∙ rw g in sym (ap numbersRead q)
           by (some z) g k = absurd (let z : _≡_ {A = ℕ} 0 1 = cc in omega arith)
 
-      pub counting-on : (w : ℕ) → wordBy (numberIn r (take (e - at) (drop at line))) ≡ Within w → Counting r line from (set words n (wrap w32 (pos w))) (n + 1) (e + 1)
+      pub counting-on : (w : ℕ) → wordBy (numberIn r (take (e - at) (drop at line))) ≡ Within w → Counting r line from
+          (set words n (wrap w32 (pos w))) (n + 1) (e + 1)
       counting-on w q = by (numberIn r (take (e - at) (drop at line))) refl q
         where
-          by : (o : Option ℤ) → numberIn r (take (e - at) (drop at line)) ≡ o → wordBy o ≡ Within w → Counting r line from (set words n (wrap w32 (pos w))) (n + 1) (e + 1)
+          by : (o : Option ℤ) → numberIn r (take (e - at) (drop at line)) ≡ o → wordBy o ≡ Within w → Counting r line from
+              (set words n (wrap w32 (pos w))) (n + 1) (e + 1)
           by none g k = absurd (let z : _≡_ {A = ℕ} 0 1 = cc in omega arith)
           by (some z) g k =
               let v : word w32 z ≡ w = cc in

@@ -54,22 +54,27 @@ read-fits : (o : Option (List ℤ)) (i : ℕ) → SFits w32 (getD (numbersRead o
 read-fits none i = pad-fits 8 [] i
 read-fits (some zs) i = pad-fits 8 zs i
 
-pub words-fit : (ns : Numbers) (o : Option (List ℤ)) → ns ≡ numbersRead o → (i : ℕ) → toZ w32 (ofZ w32 (getD (ns .words) i (pos 0))) ≡ getD (ns .words) i (pos 0)
-words-fit ns o e i = toZ-ofZ w32 (getD (ns .words) i (pos 0)) (subst (λ (x : Numbers). SFits w32 (getD (x .words) i (pos 0))) (sym e) (read-fits o i))
+pub words-fit : (ns : Numbers) (o : Option (List ℤ)) → ns ≡ numbersRead o → (i : ℕ) → toZ w32
+    (ofZ w32 (getD (ns .words) i (pos 0))) ≡ getD (ns .words) i (pos 0)
+words-fit ns o e i =
+    toZ-ofZ w32 (getD (ns .words) i (pos 0)) (subst (λ (x : Numbers). SFits w32 (getD (x .words) i (pos 0))) (sym e) (read-fits o i))
 
 -- a number that is not below zero is its word
 plain-word : (z : ℤ) → lies unsigned z ≡ true → (z ≡ pos (word w32 z)) × (natAbs z ≡ word w32 z)
 plain-word (pos v) h = let w = word-is w32 v (record { fits = let k = leb-true v 4294967295 h in omega arith }) in (ap pos (sym w), sym w)
 plain-word (negsuc v) h = absurd (omega (arith, leb-true (suc v) 0 h))
 
-module _ (name : Name) (kept : name ≡ padded (nameIn name)) (fs : List (List ℕ)) (ns : Numbers) (e : ns ≡ numbersRead (numbersIn unsigned fs)) where
+module _ (name : Name) (kept : name ≡ padded (nameIn name)) (fs : List (List ℕ)) (ns : Numbers)
+    (e : ns ≡ numbersRead (numbersIn unsigned fs)) where
   pub cic-none : ns .found ≡ false → lineRead none ≡ lineRead (cicIn (nameIn name) fs)
   unfolding cicIn
   cic-none h = by (numbersIn unsigned fs) refl
     where
       by : (o : Option (List ℤ)) → numbersIn unsigned fs ≡ o → lineRead none ≡ lineRead (cicBy (nameIn name) (numbersIn unsigned fs))
       by none f = sym (rw f)
-      by (some zs) f = absurd (let t : true ≡ false = sym (ap (λ (x : Numbers). x .found) (e ∙ ap numbersRead f)) ∙ h in let z : _≡_ {A = ℕ} 0 1 = cc in omega arith)
+      by (some zs) f = absurd
+          (let t : true ≡ false = sym (ap (λ (x : Numbers). x .found) (e ∙ ap numbersRead f))
+          ∙ h in let z : _≡_ {A = ℕ} 0 1 = cc in omega arith)
 
   pub cic-other : (ns .count ≡ 3 → ⊥) → lineRead none ≡ lineRead (cicIn (nameIn name) fs)
   unfolding cicIn
@@ -84,7 +89,8 @@ module _ (name : Name) (kept : name ≡ padded (nameIn name)) (fs : List (List �
       by (some (a ∷ b ∷ c ∷ d ∷ zs)) f = sym (rw f)
 
   pub cic-some : ns .found ≡ true → ns .count ≡ 3
-      → got name (kinds.Cic (word w32 (getD (ns .words) 0 (pos 0))) (word w32 (getD (ns .words) 1 (pos 0))) (word w32 (getD (ns .words) 2 (pos 0)))) (eight []) ≡ lineRead (cicIn (nameIn name) fs)
+      → got name (kinds.Cic (word w32 (getD (ns .words) 0 (pos 0))) (word w32 (getD (ns .words) 1 (pos 0)))
+      (word w32 (getD (ns .words) 2 (pos 0)))) (eight []) ≡ lineRead (cicIn (nameIn name) fs)
   unfolding cicIn entryOf
   cic-some t h = by (numbersIn unsigned fs) refl
     where
@@ -92,8 +98,10 @@ module _ (name : Name) (kept : name ≡ padded (nameIn name)) (fs : List (List �
       count-is zs f = sym (ap (λ (x : Numbers). x .count) (e ∙ ap numbersRead f)) ∙ h
 
       by : (o : Option (List ℤ)) → numbersIn unsigned fs ≡ o
-          → got name (kinds.Cic (word w32 (getD (ns .words) 0 (pos 0))) (word w32 (getD (ns .words) 1 (pos 0))) (word w32 (getD (ns .words) 2 (pos 0)))) (eight []) ≡ lineRead (cicBy (nameIn name) (numbersIn unsigned fs))
-      by none f = absurd (let t : false ≡ true = sym (ap (λ (x : Numbers). x .found) (e ∙ ap numbersRead f)) ∙ t in let z : _≡_ {A = ℕ} 0 1 = cc in omega arith)
+          → got name (kinds.Cic (word w32 (getD (ns .words) 0 (pos 0))) (word w32 (getD (ns .words) 1 (pos 0)))
+          (word w32 (getD (ns .words) 2 (pos 0)))) (eight []) ≡ lineRead (cicBy (nameIn name) (numbersIn unsigned fs))
+      by none f = absurd (let t : false ≡ true = sym (ap (λ (x : Numbers). x .found) (e ∙ ap numbersRead f))
+          ∙ t in let z : _≡_ {A = ℕ} 0 1 = cc in omega arith)
       by (some []) f = absurd (omega (arith, count-is [] f))
       by (some (a ∷ [])) f = absurd (omega (arith, count-is (a ∷ []) f))
       by (some (a ∷ b ∷ [])) f = absurd (omega (arith, count-is (a ∷ b ∷ []) f))
@@ -104,7 +112,16 @@ module _ (name : Name) (kept : name ≡ padded (nameIn name)) (fs : List (List �
           let x = two (lies unsigned a) (allLie unsigned (b ∷ c ∷ [])) q in
           let y = two (lies unsigned b) (allLie unsigned (c ∷ [])) (x .1) in
           let z = two (lies unsigned c) true (y .1) in
-          rw (f, w, word-wrap w32 a, word-wrap w32 b, word-wrap w32 c, plain-word a (x .0) .1, plain-word b (y .0) .1, plain-word c (z .0) .1)
+          rw (
+            f,
+            w,
+            word-wrap w32 a,
+            word-wrap w32 b,
+            word-wrap w32 c,
+            plain-word a (x .0) .1,
+            plain-word b (y .0) .1,
+            plain-word c (z .0) .1,
+          )
           (ap (λ (n : Name). got n (kinds.Cic (word w32 a) (word w32 b) (word w32 c)) (eight [])) kept)
 
 -- a number that is k
@@ -142,7 +159,8 @@ module _ (name : Name) (kept : name ≡ padded (nameIn name)) (line : List ℕ) 
     unfolding wdfIn
     wdf-one l = let q : length line < e + 1 = omega arith in sym (rw (field-here line from h, ← pe, fields-over line (e + 1) q))
 
-    module _ (he : e < length line) (f : ℕ) (pf : f ≡ endOf 9 line (e + 1)) (cs : Numbers) (pc : cs ≡ numbersRead (numbersIn signed (fieldsFrom line (f + 1)))) where
+    module _ (he : e < length line) (f : ℕ) (pf : f ≡ endOf 9 line (e + 1)) (cs : Numbers)
+        (pc : cs ≡ numbersRead (numbersIn signed (fieldsFrom line (f + 1)))) where
       abbrev k-field : List ℕ
       k-field = take (e - from) (drop from line)
 
@@ -156,24 +174,31 @@ module _ (name : Name) (kept : name ≡ padded (nameIn name)) (line : List ℕ) 
       pub wdf-none : cs .found ≡ false → lineRead none ≡ lineRead (wdfIn (nameIn name) (fieldsFrom line from))
       wdf-none t = sym (ap lineRead (wdf-is ∙ by (numbersIn signed (fieldsFrom line (f + 1))) refl))
         where
-          by : (o : Option (List ℤ)) → numbersIn signed (fieldsFrom line (f + 1)) ≡ o → wdfBy (nameIn name) k-field n-field (numbersIn signed (fieldsFrom line (f + 1))) ≡ none
+          by : (o : Option (List ℤ)) → numbersIn signed (fieldsFrom line (f + 1)) ≡ o → wdfBy (nameIn name) k-field n-field
+              (numbersIn signed (fieldsFrom line (f + 1))) ≡ none
           by none g = rw g
-          by (some zs) g = absurd (let t : true ≡ false = sym (ap (λ (x : Numbers). x .found) (pc ∙ ap numbersRead g)) ∙ t in let z : _≡_ {A = ℕ} 0 1 = cc in omega arith)
+          by (some zs) g = absurd
+              (let t : true ≡ false = sym (ap (λ (x : Numbers). x .found) (pc ∙ ap numbersRead g))
+              ∙ t in let z : _≡_ {A = ℕ} 0 1 = cc in omega arith)
 
       module _ (t : cs .found ≡ true) where
         wdf-some : (zs : List ℤ) → numbersIn signed (fieldsFrom line (f + 1)) ≡ some zs → (cs .count ≡ length zs) × (cs .words ≡ eight zs)
         wdf-some zs g = (ap (λ (x : Numbers). x .count) (pc ∙ ap numbersRead g), ap (λ (x : Numbers). x .words) (pc ∙ ap numbersRead g))
 
-        pub wdf-other : counts (cs .count) (numberIn unsigned k-field) ≡ false → lineRead none ≡ lineRead (wdfIn (nameIn name) (fieldsFrom line from))
+        pub wdf-other : counts (cs .count) (numberIn unsigned k-field) ≡ false → lineRead none ≡ lineRead
+            (wdfIn (nameIn name) (fieldsFrom line from))
         wdf-other q = sym (ap lineRead (wdf-is ∙ by (numbersIn signed (fieldsFrom line (f + 1))) refl))
           where
-            by : (o : Option (List ℤ)) → numbersIn signed (fieldsFrom line (f + 1)) ≡ o → wdfBy (nameIn name) k-field n-field (numbersIn signed (fieldsFrom line (f + 1))) ≡ none
+            by : (o : Option (List ℤ)) → numbersIn signed (fieldsFrom line (f + 1)) ≡ o → wdfBy (nameIn name) k-field n-field
+                (numbersIn signed (fieldsFrom line (f + 1))) ≡ none
             by none g = rw g
             by (some zs) g =
-                let k : counts (length zs) (numberIn unsigned k-field) ≡ false = ap (λ (n : ℕ). counts n (numberIn unsigned k-field)) (sym (wdf-some zs g .0)) ∙ q in
+                let k : counts (length zs) (numberIn unsigned k-field) ≡ false = ap
+                (λ (n : ℕ). counts n (numberIn unsigned k-field)) (sym (wdf-some zs g .0)) ∙ q in
                 rw (g, k)
 
-        pub nibbles-none : archBy (nibblesIn (cs .count) n-field) ≡ Outside → lineRead none ≡ lineRead (wdfIn (nameIn name) (fieldsFrom line from))
+        pub nibbles-none : archBy (nibblesIn (cs .count) n-field) ≡ Outside → lineRead none ≡ lineRead
+            (wdfIn (nameIn name) (fieldsFrom line from))
         nibbles-none q = sym (ap lineRead (wdf-is ∙ by (numbersIn signed (fieldsFrom line (f + 1))) refl))
           where
             off : (zs : List ℤ) (b : Bool) (o : Option ℕ) → archBy o ≡ Outside → cond b (wdfOf (nameIn name) zs o) none ≡ none
@@ -181,10 +206,12 @@ module _ (name : Name) (kept : name ≡ padded (nameIn name)) (line : List ℕ) 
             off zs false o i = refl
             off zs true (some m) i = absurd (let z : _≡_ {A = ℕ} 0 1 = cc in omega arith)
 
-            by : (o : Option (List ℤ)) → numbersIn signed (fieldsFrom line (f + 1)) ≡ o → wdfBy (nameIn name) k-field n-field (numbersIn signed (fieldsFrom line (f + 1))) ≡ none
+            by : (o : Option (List ℤ)) → numbersIn signed (fieldsFrom line (f + 1)) ≡ o → wdfBy (nameIn name) k-field n-field
+                (numbersIn signed (fieldsFrom line (f + 1))) ≡ none
             by none g = rw g
             by (some zs) g =
-                let k : archBy (nibblesIn (length zs) n-field) ≡ Outside = ap (λ (n : ℕ). archBy (nibblesIn n n-field)) (sym (wdf-some zs g .0)) ∙ q in
+                let k : archBy (nibblesIn (length zs) n-field) ≡ Outside = ap (λ (n : ℕ). archBy (nibblesIn n n-field))
+                (sym (wdf-some zs g .0)) ∙ q in
                 rw g (off zs (counts (length zs) (numberIn unsigned k-field)) (nibblesIn (length zs) n-field) k)
 
         pub wdf-all : (m : ℕ) → counts (cs .count) (numberIn unsigned k-field) ≡ true → archBy (nibblesIn (cs .count) n-field) ≡ Within m
@@ -192,8 +219,11 @@ module _ (name : Name) (kept : name ≡ padded (nameIn name)) (line : List ℕ) 
         unfolding entryOf
         wdf-all m q r = sym (ap lineRead wdf-is ∙ by (numbersIn signed (fieldsFrom line (f + 1))) refl)
           where
-            by : (o : Option (List ℤ)) → numbersIn signed (fieldsFrom line (f + 1)) ≡ o → lineRead (wdfBy (nameIn name) k-field n-field (numbersIn signed (fieldsFrom line (f + 1)))) ≡ got name (kinds.Wdf (cs .count) m) (cs .words)
-            by none g = absurd (let t : false ≡ true = sym (ap (λ (x : Numbers). x .found) (pc ∙ ap numbersRead g)) ∙ t in let z : _≡_ {A = ℕ} 0 1 = cc in omega arith)
+            by : (o : Option (List ℤ)) → numbersIn signed (fieldsFrom line (f + 1)) ≡ o → lineRead
+                (wdfBy (nameIn name) k-field n-field (numbersIn signed (fieldsFrom line (f + 1)))) ≡ got name
+                (kinds.Wdf (cs .count) m) (cs .words)
+            by none g = absurd (let t : false ≡ true = sym (ap (λ (x : Numbers). x .found) (pc ∙ ap numbersRead g))
+                ∙ t in let z : _≡_ {A = ℕ} 0 1 = cc in omega arith)
             by (some zs) g = with-arch (nibblesIn (length zs) n-field) refl
               where
                 k : counts (length zs) (numberIn unsigned k-field) ≡ true
@@ -202,12 +232,16 @@ module _ (name : Name) (kept : name ≡ padded (nameIn name)) (line : List ℕ) 
                 j : archBy (nibblesIn (length zs) n-field) ≡ Within m
                 j = ap (λ (n : ℕ). archBy (nibblesIn n n-field)) (sym (wdf-some zs g .0)) ∙ r
 
-                with-arch : (o : Option ℕ) → nibblesIn (length zs) n-field ≡ o → lineRead (wdfBy (nameIn name) k-field n-field (numbersIn signed (fieldsFrom line (f + 1)))) ≡ got name (kinds.Wdf (cs .count) m) (cs .words)
-                with-arch none i = absurd (let y : Outside ≡ Within m = sym (ap archBy i) ∙ j in let z : _≡_ {A = ℕ} 0 1 = cc in omega arith)
+                with-arch : (o : Option ℕ) → nibblesIn (length zs) n-field ≡ o → lineRead
+                    (wdfBy (nameIn name) k-field n-field (numbersIn signed (fieldsFrom line (f + 1)))) ≡ got name
+                    (kinds.Wdf (cs .count) m) (cs .words)
+                with-arch none i = absurd
+                    (let y : Outside ≡ Within m = sym (ap archBy i) ∙ j in let z : _≡_ {A = ℕ} 0 1 = cc in omega arith)
                 with-arch (some w) i =
                     let y : Within (w % 2 ^ 32) ≡ Within m = sym (ap archBy i) ∙ j in
                     let x : w % 2 ^ 32 ≡ m = cc in
-                    rw (g, k, i, x, wdf-some zs g .0, wdf-some zs g .1) (ap (λ (n : Name). got n (kinds.Wdf (length zs) m) (eight zs)) (sym kept))
+                    rw (g, k, i, x, wdf-some zs g .0, wdf-some zs g .1)
+                    (ap (λ (n : Name). got n (kinds.Wdf (length zs) m) (eight zs)) (sym kept))
 
 -- the line whole
 module _ (line : List ℕ) where
@@ -221,7 +255,8 @@ module _ (line : List ℕ) where
 
   module _ (short : length line ≤ 160) (e : ℕ) (pe : e ≡ endOf 9 line 0) where
     first : parted 9 line ≡ take e line ∷ fieldsFrom line (e + 1)
-    first = from-start ∙ field-here line 0 (omega arith) ∙ rw (← pe) (let z : e - 0 ≡ e = omega arith in ap (λ (k : ℕ). take k line ∷ fieldsFrom line (e + 1)) z)
+    first = from-start ∙ field-here line 0 (omega arith) ∙ rw (← pe)
+        (let z : e - 0 ≡ e = omega arith in ap (λ (k : ℕ). take k line ∷ fieldsFrom line (e + 1)) z)
 
     pub one-field : length line ≤ e → lineRead none ≡ lineRead (lineIn line)
     unfolding lineIn
@@ -242,12 +277,14 @@ module _ (line : List ℕ) where
         kind-is : lineIn line ≡ kindIn (take e line) (nameIn name) (fieldsFrom line (f + 1))
         kind-is = line-is ∙ rw (named, pn, name-back name-field)
 
-        pub is-cic : (r : Line) → r ≡ lineRead (cicIn (nameIn name) (fieldsFrom line (f + 1))) → same (take e line) (bytes "cic") ≡ true → r ≡ lineRead (lineIn line)
+        pub is-cic : (r : Line) → r ≡ lineRead (cicIn (nameIn name) (fieldsFrom line (f + 1))) → same (take e line) (bytes "cic")
+            ≡ true → r ≡ lineRead (lineIn line)
         unfolding kindIn
         is-cic r q a = q ∙ sym (rw (kind-is, a))
 
         module _ (a : same (take e line) (bytes "cic") ≡ false) where
-          pub is-wdf : (r : Line) → r ≡ lineRead (wdfIn (nameIn name) (fieldsFrom line (f + 1))) → same (take e line) (bytes "wdf") ≡ true → r ≡ lineRead (lineIn line)
+          pub is-wdf : (r : Line) → r ≡ lineRead (wdfIn (nameIn name) (fieldsFrom line (f + 1))) → same (take e line)
+              (bytes "wdf") ≡ true → r ≡ lineRead (lineIn line)
           unfolding kindIn
           is-wdf r q b = q ∙ sym (rw (kind-is, a, b))
 

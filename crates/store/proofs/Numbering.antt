@@ -45,6 +45,7 @@ unfolding entryOf
 entry-len (Cic name n m rate) = refl
 entry-len (Wdf name arch cs) = refl
 
-pub number-kept : (k : ℕ) (last : List ℕ) (s : Setting) → fitting s ≡ true → numberFor k last (nameIn (entryOf s .name)) (entryOf s .kind) ≡ recordNumber form1 k last s
+pub number-kept : (k : ℕ) (last : List ℕ) (s : Setting) → fitting s ≡ true → numberFor k last (nameIn (entryOf s .name))
+    (entryOf s .kind) ≡ recordNumber form1 k last s
 unfolding numberFor recordNumber form1
 number-kept k last s h = rw (entry-name s, kind-kept s h)

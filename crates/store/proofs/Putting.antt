@@ -38,7 +38,8 @@ joined-tabs f [] = sym (append-nil f)
 joined-tabs f (g ∷ fs) = ap (λ (l : List ℕ). f ++ (9 ∷ l)) (joined-tabs g fs)
 
 -- a tab and a field
-pub one-field : (o : List ℕ) (at : ℕ) (f : List ℕ) (most r : ℕ) (o₁ : List ℕ) (q : ℕ) (o₂ : List ℕ) → at + most ≤ length o → length f + 1 ≤ most
+pub one-field : (o : List ℕ) (at : ℕ) (f : List ℕ) (most r : ℕ) (o₁ : List ℕ) (q : ℕ) (o₂ : List ℕ) → at + most ≤ length o
+    → length f + 1 ≤ most
     → Puts o at (9 ∷ []) r o₁ → Puts o₁ r f q o₂ → Fielded o at (f ∷ []) most q o₂
 unfolding tabs
 one-field o at f most r o₁ q o₂ room few a b =
@@ -57,20 +58,30 @@ pub no-fields : (o : List ℕ) (at : ℕ) → Fielded o at [] 0 at o
 unfolding tabs
 no-fields o at = record { wrote = nothing o at; high = omega arith; long = refl }
 
-pub more-fields : {o o₁ o₂ : List ℕ} {at m r n q : ℕ} (fs gs : List (List ℕ)) → at ≤ length o → Fielded o at fs m r o₁ → Fielded o₁ r gs n q o₂ → Fielded o at (fs ++ gs) (m + n) q o₂
+pub more-fields : {o o₁ o₂ : List ℕ} {at m r n q : ℕ} (fs gs : List (List ℕ)) → at ≤ length o → Fielded o at fs m r o₁
+    → Fielded o₁ r gs n q o₂ → Fielded o at (fs ++ gs) (m + n) q o₂
 more-fields fs gs h a b =
-    record { wrote = wrote-same (sym (tabs-append fs gs)) (then h (a .wrote) (b .wrote)); high = omega (arith, a .high, b .high); long = b .long ∙ a .long }
+    record {
+      wrote = wrote-same (sym (tabs-append fs gs)) (then h (a .wrote) (b .wrote));
+      high = omega
+          (arith, a .high, b .high);
+      long = b .long ∙ a .long;
+    }
 
-pub integers-on : (o : List ℕ) (at : ℕ) (a : List ℤ) (i : ℕ) (o₁ : List ℕ) (r : ℕ) (o₂ : List ℕ) (q : ℕ) (v : ℤ) → at ≤ length o → i < length a → v ≡ getD a i (pos 0)
-    → Fielded o at (texts (take i a)) (12 * i) r o₁ → Fielded o₁ r (signedOf v ∷ []) 12 q o₂ → Fielded o at (texts (take (i + 1) a)) (12 * (i + 1)) q o₂
+pub integers-on : (o : List ℕ) (at : ℕ) (a : List ℤ) (i : ℕ) (o₁ : List ℕ) (r : ℕ) (o₂ : List ℕ) (q : ℕ) (v : ℤ) → at ≤ length o
+    → i < length a → v ≡ getD a i (pos 0)
+    → Fielded o at (texts (take i a)) (12 * i) r o₁ → Fielded o₁ r (signedOf v ∷ []) 12 q o₂ → Fielded o at
+    (texts (take (i + 1) a)) (12 * (i + 1)) q o₂
 integers-on o at a i o₁ r o₂ q v h l e p s =
     let m : 12 * i + 12 ≡ 12 * (i + 1) = omega arith in
     let t : texts (take i a) ++ (signedOf v ∷ []) ≡ texts (take (i + 1) a) =
-    sym (ap texts (ap (λ (k : ℕ). take k a) (add-one i) ∙ take-suc a i (pos 0) l) ∙ map-append signedOf (take i a) (getD a i (pos 0) ∷ []) ∙ ap (λ (z : ℤ). texts (take i a) ++ (signedOf z ∷ [])) (sym e)) in
+    sym (ap texts (ap (λ (k : ℕ). take k a) (add-one i) ∙ take-suc a i (pos 0) l) ∙ map-append signedOf (take i a)
+    (getD a i (pos 0) ∷ []) ∙ ap (λ (z : ℤ). texts (take i a) ++ (signedOf z ∷ [])) (sym e)) in
     let x = more-fields (texts (take i a)) (signedOf v ∷ []) h p s in
     rw (← m, ← t) x
 
-pub integers-done : (o : List ℕ) (at : ℕ) (a : List ℤ) (k i r : ℕ) (o₁ : List ℕ) → i ≡ k → Fielded o at (texts (take i a)) (12 * i) r o₁ → Fielded o at (texts (take k a)) (12 * k) r o₁
+pub integers-done : (o : List ℕ) (at : ℕ) (a : List ℤ) (k i r : ℕ) (o₁ : List ℕ) → i ≡ k → Fielded o at (texts (take i a))
+    (12 * i) r o₁ → Fielded o at (texts (take k a)) (12 * k) r o₁
 integers-done o at a k i r o₁ e p = rw (← e) p
 
 -- nibbles so far
@@ -82,13 +93,15 @@ pub record Hexing (o : List ℕ) (at k m : ℕ) (o' : List ℕ) (next left i : �
   pub wrote : Wrote o at done next o'
 
 pub hexing-none : (o : List ℕ) (at k m : ℕ) → Hexing o at k m o at m 0
-hexing-none o at k m = let z : k - 0 ≡ k = omega arith in record { done = []; counted = refl; few = omega arith; is = rw z; wrote = nothing o at }
+hexing-none o at k m =
+    let z : k - 0 ≡ k = omega arith in record { done = []; counted = refl; few = omega arith; is = rw z; wrote = nothing o at }
 
 module _ (o : List ℕ) (at k m : ℕ) (o' : List ℕ) (next left i : ℕ) (room : at + k ≤ length o) (h : Hexing o at k m o' next left i) where
   pub hexing-long : length o' ≡ length o
   hexing-long = wrote-length (omega (arith, h .counted, h .few)) (h .wrote)
 
-  pub hexing-on : (b r : ℕ) (o₂ : List ℕ) → i < k → b ≡ hexOf (left % 16) → Puts o' next (b ∷ []) r o₂ → Hexing o at k m o₂ r (left / 16) (i + 1)
+  pub hexing-on : (b r : ℕ) (o₂ : List ℕ) → i < k → b ≡ hexOf (left % 16) → Puts o' next (b ∷ []) r o₂ → Hexing o at k m o₂ r
+      (left / 16) (i + 1)
   unfolding hexesOf
   hexing-on b r o₂ l e p =
       let z : k - i ≡ suc (k - (i + 1)) = omega arith in
@@ -110,12 +123,14 @@ module _ (o : List ℕ) (at k m : ℕ) (o' : List ℕ) (next left i : ℕ) (room
       let e : h .done ≡ hexesOf k m = sym (h .is ∙ rw z (append-nil (h .done))) in
       record { wrote = wrote-same e (h .wrote); high = omega (arith, h .wrote .next, h .counted, h .few); long = hexing-long }
 
-pub dash-field : (o : List ℕ) (at k m r : ℕ) (o₁ : List ℕ) → k ≡ 0 → Fielded o at ((bytes "-") ∷ []) 2 r o₁ → Fielded o at (nibblesOf k m ∷ []) 10 r o₁
+pub dash-field : (o : List ℕ) (at k m r : ℕ) (o₁ : List ℕ) → k ≡ 0 → Fielded o at ((bytes "-") ∷ []) 2 r o₁ → Fielded o at
+    (nibblesOf k m ∷ []) 10 r o₁
 unfolding nibblesOf
 dash-field o at zero m r o₁ e p = record { wrote = p .wrote; high = omega (arith, p .high); long = p .long }
 dash-field o at (suc k) m r o₁ e p = absurd (omega arith)
 
-pub hexes-field : (o : List ℕ) (at k m r : ℕ) (o₁ : List ℕ) (q : ℕ) (o₂ : List ℕ) → at + 10 ≤ length o → k ≤ 8 → (k ≡ 0 → ⊥) → Puts o at (9 ∷ []) r o₁ → Ended o₁ r (hexesOf k m) k q o₂ → Fielded o at (nibblesOf k m ∷ []) 10 q o₂
+pub hexes-field : (o : List ℕ) (at k m r : ℕ) (o₁ : List ℕ) (q : ℕ) (o₂ : List ℕ) → at + 10 ≤ length o → k ≤ 8 → (k ≡ 0 → ⊥)
+    → Puts o at (9 ∷ []) r o₁ → Ended o₁ r (hexesOf k m) k q o₂ → Fielded o at (nibblesOf k m ∷ []) 10 q o₂
 unfolding nibblesOf tabs
 hexes-field o at zero m r o₁ q o₂ room few d a b = absurd (d refl)
 hexes-field o at (suc k) m r o₁ q o₂ room few d a b =
@@ -130,7 +145,8 @@ pub wider : {o o₁ bs : List ℕ} {at m n r : ℕ} → Ended o at bs m r o₁ �
 wider p h = record { wrote = p .wrote; high = omega (arith, p .high); long = p .long }
 
 -- a line whole
-pub fields-are : (name : List ℕ) (kind : Kind) (a : List ℤ) → sections kind ≤ 8 → length a ≡ 8 → fieldsOf (settingBy name kind a) ≡ kindWord kind ∷ name ∷ bodyOf kind a
+pub fields-are : (name : List ℕ) (kind : Kind) (a : List ℤ) → sections kind ≤ 8 → length a ≡ 8 → fieldsOf (settingBy name kind a)
+    ≡ kindWord kind ∷ name ∷ bodyOf kind a
 unfolding fieldsOf settingBy
 fields-are name (kinds.Cic n m rate) a h l = refl
 fields-are name (kinds.Wdf k arch) a h l =
@@ -139,7 +155,8 @@ fields-are name (kinds.Wdf k arch) a h l =
     let n : length (take k a) ≡ k = length-take-le k a (omega arith) in
     rw (e, n)
 
-pub whole-line : (o : List ℕ) (at : ℕ) (name : List ℕ) (kind : Kind) (a : List ℤ) (n x : ℕ) (o₁ : List ℕ) (y : ℕ) (o₂ : List ℕ) (z : ℕ) (o₃ : List ℕ) (r : ℕ) (o₄ : List ℕ)
+pub whole-line : (o : List ℕ) (at : ℕ) (name : List ℕ) (kind : Kind) (a : List ℤ) (n x : ℕ) (o₁ : List ℕ) (y : ℕ) (o₂ : List ℕ)
+    (z : ℕ) (o₃ : List ℕ) (r : ℕ) (o₄ : List ℕ)
     → at + 138 ≤ length o → sections kind ≤ 8 → length a ≡ 8 → n ≤ 17
     → Ended o at (kindWord kind) 3 x o₁ → Fielded o₁ x (name ∷ []) n y o₂ → Fielded o₂ y (bodyOf kind a) 117 z o₃ → Puts o₃ z (10 ∷ []) r o₄
     → Ended o at (lineOf (settingBy name kind a) ++ (10 ∷ [])) 138 r o₄
@@ -158,9 +175,15 @@ whole-line o at name kind a n x o₁ y o₂ z o₃ r o₄ room few l short p q s
     let m = u .next in
     let e : kindWord kind ++ tabs (name ∷ bodyOf kind a) ≡ joined 9 (fieldsOf (settingBy name kind a)) =
     sym (ap (joined 9) (fields-are name kind a few l) ∙ joined-tabs (kindWord kind) (name ∷ bodyOf kind a)) in
-    record { wrote = wrote-same (ap (λ (k : List ℕ). k ++ (10 ∷ [])) e) v; high = omega arith; long = wrote-length (omega arith) u ∙ c2 ∙ b2 ∙ a2 }
+    record {
+      wrote = wrote-same (ap (λ (k : List ℕ). k ++ (10 ∷ [])) e) v;
+      high = omega arith;
+      long = wrote-length (omega arith) u
+          ∙ c2 ∙ b2 ∙ a2;
+    }
 
-pub bytes-ended : (o : List ℕ) (at : ℕ) (bs : List ℕ) (most r : ℕ) (o₁ : List ℕ) → at + most ≤ length o → length bs ≤ most → Puts o at bs r o₁ → Ended o at bs most r o₁
+pub bytes-ended : (o : List ℕ) (at : ℕ) (bs : List ℕ) (most r : ℕ) (o₁ : List ℕ) → at + most ≤ length o → length bs ≤ most
+    → Puts o at bs r o₁ → Ended o at bs most r o₁
 bytes-ended o at bs most r o₁ room few p =
     let w = written o at bs r o₁ (omega arith) p in
     record { wrote = w; high = omega (arith, w .next); long = wrote-length (omega arith) w }
@@ -178,5 +201,6 @@ wrapped-at [] i h = absurd (omega arith)
 wrapped-at (z ∷ a) zero h = refl
 wrapped-at (z ∷ a) (suc i) h = wrapped-at a i (omega arith)
 
-pub read-wrapped : (a : List ℤ) (i : ℕ) → i < length a → mag (getD a i (pos 0)) < 2 ^ hbits w32 → toZ w32 (ofZ w32 (getD a i (pos 0))) ≡ getD (map (wrap w32) a) i (pos 0)
+pub read-wrapped : (a : List ℤ) (i : ℕ) → i < length a → mag (getD a i (pos 0)) < 2 ^ hbits w32 → toZ w32
+    (ofZ w32 (getD a i (pos 0))) ≡ getD (map (wrap w32) a) i (pos 0)
 read-wrapped a i h m = read w32 (getD a i (pos 0)) m ∙ sym (wrapped-at a i h ∙ wrap-is w32 (getD a i (pos 0)) (record { sfits = m }))

@@ -51,28 +51,36 @@ module _ (text : List ℕ) (at k : ℕ) (last : List ℕ) (inside : at < length 
   unfolding left linesIn
   none-here e = by (ltb (endOf 10 text at) (length text)) refl e
     where
-      by : (t : Bool) → ltb (endOf 10 text at) (length text) ≡ t → cond t (lineIn (lineAt text at)) none ≡ none → linesIn form1 k last (parted 10 (drop at text)) ≡ Bad (k + 2) 81
+      by : (t : Bool) → ltb (endOf 10 text at) (length text) ≡ t → cond t (lineIn (lineAt text at)) none ≡ none
+          → linesIn form1 k last (parted 10 (drop at text)) ≡ Bad (k + 2) 81
       by true f g =
           let h = ltb-true _ _ f in
           ap (linesIn form1 k last) (parts-here text at (omega arith) h)
-          ∙ lines-on k last (lineAt text at) (parted 10 (drop (endOf 10 text at + 1) text)) (parts-some (drop (endOf 10 text at + 1) text)) ∙ rw g
+          ∙ lines-on k last (lineAt text at) (parted 10 (drop (endOf 10 text at + 1) text))
+          (parts-some (drop (endOf 10 text at + 1) text)) ∙ rw g
       by false f g =
           let h : length text ≤ endOf 10 text at = ltb-false _ _ f in
-          let n : length (lineAt text at) ≡ 0 → ⊥ = λ z. omega (arith, length-take (endOf 10 text at - at) (drop at text), length-drop at text) in
+          let n : length (lineAt text at) ≡ 0 → ⊥ = λ z. omega
+          (arith, length-take (endOf 10 text at - at) (drop at text), length-drop at text) in
           ap (linesIn form1 k last) (parts-last text at (omega arith) h) ∙ rw (ne-eqb _ _ n)
 
   some-here : (s : Setting) → settingAt text at ≡ some s
-      → (endOf 10 text at < length text) × (left ≡ judged form1 k (recordNumber form1 k last s) s (linesIn form1 (suc k) (nameOf s) (parted 10 (drop (endOf 10 text at + 1) text)))) × (lineIn (lineAt text at) ≡ some s)
+      → (endOf 10 text at < length text) ×
+      (left ≡ judged form1 k (recordNumber form1 k last s) s
+      (linesIn form1 (suc k) (nameOf s) (parted 10 (drop (endOf 10 text at + 1) text)))) × (lineIn (lineAt text at) ≡ some s)
   unfolding left
   some-here s e = by (ltb (endOf 10 text at) (length text)) refl e
     where
       by : (t : Bool) → ltb (endOf 10 text at) (length text) ≡ t → cond t (lineIn (lineAt text at)) none ≡ some s
-          → (endOf 10 text at < length text) × (linesIn form1 k last (parted 10 (drop at text)) ≡ judged form1 k (recordNumber form1 k last s) s (linesIn form1 (suc k) (nameOf s) (parted 10 (drop (endOf 10 text at + 1) text)))) × (lineIn (lineAt text at) ≡ some s)
+          → (endOf 10 text at < length text) ×
+          (linesIn form1 k last (parted 10 (drop at text)) ≡ judged form1 k (recordNumber form1 k last s) s
+          (linesIn form1 (suc k) (nameOf s) (parted 10 (drop (endOf 10 text at + 1) text)))) × (lineIn (lineAt text at) ≡ some s)
       by true f g =
           let h = ltb-true _ _ f in (
             h,
             ap (linesIn form1 k last) (parts-here text at (omega arith) h)
-                ∙ lines-on k last (lineAt text at) (parted 10 (drop (endOf 10 text at + 1) text)) (parts-some (drop (endOf 10 text at + 1) text)) ∙ rw g,
+                ∙ lines-on k last (lineAt text at) (parted 10 (drop (endOf 10 text at + 1) text))
+                (parts-some (drop (endOf 10 text at + 1) text)) ∙ rw g,
             g,
           )
       by false f g = absurd (let z : _≡_ {A = ℕ} 0 1 = cc in omega arith)
@@ -122,7 +130,8 @@ stored ss s n e h =
     let m : 64 - n ≡ suc (64 - (n + 1)) = omega arith in
     ap (λ (k : ℕ). set (map entryOf ss ++ replicate k blank) n (entryOf s)) m
     ∙ set-at (map entryOf ss) blank (replicate (64 - (n + 1)) blank) (entryOf s) n (map-length ss ∙ e)
-    ∙ sym (ap (λ (l : List Entry). l ++ replicate (64 - (n + 1)) blank) (map-append entryOf ss (s ∷ [])) ∙ append-assoc (map entryOf ss) (entryOf s ∷ []) (replicate (64 - (n + 1)) blank))
+    ∙ sym (ap (λ (l : List Entry). l ++ replicate (64 - (n + 1)) blank) (map-append entryOf ss (s ∷ [])) ∙ append-assoc
+    (map entryOf ss) (entryOf s ∷ []) (replicate (64 - (n + 1)) blank))
 
 module _ (text : List ℕ) (entries : List Entry) (last : Name) (n at : ℕ) (g : Going text entries last n at) where
   pub over : length text ≤ at → holding n entries 0 0 ≡ found (readOf form1 text)
@@ -137,12 +146,18 @@ module _ (text : List ℕ) (entries : List Entry) (last : Name) (n at : ℕ) (g 
     unfolding stepOf left
     stops h = by (settingAt text at) refl e
       where
-        held : (s : Setting) → settingAt text at ≡ some s → (k : ℕ) → recordNumber form1 n (nameIn last) s ≡ k → (k ≡ 0 → ⊥) → Bad (n + 2) k ≡ readOf form1 text
+        held : (s : Setting) → settingAt text at ≡ some s → (k : ℕ) → recordNumber form1 n (nameIn last) s ≡ k → (k ≡ 0 → ⊥) → Bad
+            (n + 2) k ≡ readOf form1 text
         held s f zero d z = absurd (z refl)
-        held s f (suc k) d z = sym (g .rest ∙ ap (prepended (g .so-far)) (some-here text at n (nameIn last) inside s f .1 ∙ rw d) ∙ prepended-bad (g .so-far) (n + 2) (suc k))
+        held s f (suc k) d z = sym
+            (g .rest ∙ ap (prepended (g .so-far)) (some-here text at n (nameIn last) inside s f .1 ∙ rw d) ∙ prepended-bad
+            (g .so-far) (n + 2) (suc k))
 
-        by : (o : Option Setting) → settingAt text at ≡ o → r ≡ stepBy o (endOf 10 text at) n (nameIn last) → found (Bad (n + 2) (r .number)) ≡ found (readOf form1 text)
-        by none f k = ap found (ap (λ (x : Step). Bad (n + 2) (x .number)) k ∙ sym (g .rest ∙ ap (prepended (g .so-far)) (none-here text at n (nameIn last) inside f) ∙ prepended-bad (g .so-far) (n + 2) 81))
+        by : (o : Option Setting) → settingAt text at ≡ o → r ≡ stepBy o (endOf 10 text at) n (nameIn last) → found
+            (Bad (n + 2) (r .number)) ≡ found (readOf form1 text)
+        by none f k = ap found
+            (ap (λ (x : Step). Bad (n + 2) (x .number)) k ∙ sym
+            (g .rest ∙ ap (prepended (g .so-far)) (none-here text at n (nameIn last) inside f) ∙ prepended-bad (g .so-far) (n + 2) 81))
         by (some s) f k =
             let q : r .number ≡ recordNumber form1 n (nameIn last) s = ap (λ (x : Step). x .number) k in
             ap found (ap (Bad (n + 2)) q ∙ held s f (recordNumber form1 n (nameIn last) s) refl (λ z. h (q ∙ z)))
@@ -178,9 +193,11 @@ module _ (text : List ℕ) (entries : List Entry) (last : Name) (n at : ℕ) (g 
                 counted = length-append (g .so-far) (s ∷ []) ∙ omega (arith, g .counted);
                 room = omega arith;
                 within = omega (arith, p .0);
-                short = let el : r .entry .name .len ≡ length (nameOf s) = ap (λ (y : Entry). y .name .len) en ∙ entry-len s in let ln = line-named (lineAt text at) s (p .2) in omega arith;
+                short = let el : r .entry .name .len ≡ length (nameOf s) = ap (λ (y : Entry). y .name .len) en
+                    ∙ entry-len s in let ln = line-named (lineAt text at) s (p .2) in omega arith;
                 shape = rw (en, g .shape) (stored (g .so-far) s n (g .counted) m);
-                rest = g .rest ∙ ap (prepended (g .so-far)) (p .1 ∙ j) ∙ prepended-on (g .so-far) s on ∙ ap (prepended (g .so-far ++ (s ∷ []))) u;
+                rest = g .rest ∙ ap (prepended (g .so-far)) (p .1 ∙ j) ∙ prepended-on (g .so-far) s on ∙ ap
+                    (prepended (g .so-far ++ (s ∷ []))) u;
               };
             }
 
@@ -189,7 +206,8 @@ pub no-line : (text : List ℕ) (e : ℕ) → e ≡ endOf 10 text 0 → length t
 unfolding readOf openedBy
 no-line text e p h = sym (rw (parts-last text 0 (omega arith) (rw p at h)))
 
-pub other-line : (text : List ℕ) (e : ℕ) → e ≡ endOf 10 text 0 → e < length text → same (take e text) (form1 .heading) ≡ false → Bad 1 80 ≡ readOf form1 text
+pub other-line : (text : List ℕ) (e : ℕ) → e ≡ endOf 10 text 0 → e < length text → same (take e text) (form1 .heading) ≡ false
+    → Bad 1 80 ≡ readOf form1 text
 unfolding readOf openedBy
 other-line text e p h q =
     let z : endOf 10 text 0 - 0 ≡ endOf 10 text 0 = omega arith in
@@ -202,7 +220,8 @@ other-line text e p h q =
     by (x ∷ ps) q = rw q
 
 -- before the first record
-pub started : (text : List ℕ) (e : ℕ) (last : Name) → e ≡ endOf 10 text 0 → e < length text → take e text ≡ form1 .heading → nameIn last ≡ [] → last .len ≤ 16
+pub started : (text : List ℕ) (e : ℕ) (last : Name) → e ≡ endOf 10 text 0 → e < length text → take e text ≡ form1 .heading
+    → nameIn last ≡ [] → last .len ≤ 16
     → Going text (replicate 64 blank) last 0 (e + 1)
 unfolding readOf openedBy
 started text e last p h q z sh =
@@ -218,7 +237,8 @@ started text e last p h q z sh =
     }
   where
     head : (text : List ℕ) (e : ℕ) → e ≡ endOf 10 text 0 → e < length text → parted 10 text ≡ take e text ∷ parted 10 (drop (e + 1) text)
-    head text e p h = let z : endOf 10 text 0 - 0 ≡ endOf 10 text 0 = omega arith in rw p (parts-here text 0 (omega arith) (omega arith) ∙ ap (λ (k : ℕ). take k text ∷ parted 10 (drop (endOf 10 text 0 + 1) text)) z)
+    head text e p h = let z : endOf 10 text 0 - 0 ≡ endOf 10 text 0 = omega arith in rw p
+        (parts-here text 0 (omega arith) (omega arith) ∙ ap (λ (k : ℕ). take k text ∷ parted 10 (drop (endOf 10 text 0 + 1) text)) z)
 
     begun : (ps : List (List ℕ)) → 0 < length ps → openedBy form1 (form1 .heading ∷ ps) ≡ linesIn form1 0 [] ps
     begun [] l = absurd (omega arith)
@@ -240,25 +260,34 @@ module _ (text : List ℕ) (at k : ℕ) (last : List ℕ) (end : ℕ) (pe : end 
       where
         by : (o : Option Setting) → lineIn (take (end - at) (drop at text)) ≡ o → stepBy none end k last ≡ stepOf text at k last
         by none f = sym (rw (step-is, f))
-        by (some s) f = absurd (let t : true ≡ false = sym (ap (λ (x : Line). x .found) (pl ∙ ap lineRead f)) ∙ h in let z : _≡_ {A = ℕ} 0 1 = cc in omega arith)
+        by (some s) f = absurd
+            (let t : true ≡ false = sym (ap (λ (x : Line). x .found) (pl ∙ ap lineRead f))
+            ∙ h in let z : _≡_ {A = ℕ} 0 1 = cc in omega arith)
 
     module _ (h : line .found ≡ true) where
       pub next-short : line .entry .name .len ≤ 16
       next-short = by (lineIn (take (end - at) (drop at text))) refl
         where
           by : (o : Option Setting) → lineIn (take (end - at) (drop at text)) ≡ o → line .entry .name .len ≤ 16
-          by none f = absurd (let t : false ≡ true = sym (ap (λ (x : Line). x .found) (pl ∙ ap lineRead f)) ∙ h in let z : _≡_ {A = ℕ} 0 1 = cc in omega arith)
+          by none f = absurd (let t : false ≡ true = sym (ap (λ (x : Line). x .found) (pl ∙ ap lineRead f))
+              ∙ h in let z : _≡_ {A = ℕ} 0 1 = cc in omega arith)
           by (some s) f =
-              let e : line .entry .name .len ≡ length (nameOf s) = ap (λ (x : Line). x .entry .name .len) (pl ∙ ap lineRead f) ∙ entry-len s in
+              let e : line .entry .name .len ≡ length (nameOf s) = ap (λ (x : Line). x .entry .name .len) (pl ∙ ap lineRead f)
+              ∙ entry-len s in
               let l = line-named (take (end - at) (drop at text)) s f in
               omega arith
 
-      pub next-some : (number : ℕ) → number ≡ numberFor k last (nameIn (line .entry .name)) (line .entry .kind) → record { entry = line .entry; end = end; number = number } ≡ stepOf text at k last
+      pub next-some : (number : ℕ) → number ≡ numberFor k last (nameIn (line .entry .name)) (line .entry .kind)
+          → record { entry = line .entry; end = end; number = number } ≡ stepOf text at k last
       next-some number q = by (lineIn (take (end - at) (drop at text))) refl
         where
-          by : (o : Option Setting) → lineIn (take (end - at) (drop at text)) ≡ o → record { entry = line .entry; end = end; number = number } ≡ stepOf text at k last
-          by none f = absurd (let t : false ≡ true = sym (ap (λ (x : Line). x .found) (pl ∙ ap lineRead f)) ∙ h in let z : _≡_ {A = ℕ} 0 1 = cc in omega arith)
+          by : (o : Option Setting) → lineIn (take (end - at) (drop at text)) ≡ o
+              → record { entry = line .entry; end = end; number = number } ≡ stepOf text at k last
+          by none f = absurd (let t : false ≡ true = sym (ap (λ (x : Line). x .found) (pl ∙ ap lineRead f))
+              ∙ h in let z : _≡_ {A = ℕ} 0 1 = cc in omega arith)
           by (some s) f =
               let e : line .entry ≡ entryOf s = ap (λ (x : Line). x .entry) (pl ∙ ap lineRead f) in
-              let n : number ≡ recordNumber form1 k last s = q ∙ ap (λ (x : Entry). numberFor k last (nameIn (x .name)) (x .kind)) e ∙ number-kept k last s (line-fits (take (end - at) (drop at text)) s f) in
+              let n : number ≡ recordNumber form1 k last s = q ∙ ap
+              (λ (x : Entry). numberFor k last (nameIn (x .name)) (x .kind)) e ∙ number-kept k last s
+              (line-fits (take (end - at) (drop at text)) s f) in
               sym (rw (step-is, f, e, n))

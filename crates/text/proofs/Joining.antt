@@ -21,7 +21,8 @@ module _ (sep : ℕ) where
   parted-after [] rest h = rw (eq-eqb sep sep refl)
   parted-after (b ∷ f) rest h = by (eqb b sep) refl h (parted-after f rest)
     where
-      by : (t : Bool) → eqb b sep ≡ t → cond t (suc (count sep f)) (count sep f) ≡ 0 → (count sep f ≡ 0 → parted sep (f ++ (sep ∷ rest)) ≡ f ∷ parted sep rest)
+      by : (t : Bool) → eqb b sep ≡ t → cond t (suc (count sep f)) (count sep f) ≡ 0 →
+          (count sep f ≡ 0 → parted sep (f ++ (sep ∷ rest)) ≡ f ∷ parted sep rest)
           → cond (eqb b sep) ([] ∷ parted sep (f ++ (sep ∷ rest))) (onto b (parted sep (f ++ (sep ∷ rest)))) ≡ (b ∷ f) ∷ parted sep rest
       by true e k g = absurd (omega arith)
       by false e k g = rw e (ap (onto b) (g k))
@@ -47,8 +48,10 @@ module _ (sep : ℕ) where
   joined-parted [] = refl
   joined-parted (b ∷ l) = by (eqb b sep) refl (joined-parted l)
     where
-      by : (t : Bool) → eqb b sep ≡ t → joined sep (parted sep l) ≡ l → joined sep (cond t ([] ∷ parted sep l) (onto b (parted sep l))) ≡ b ∷ l
-      by true e f = joined-empty (parted sep l) (omega (arith, parted-length sep l)) ∙ ap (λ (k : List ℕ). sep ∷ k) f ∙ ap (λ (x : ℕ). x ∷ l) (sym (eqb-true b sep e))
+      by : (t : Bool) → eqb b sep ≡ t → joined sep (parted sep l) ≡ l → joined sep
+          (cond t ([] ∷ parted sep l) (onto b (parted sep l))) ≡ b ∷ l
+      by true e f = joined-empty (parted sep l) (omega (arith, parted-length sep l)) ∙ ap (λ (k : List ℕ). sep ∷ k) f ∙ ap
+          (λ (x : ℕ). x ∷ l) (sym (eqb-true b sep e))
       by false e f = joined-onto b (parted sep l) ∙ ap (λ (k : List ℕ). b ∷ k) f
 
   -- another separator's count of a joined line
@@ -58,4 +61,5 @@ module _ (sep : ℕ) where
   count-joined other d (f ∷ []) (more h p) = h
   count-joined other d (f ∷ g ∷ fs) (more h p) =
       let n : sep ≡ other → ⊥ = λ e. d (sym e) in
-      count-append other f (sep ∷ joined sep (g ∷ fs)) ∙ rw (h, ne-eqb sep other n) (ap (λ (x : ℕ). 0 + x) (count-joined other d (g ∷ fs) p))
+      count-append other f (sep ∷ joined sep (g ∷ fs)) ∙ rw (h, ne-eqb sep other n)
+      (ap (λ (x : ℕ). 0 + x) (count-joined other d (g ∷ fs) p))

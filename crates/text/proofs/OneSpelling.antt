@@ -55,8 +55,10 @@ digits-snoc v [] w d e h =
     rw (digit-yes (48 + d) (omega arith) (omega arith), m, p)
 digits-snoc v (b ∷ l) w d e h = by (isDigit b) refl (λ k. digits-snoc (v * 10 + (b - 48)) l w d k h) e
   where
-    by : (t : Bool) → isDigit b ≡ t → (digitsFrom (v * 10 + (b - 48)) l ≡ Plus w → digitsFrom (v * 10 + (b - 48)) (l ++ ((48 + d) ∷ [])) ≡ Plus (w * 10 + d))
-        → cond t (digitsFrom (v * 10 + (b - 48)) l) Wrong ≡ Plus w → cond (isDigit b) (digitsFrom (v * 10 + (b - 48)) (l ++ ((48 + d) ∷ []))) Wrong ≡ Plus (w * 10 + d)
+    by : (t : Bool) → isDigit b ≡ t →
+        (digitsFrom (v * 10 + (b - 48)) l ≡ Plus w → digitsFrom (v * 10 + (b - 48)) (l ++ ((48 + d) ∷ [])) ≡ Plus (w * 10 + d))
+        → cond t (digitsFrom (v * 10 + (b - 48)) l) Wrong ≡ Plus w → cond (isDigit b)
+        (digitsFrom (v * 10 + (b - 48)) (l ++ ((48 + d) ∷ []))) Wrong ≡ Plus (w * 10 + d)
     by true f g k = rw f (g k)
     by false f g k = absurd (let z : _≡_ {A = ℕ} 0 1 = cc in omega arith)
 
@@ -128,7 +130,8 @@ unfolding digitsFrom
 grows [] v n e = let p : v ≡ n = cc in omega arith
 grows (b ∷ l) v n e = by (isDigit b) (grows l (v * 10 + (b - 48)) n) e
   where
-    by : (t : Bool) → (digitsFrom (v * 10 + (b - 48)) l ≡ Plus n → v * 10 + (b - 48) ≤ n) → cond t (digitsFrom (v * 10 + (b - 48)) l) Wrong ≡ Plus n → v ≤ n
+    by : (t : Bool) → (digitsFrom (v * 10 + (b - 48)) l ≡ Plus n → v * 10 + (b - 48) ≤ n) → cond t
+        (digitsFrom (v * 10 + (b - 48)) l) Wrong ≡ Plus n → v ≤ n
     by true f k = let h = f k in omega arith
     by false f k = absurd (let z : _≡_ {A = ℕ} 0 1 = cc in omega arith)
 
@@ -137,7 +140,8 @@ unfolding digitsFrom
 spelt-on [] v n p h e = let q : v ≡ n = cc in ap (spelt 20) (sym q) ∙ sym (append-nil (spelt 20 v))
 spelt-on (b ∷ l) v n p h e = by (isDigit b) refl (λ m k. spelt-on l (v * 10 + (b - 48)) n m h k) e
   where
-    by : (t : Bool) → isDigit b ≡ t → (1 ≤ v * 10 + (b - 48) → digitsFrom (v * 10 + (b - 48)) l ≡ Plus n → spelt 20 n ≡ spelt 20 (v * 10 + (b - 48)) ++ l)
+    by : (t : Bool) → isDigit b ≡ t →
+        (1 ≤ v * 10 + (b - 48) → digitsFrom (v * 10 + (b - 48)) l ≡ Plus n → spelt 20 n ≡ spelt 20 (v * 10 + (b - 48)) ++ l)
         → cond t (digitsFrom (v * 10 + (b - 48)) l) Wrong ≡ Plus n → spelt 20 n ≡ spelt 20 v ++ (b ∷ l)
     by true f r k =
         let g = digit-is b f in
@@ -163,7 +167,8 @@ unfolding leadingOf digitsFrom
 leading-one [] n h e = absurd (let z : _≡_ {A = ℕ} 0 1 = cc in omega arith)
 leading-one (b ∷ l) n h e = by (eqb b 48) refl (isDigit b) refl e
   where
-    by : (t : Bool) → eqb b 48 ≡ t → (u : Bool) → isDigit b ≡ u → cond t Wrong (cond u (digitsFrom (0 * 10 + (b - 48)) l) Wrong) ≡ Plus n → b ∷ l ≡ decimalOf n
+    by : (t : Bool) → eqb b 48 ≡ t → (u : Bool) → isDigit b ≡ u → cond t Wrong (cond u (digitsFrom (0 * 10 + (b - 48)) l) Wrong)
+        ≡ Plus n → b ∷ l ≡ decimalOf n
     by true f u g k = absurd (let z : _≡_ {A = ℕ} 0 1 = cc in omega arith)
     by false f false g k = absurd (let z : _≡_ {A = ℕ} 0 1 = cc in omega arith)
     by false f true g k =
@@ -173,7 +178,8 @@ leading-one (b ∷ l) n h e = by (eqb b 48) refl (isDigit b) refl e
         let z : 0 * 10 + (b - 48) ≡ b - 48 = omega arith in
         let m : 48 + (b - 48) ≡ b = omega arith in
         let j : digitsFrom (b - 48) l ≡ Plus n = rw z at k in
-        sym (spelt-on l (b - 48) n (omega arith) h j ∙ ap (λ (x : List ℕ). x ++ l) (one 19 (b - 48) (omega arith) ∙ ap (λ (x : ℕ). x ∷ []) m))
+        sym (spelt-on l (b - 48) n (omega arith) h j ∙ ap (λ (x : List ℕ). x ++ l)
+        (one 19 (b - 48) (omega arith) ∙ ap (λ (x : ℕ). x ∷ []) m))
 
 -- and only that reads so
 pub number-one : (l : List ℕ) (n : ℕ) → n < 10 ^ 20 → numberOf l ≡ Plus n → l ≡ decimalOf n

@@ -50,14 +50,16 @@ module _ (r : Range) (low : r .least < 10 ^ 20) (high : r .most < 10 ^ 20) where
   unfolding numberIn
   number-only f z e = by (numberOf f) refl e
     where
-      plus : (v : ℕ) → numberOf f ≡ Plus v → (t : Bool) → leb v (r .most) ≡ t → cond t (some (pos v)) none ≡ some z → (f ≡ signedOf z) × (lies r z ≡ true)
+      plus : (v : ℕ) → numberOf f ≡ Plus v → (t : Bool) → leb v (r .most) ≡ t → cond t (some (pos v)) none ≡ some z →
+          (f ≡ signedOf z) × (lies r z ≡ true)
       plus v g true h k =
           let p : pos v ≡ z = cc in
           let b = leb-true v (r .most) h in
           rw (← p) (number-one f v (omega arith) g, h)
       plus v g false h k = absurd (let z : _≡_ {A = ℕ} 0 1 = cc in omega arith)
 
-      minus : (v : ℕ) → numberOf f ≡ Minus (suc v) → (t : Bool) → leb (suc v) (r .least) ≡ t → cond t (some (negsuc v)) none ≡ some z → (f ≡ signedOf z) × (lies r z ≡ true)
+      minus : (v : ℕ) → numberOf f ≡ Minus (suc v) → (t : Bool) → leb (suc v) (r .least) ≡ t → cond t (some (negsuc v)) none
+          ≡ some z → (f ≡ signedOf z) × (lies r z ≡ true)
       minus v g true h k =
           let p : negsuc v ≡ z = cc in
           let b = leb-true (suc v) (r .least) h in
@@ -75,7 +77,8 @@ module _ (r : Range) (low : r .least < 10 ^ 20) (high : r .most < 10 ^ 20) where
   number-plain sep s f z e =
       let nd : (leb 48 sep && leb sep 57) ≡ false = rw (lt-leb 48 sep (omega arith)) in
       let nm : sep ≡ 45 → ⊥ = λ q. omega arith in
-      number-count sep nd nm f (λ w. let q : within r Wrong ≡ some z = sym (ap (within r) w) ∙ e in let y : _≡_ {A = ℕ} 0 1 = cc in omega arith)
+      number-count sep nd nm f
+      (λ w. let q : within r Wrong ≡ some z = sym (ap (within r) w) ∙ e in let y : _≡_ {A = ℕ} 0 1 = cc in omega arith)
 
   pub numbers-again : (zs : List ℤ) → allLie r zs ≡ true → numbersIn r (texts zs) ≡ some zs
   unfolding numbersIn

@@ -29,7 +29,8 @@ returns-3 c =
     let at-read : tie.After-read-form1 = search in
     let begin : tie.Start = search in
     absurd (never (begin .args .text .now) (at-read .read-form1 .result) (at-read .read-form1 .ensures) (else1 .if1 .left)
-    (begin .args .out .now) (begin .pre .1) _ _ (at-write .write-form1 .ensures) _ (c .before .before .before .before .before .n2 .given .1))
+    (begin .args .out .now) (begin .pre .1) _ _ (at-write .write-form1 .ensures) _
+    (c .before .before .before .before .before .n2 .given .1))
 
 pub put-copied-spec : {M : Type 1} → statement M
 put-copied-spec =

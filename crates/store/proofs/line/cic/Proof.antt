@@ -19,7 +19,8 @@ returns c =
     let at-numbers-from : tie.After-numbers-from = search in
     let then1 : tie.Then1 = search in
     let a = begin .args in
-    c .nothing .ensures ∙ cic-none (a .name) (begin .pre .0) (fieldsFrom (a .line .now) (a .from)) (at-numbers-from .numbers-from .result) (at-numbers-from .numbers-from .ensures) (not-true _ (then1 .if1 .taken))
+    c .nothing .ensures ∙ cic-none (a .name) (begin .pre .0) (fieldsFrom (a .line .now) (a .from))
+    (at-numbers-from .numbers-from .result) (at-numbers-from .numbers-from .ensures) (not-true _ (then1 .if1 .taken))
 
 returns-2 : tie.Need-returns-2
 returns-2 c =
@@ -27,7 +28,8 @@ returns-2 c =
     let at-numbers-from : tie.After-numbers-from = search in
     let then2 : tie.Then2 = search in
     let a = begin .args in
-    c .nothing2 .ensures ∙ cic-other (a .name) (begin .pre .0) (fieldsFrom (a .line .now) (a .from)) (at-numbers-from .numbers-from .result) (at-numbers-from .numbers-from .ensures) (then2 .if2 .taken)
+    c .nothing2 .ensures ∙ cic-other (a .name) (begin .pre .0) (fieldsFrom (a .line .now) (a .from))
+    (at-numbers-from .numbers-from .result) (at-numbers-from .numbers-from .ensures) (then2 .if2 .taken)
 
 returns-3 : tie.Need-returns-3
 returns-3 c =
@@ -41,10 +43,13 @@ returns-3 c =
     let ns = at-numbers-from .numbers-from .result in
     let fs = fieldsFrom (a .line .now) (a .from) in
     let fit = words-fit ns (numbersIn unsigned fs) (at-numbers-from .numbers-from .ensures) in
-    let x : at-i32-as-u32 .i32-as-u32 .result ≡ word w32 (getD (ns .words) 0 (pos 0)) = at-i32-as-u32 .i32-as-u32 .ensures ∙ ap (word w32) (fit 0) in
-    let y : at-i32-as-u322 .i32-as-u322 .result ≡ word w32 (getD (ns .words) 1 (pos 0)) = at-i32-as-u322 .i32-as-u322 .ensures ∙ ap (word w32) (fit 1) in
+    let x : at-i32-as-u32 .i32-as-u32 .result ≡ word w32 (getD (ns .words) 0 (pos 0)) = at-i32-as-u32 .i32-as-u32 .ensures ∙ ap
+    (word w32) (fit 0) in
+    let y : at-i32-as-u322 .i32-as-u322 .result ≡ word w32 (getD (ns .words) 1 (pos 0)) = at-i32-as-u322 .i32-as-u322 .ensures
+    ∙ ap (word w32) (fit 1) in
     let z : c .i32-as-u323 .result ≡ word w32 (getD (ns .words) 2 (pos 0)) = c .i32-as-u323 .ensures ∙ ap (word w32) (fit 2) in
-    rw (x, y, z) (cic-some (a .name) (begin .pre .0) fs ns (at-numbers-from .numbers-from .ensures) (not-false _ (else1 .if1 .left)) (else2 .if2 .left))
+    rw (x, y, z) (cic-some (a .name) (begin .pre .0) fs ns (at-numbers-from .numbers-from .ensures)
+    (not-false _ (else1 .if1 .left)) (else2 .if2 .left))
 
 pub cic-spec : {M : Type 1} → statement M
 cic-spec =

@@ -44,8 +44,12 @@ loop-again c =
     let f = begin .args .field .now in
     let l = turn .loop in
     let h = l .inv .0 in
-    let g = l .inv .1 in
-    (h, omega arith, sofar-down f (l .m) (l .i) (at-nibble-of .nibble-of .result) (omega arith) (omega arith) (l .inv .2) (at-nibble-of .nibble-of .ensures) (omega arith))
+    let g = l .inv .1 in (
+      h,
+      omega arith,
+      sofar-down f (l .m) (l .i) (at-nibble-of .nibble-of .result) (omega arith) (omega arith) (l .inv .2)
+          (at-nibble-of .nibble-of .ensures) (omega arith),
+    )
 
 returns-3 : tie.Need-returns-3 Inv-loop μ-loop
 returns-3 c =

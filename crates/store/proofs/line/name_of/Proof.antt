@@ -24,8 +24,13 @@ loop-again c =
     let turn : tie.At-loop Inv-loop μ-loop = search in
     let begin : tie.Start Inv-loop μ-loop = search in
     let l = turn .loop in
-    let s = begin .args .s .now in
-    (omega arith, simp length-set (l .inv .1), l .inv .2, ap (λ (x : List ℕ). set x (l .i) (getD s (l .i) 0)) (l .inv .3) ∙ copy-on s (l .i) (omega arith) (begin .pre))
+    let s = begin .args .s .now in (
+      omega arith,
+      simp length-set (l .inv .1),
+      l .inv .2,
+      ap (λ (x : List ℕ). set x (l .i) (getD s (l .i) 0)) (l .inv .3)
+          ∙ copy-on s (l .i) (omega arith) (begin .pre),
+    )
 
 returns : tie.Need-returns Inv-loop μ-loop
 returns c =

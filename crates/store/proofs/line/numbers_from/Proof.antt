@@ -11,15 +11,21 @@ use Rattle.store.proofs.line.numbers_from.Statement.{statement}
 use Rattle.store.proofs.line.numbers_from.Tie as tie
 
 abbrev Inv-loop : tie.InvT-loop
-Inv-loop line from least most words₀ n₀ at₀ words n at = (length line ≤ 160) × (least ≤ 2147483648) × (most ≤ 4294967295) × Counting (range least most) line from words n at
+Inv-loop line from least most words₀ n₀ at₀ words n at =
+    (length line ≤ 160) × (least ≤ 2147483648) × (most ≤ 4294967295) × Counting (range least most) line from words n at
 
 abbrev μ-loop : tie.MeasureT-loop
 μ-loop line from least most words₀ n₀ at₀ words n at = length line + 1 - at
 
 loop-holds : tie.Need-loop-holds Inv-loop μ-loop
 loop-holds c =
-    let begin : tie.Start Inv-loop μ-loop = search in
-    (begin .pre .1, begin .pre .2, begin .pre .3, counting-none (range (begin .args .least) (begin .args .most)) (begin .args .line .now) (begin .args .from) (begin .pre .0))
+    let begin : tie.Start Inv-loop μ-loop = search in (
+      begin .pre .1,
+      begin .pre .2,
+      begin .pre .3,
+      counting-none (range (begin .args .least) (begin .args .most))
+          (begin .args .line .now) (begin .args .from) (begin .pre .0),
+    )
 
 part-word-of-end : tie.Need-part-word-of-end Inv-loop μ-loop
 part-word-of-end c =
@@ -43,7 +49,9 @@ returns c =
     let at-word-of : tie.After-word-of Inv-loop μ-loop = search in
     let a = begin .args in
     let l = turn .loop in
-    c .no-numbers .ensures ∙ counting-stops (range (a .least) (a .most)) (a .line .now) (a .from) (l .words) (l .n) (l .at) (l .inv .3) (inside .loop-test .taken) (at-part-end .part-end .result) (at-part-end .part-end .ensures) (sym (at-word-of .word-of .ensures) ∙ c .before .enum-told .given .1)
+    c .no-numbers .ensures ∙ counting-stops (range (a .least) (a .most)) (a .line .now) (a .from) (l .words) (l .n) (l .at)
+    (l .inv .3) (inside .loop-test .taken) (at-part-end .part-end .result) (at-part-end .part-end .ensures)
+    (sym (at-word-of .word-of .ensures) ∙ c .before .enum-told .given .1)
 
 keep-requires : tie.Need-keep-requires Inv-loop μ-loop
 keep-requires c κs =
@@ -91,7 +99,9 @@ loop-again c =
     let at-word-of : tie.After-word-of Inv-loop μ-loop = search in
     let a = begin .args in
     let l = turn .loop in
-    let k = counting-on (range (a .least) (a .most)) (a .line .now) (a .from) (l .words) (l .n) (l .at) (l .inv .3) (inside .loop-test .taken) (at-part-end .part-end .result) (at-part-end .part-end .ensures) _ (sym (at-word-of .word-of .ensures) ∙ c .before .before .before .w .given .1) in
+    let k = counting-on (range (a .least) (a .most)) (a .line .now) (a .from) (l .words) (l .n) (l .at) (l .inv .3)
+    (inside .loop-test .taken) (at-part-end .part-end .result) (at-part-end .part-end .ensures) _
+    (sym (at-word-of .word-of .ensures) ∙ c .before .before .before .w .given .1) in
     (l .inv .0, l .inv .1, l .inv .2, rw (c .keep .ensures) k)
 
 returns-2 : tie.Need-returns-2 Inv-loop μ-loop

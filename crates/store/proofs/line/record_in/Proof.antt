@@ -24,7 +24,8 @@ returns-2 c =
     let at-part-end : tie.After-part-end = search in
     let else1 : tie.Else1 = search in
     let begin : tie.Start = search in
-    c .nothing2 .ensures ∙ one-field (begin .args .line .now) (else1 .if1 .left) (at-part-end .part-end .result) (at-part-end .part-end .ensures) (then2 .if2 .taken)
+    c .nothing2 .ensures ∙ one-field (begin .args .line .now) (else1 .if1 .left) (at-part-end .part-end .result)
+    (at-part-end .part-end .ensures) (then2 .if2 .taken)
 
 add-f1 : tie.Need-add-f1
 add-f1 c =
@@ -55,7 +56,9 @@ returns-3 c =
     let at-part-end : tie.After-part-end = search in
     let else1 : tie.Else1 = search in
     let begin : tie.Start = search in
-    c .nothing3 .ensures ∙ no-name (begin .args .line .now) (else1 .if1 .left) (at-part-end .part-end .result) (at-part-end .part-end .ensures) (else2 .if2 .left) (at-part-end2 .part-end2 .result) (at-part-end2 .part-end2 .ensures) (sym (at-is-name .is-name .ensures) ∙ not-true _ (then3 .if3 .taken))
+    c .nothing3 .ensures ∙ no-name (begin .args .line .now) (else1 .if1 .left) (at-part-end .part-end .result)
+    (at-part-end .part-end .ensures) (else2 .if2 .left) (at-part-end2 .part-end2 .result) (at-part-end2 .part-end2 .ensures)
+    (sym (at-is-name .is-name .ensures) ∙ not-true _ (then3 .if3 .taken))
 
 part-name-of-end : tie.Need-part-name-of-end
 part-name-of-end c =
@@ -91,8 +94,13 @@ cic-requires c κs =
     let begin : tie.Start = search in
     let i : at-part-end .part-end .result + 1 ≤ length (begin .args .line .now) = omega (arith, else2 .if2 .left) in
     let t = end-high 9 (begin .args .line .now) (at-part-end .part-end .result + 1) i in
-    let e = at-part-end2 .part-end2 .ensures in
-    (name-kept (at-name-of .name-of .result) (take (at-part-end2 .part-end2 .result - (at-part-end .part-end .result + 1)) (drop (at-part-end .part-end .result + 1) (begin .args .line .now))) (at-name-of .name-of .ensures), omega arith, else1 .if1 .left)
+    let e = at-part-end2 .part-end2 .ensures in (
+      name-kept (at-name-of .name-of .result)
+          (take (at-part-end2 .part-end2 .result - (at-part-end .part-end .result + 1))
+          (drop (at-part-end .part-end .result + 1) (begin .args .line .now))) (at-name-of .name-of .ensures),
+      omega arith,
+      else1 .if1 .left,
+    )
 
 returns-4 : tie.Need-returns-4
 returns-4 c =
@@ -106,7 +114,10 @@ returns-4 c =
     let at-part-end : tie.After-part-end = search in
     let else1 : tie.Else1 = search in
     let begin : tie.Start = search in
-    is-cic (begin .args .line .now) (else1 .if1 .left) (at-part-end .part-end .result) (at-part-end .part-end .ensures) (else2 .if2 .left) (at-part-end2 .part-end2 .result) (at-part-end2 .part-end2 .ensures) (sym (at-is-name .is-name .ensures) ∙ not-false _ (else3 .if3 .left)) (at-name-of .name-of .result) (at-name-of .name-of .ensures) _ (c .cic .ensures) (sym (at-same-bytes .same-bytes .ensures) ∙ then4 .if4 .taken)
+    is-cic (begin .args .line .now) (else1 .if1 .left) (at-part-end .part-end .result) (at-part-end .part-end .ensures)
+    (else2 .if2 .left) (at-part-end2 .part-end2 .result) (at-part-end2 .part-end2 .ensures)
+    (sym (at-is-name .is-name .ensures) ∙ not-false _ (else3 .if3 .left)) (at-name-of .name-of .result)
+    (at-name-of .name-of .ensures) _ (c .cic .ensures) (sym (at-same-bytes .same-bytes .ensures) ∙ then4 .if4 .taken)
 
 slice-aggregate-same-bytes-3 : tie.Need-slice-aggregate-same-bytes-3
 slice-aggregate-same-bytes-3 c =
@@ -126,8 +137,13 @@ wdf-requires c κs =
     let begin : tie.Start = search in
     let i : at-part-end .part-end .result + 1 ≤ length (begin .args .line .now) = omega (arith, else2 .if2 .left) in
     let t = end-high 9 (begin .args .line .now) (at-part-end .part-end .result + 1) i in
-    let e = at-part-end2 .part-end2 .ensures in
-    (name-kept (at-name-of .name-of .result) (take (at-part-end2 .part-end2 .result - (at-part-end .part-end .result + 1)) (drop (at-part-end .part-end .result + 1) (begin .args .line .now))) (at-name-of .name-of .ensures), omega arith, else1 .if1 .left)
+    let e = at-part-end2 .part-end2 .ensures in (
+      name-kept (at-name-of .name-of .result)
+          (take (at-part-end2 .part-end2 .result - (at-part-end .part-end .result + 1))
+          (drop (at-part-end .part-end .result + 1) (begin .args .line .now))) (at-name-of .name-of .ensures),
+      omega arith,
+      else1 .if1 .left,
+    )
 
 returns-5 : tie.Need-returns-5
 returns-5 c =
@@ -143,7 +159,11 @@ returns-5 c =
     let at-part-end : tie.After-part-end = search in
     let else1 : tie.Else1 = search in
     let begin : tie.Start = search in
-    is-wdf (begin .args .line .now) (else1 .if1 .left) (at-part-end .part-end .result) (at-part-end .part-end .ensures) (else2 .if2 .left) (at-part-end2 .part-end2 .result) (at-part-end2 .part-end2 .ensures) (sym (at-is-name .is-name .ensures) ∙ not-false _ (else3 .if3 .left)) (at-name-of .name-of .result) (at-name-of .name-of .ensures) (sym (at-same-bytes .same-bytes .ensures) ∙ else4 .if4 .left) _ (c .wdf .ensures) (sym (at-same-bytes2 .same-bytes2 .ensures) ∙ then5 .if5 .taken)
+    is-wdf (begin .args .line .now) (else1 .if1 .left) (at-part-end .part-end .result) (at-part-end .part-end .ensures)
+    (else2 .if2 .left) (at-part-end2 .part-end2 .result) (at-part-end2 .part-end2 .ensures)
+    (sym (at-is-name .is-name .ensures) ∙ not-false _ (else3 .if3 .left)) (at-name-of .name-of .result)
+    (at-name-of .name-of .ensures) (sym (at-same-bytes .same-bytes .ensures) ∙ else4 .if4 .left) _ (c .wdf .ensures)
+    (sym (at-same-bytes2 .same-bytes2 .ensures) ∙ then5 .if5 .taken)
 
 returns-6 : tie.Need-returns-6
 returns-6 c =
@@ -159,7 +179,11 @@ returns-6 c =
     let at-part-end : tie.After-part-end = search in
     let else1 : tie.Else1 = search in
     let begin : tie.Start = search in
-    c .nothing4 .ensures ∙ no-kind (begin .args .line .now) (else1 .if1 .left) (at-part-end .part-end .result) (at-part-end .part-end .ensures) (else2 .if2 .left) (at-part-end2 .part-end2 .result) (at-part-end2 .part-end2 .ensures) (sym (at-is-name .is-name .ensures) ∙ not-false _ (else3 .if3 .left)) (at-name-of .name-of .result) (at-name-of .name-of .ensures) (sym (at-same-bytes .same-bytes .ensures) ∙ else4 .if4 .left) (sym (at-same-bytes2 .same-bytes2 .ensures) ∙ else5 .if5 .left)
+    c .nothing4 .ensures ∙ no-kind (begin .args .line .now) (else1 .if1 .left) (at-part-end .part-end .result)
+    (at-part-end .part-end .ensures) (else2 .if2 .left) (at-part-end2 .part-end2 .result) (at-part-end2 .part-end2 .ensures)
+    (sym (at-is-name .is-name .ensures) ∙ not-false _ (else3 .if3 .left)) (at-name-of .name-of .result)
+    (at-name-of .name-of .ensures) (sym (at-same-bytes .same-bytes .ensures) ∙ else4 .if4 .left)
+    (sym (at-same-bytes2 .same-bytes2 .ensures) ∙ else5 .if5 .left)
 
 pub record-in-spec : {M : Type 1} → statement M
 record-in-spec =

@@ -24,7 +24,8 @@ returns-2 c =
     let else1 : tie.Else1 = search in
     let begin : tie.Start = search in
     let a = begin .args in
-    c .nothing2 .ensures ∙ wdf-one (a .name) (begin .pre .0) (a .line .now) (a .from) (else1 .if1 .left) (at-part-end .part-end .result) (at-part-end .part-end .ensures) (then2 .if2 .taken)
+    c .nothing2 .ensures ∙ wdf-one (a .name) (begin .pre .0) (a .line .now) (a .from) (else1 .if1 .left)
+    (at-part-end .part-end .result) (at-part-end .part-end .ensures) (then2 .if2 .taken)
 
 add-numbers-from : tie.Need-add-numbers-from
 add-numbers-from c =
@@ -57,7 +58,10 @@ returns-3 c =
     let else1 : tie.Else1 = search in
     let begin : tie.Start = search in
     let a = begin .args in
-    c .nothing3 .ensures ∙ wdf-none (a .name) (begin .pre .0) (a .line .now) (a .from) (else1 .if1 .left) (at-part-end .part-end .result) (at-part-end .part-end .ensures) (else2 .if2 .left) (at-part-end2 .part-end2 .result) (at-part-end2 .part-end2 .ensures) (at-numbers-from .numbers-from .result) (at-numbers-from .numbers-from .ensures) (not-true _ (then3 .if3 .taken))
+    c .nothing3 .ensures ∙ wdf-none (a .name) (begin .pre .0) (a .line .now) (a .from) (else1 .if1 .left)
+    (at-part-end .part-end .result) (at-part-end .part-end .ensures) (else2 .if2 .left) (at-part-end2 .part-end2 .result)
+    (at-part-end2 .part-end2 .ensures) (at-numbers-from .numbers-from .result) (at-numbers-from .numbers-from .ensures)
+    (not-true _ (then3 .if3 .taken))
 
 returns-4 : tie.Need-returns-4
 returns-4 c =
@@ -70,7 +74,10 @@ returns-4 c =
     let else1 : tie.Else1 = search in
     let begin : tie.Start = search in
     let a = begin .args in
-    c .nothing4 .ensures ∙ wdf-other (a .name) (begin .pre .0) (a .line .now) (a .from) (else1 .if1 .left) (at-part-end .part-end .result) (at-part-end .part-end .ensures) (else2 .if2 .left) (at-part-end2 .part-end2 .result) (at-part-end2 .part-end2 .ensures) (at-numbers-from .numbers-from .result) (at-numbers-from .numbers-from .ensures) (not-false _ (else3 .if3 .left))
+    c .nothing4 .ensures ∙ wdf-other (a .name) (begin .pre .0) (a .line .now) (a .from) (else1 .if1 .left)
+    (at-part-end .part-end .result) (at-part-end .part-end .ensures) (else2 .if2 .left) (at-part-end2 .part-end2 .result)
+    (at-part-end2 .part-end2 .ensures) (at-numbers-from .numbers-from .result) (at-numbers-from .numbers-from .ensures)
+    (not-false _ (else3 .if3 .left))
     (count-none _ _ (sym (at-word-of .word-of .ensures) ∙ c .before .enum-told .given .1))
 
 returns-5 : tie.Need-returns-5
@@ -85,7 +92,10 @@ returns-5 c =
     let else1 : tie.Else1 = search in
     let begin : tie.Start = search in
     let a = begin .args in
-    c .nothing5 .ensures ∙ wdf-other (a .name) (begin .pre .0) (a .line .now) (a .from) (else1 .if1 .left) (at-part-end .part-end .result) (at-part-end .part-end .ensures) (else2 .if2 .left) (at-part-end2 .part-end2 .result) (at-part-end2 .part-end2 .ensures) (at-numbers-from .numbers-from .result) (at-numbers-from .numbers-from .ensures) (not-false _ (else3 .if3 .left))
+    c .nothing5 .ensures ∙ wdf-other (a .name) (begin .pre .0) (a .line .now) (a .from) (else1 .if1 .left)
+    (at-part-end .part-end .result) (at-part-end .part-end .ensures) (else2 .if2 .left) (at-part-end2 .part-end2 .result)
+    (at-part-end2 .part-end2 .ensures) (at-numbers-from .numbers-from .result) (at-numbers-from .numbers-from .ensures)
+    (not-false _ (else3 .if3 .left))
     (count-other _ _ _ (sym (at-word-of .word-of .ensures) ∙ c .before .before .before .n .given .1) (then4 .if4 .taken))
 
 part-nibbles-end : tie.Need-part-nibbles-end
@@ -110,7 +120,10 @@ returns-6 c =
     let else1 : tie.Else1 = search in
     let begin : tie.Start = search in
     let a = begin .args in
-    c .nothing6 .ensures ∙ nibbles-none (a .name) (begin .pre .0) (a .line .now) (a .from) (else1 .if1 .left) (at-part-end .part-end .result) (at-part-end .part-end .ensures) (else2 .if2 .left) (at-part-end2 .part-end2 .result) (at-part-end2 .part-end2 .ensures) (at-numbers-from .numbers-from .result) (at-numbers-from .numbers-from .ensures) (not-false _ (else3 .if3 .left))
+    c .nothing6 .ensures ∙ nibbles-none (a .name) (begin .pre .0) (a .line .now) (a .from) (else1 .if1 .left)
+    (at-part-end .part-end .result) (at-part-end .part-end .ensures) (else2 .if2 .left) (at-part-end2 .part-end2 .result)
+    (at-part-end2 .part-end2 .ensures) (at-numbers-from .numbers-from .result) (at-numbers-from .numbers-from .ensures)
+    (not-false _ (else3 .if3 .left))
     (sym (at-nibbles .nibbles .ensures) ∙ c .before .enum-told2 .given .1)
 
 returns-7 : tie.Need-returns-7
@@ -126,8 +139,12 @@ returns-7 c =
     let else1 : tie.Else1 = search in
     let begin : tie.Start = search in
     let a = begin .args in
-    wdf-all (a .name) (begin .pre .0) (a .line .now) (a .from) (else1 .if1 .left) (at-part-end .part-end .result) (at-part-end .part-end .ensures) (else2 .if2 .left) (at-part-end2 .part-end2 .result) (at-part-end2 .part-end2 .ensures) (at-numbers-from .numbers-from .result) (at-numbers-from .numbers-from .ensures) (not-false _ (else3 .if3 .left)) _
-    (count-same _ _ _ (sym (at-word-of .word-of .ensures) ∙ c .before .before .before .before .before .before .before .before .n .given .1) (else4 .if4 .left)) (sym (at-nibbles .nibbles .ensures) ∙ c .before .before .m .given .1)
+    wdf-all (a .name) (begin .pre .0) (a .line .now) (a .from) (else1 .if1 .left) (at-part-end .part-end .result)
+    (at-part-end .part-end .ensures) (else2 .if2 .left) (at-part-end2 .part-end2 .result) (at-part-end2 .part-end2 .ensures)
+    (at-numbers-from .numbers-from .result) (at-numbers-from .numbers-from .ensures) (not-false _ (else3 .if3 .left)) _
+    (count-same _ _ _ (sym (at-word-of .word-of .ensures)
+    ∙ c .before .before .before .before .before .before .before .before .n .given .1) (else4 .if4 .left))
+    (sym (at-nibbles .nibbles .ensures) ∙ c .before .before .m .given .1)
 
 pub wdf-spec : {M : Type 1} → statement M
 wdf-spec =

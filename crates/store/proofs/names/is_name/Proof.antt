@@ -34,7 +34,8 @@ returns-3 c =
     let at-is-letter : tie.After-is-letter Inv-loop μ-loop = search in
     let s = begin .args .s .now in
     let l = turn .loop in
-    sym (by-letters s (l .inv .1) (l .inv .2) ∙ sym (l .inv .3) ∙ letter-not s (l .i) (omega arith) (sym (at-is-letter .is-letter .ensures) ∙ not-true _ (c .if3 .taken)))
+    sym (by-letters s (l .inv .1) (l .inv .2) ∙ sym (l .inv .3) ∙ letter-not s (l .i) (omega arith)
+    (sym (at-is-letter .is-letter .ensures) ∙ not-true _ (c .if3 .taken)))
 
 loop-again : tie.Need-loop-again Inv-loop μ-loop
 loop-again c =
@@ -42,8 +43,13 @@ loop-again c =
     let turn : tie.At-loop Inv-loop μ-loop = search in
     let at-is-letter : tie.After-is-letter Inv-loop μ-loop = search in
     let s = begin .args .s .now in
-    let l = turn .loop in
-    (omega arith, l .inv .1, l .inv .2, letter-on s (l .i) (omega arith) (sym (at-is-letter .is-letter .ensures) ∙ not-false _ (c .if3 .left)) ∙ l .inv .3)
+    let l = turn .loop in (
+      omega arith,
+      l .inv .1,
+      l .inv .2,
+      letter-on s (l .i) (omega arith)
+          (sym (at-is-letter .is-letter .ensures) ∙ not-false _ (c .if3 .left)) ∙ l .inv .3,
+    )
 
 returns-4 : tie.Need-returns-4 Inv-loop μ-loop
 returns-4 c =

@@ -24,7 +24,8 @@ returns c =
     let begin : tie.Start Inv-loop μ-loop = search in
     let at-part-end : tie.After-part-end Inv-loop μ-loop = search in
     let then1 : tie.Then1 Inv-loop μ-loop = search in
-    c .refused .ensures ∙ ap found (no-line (begin .args .text .now) (at-part-end .part-end .result) (at-part-end .part-end .ensures) (then1 .if1 .taken))
+    c .refused .ensures ∙ ap found
+    (no-line (begin .args .text .now) (at-part-end .part-end .result) (at-part-end .part-end .ensures) (then1 .if1 .taken))
 
 slice-aggregate-same-bytes : tie.Need-slice-aggregate-same-bytes Inv-loop μ-loop
 slice-aggregate-same-bytes c =
@@ -39,7 +40,9 @@ returns-2 c =
     let at-part-end : tie.After-part-end Inv-loop μ-loop = search in
     let at-same-bytes : tie.After-same-bytes Inv-loop μ-loop = search in
     let then2 : tie.Then2 Inv-loop μ-loop = search in
-    c .refused2 .ensures ∙ ap found (other-line (begin .args .text .now) (at-part-end .part-end .result) (at-part-end .part-end .ensures) (omega arith) (sym (at-same-bytes .same-bytes .ensures) ∙ not-true _ (then2 .if2 .taken)))
+    c .refused2 .ensures ∙ ap found
+    (other-line (begin .args .text .now) (at-part-end .part-end .result) (at-part-end .part-end .ensures) (omega arith)
+    (sym (at-same-bytes .same-bytes .ensures) ∙ not-true _ (then2 .if2 .taken)))
 
 loop-holds : tie.Need-loop-holds Inv-loop μ-loop
 unfolding form1
@@ -50,7 +53,10 @@ loop-holds c =
     let at-same-bytes : tie.After-same-bytes Inv-loop μ-loop = search in
     let else2 : tie.Else2 Inv-loop μ-loop = search in (
       omega arith,
-      rw (at-no-entry .no-entry .ensures) (started (begin .args .text .now) (at-part-end .part-end .result) (c .no-name .result) (at-part-end .part-end .ensures) (omega arith) (same-eq _ _ (sym (at-same-bytes .same-bytes .ensures) ∙ not-false _ (else2 .if2 .left))) (c .no-name .ensures .0) (c .no-name .ensures .1)),
+      rw (at-no-entry .no-entry .ensures)
+          (started (begin .args .text .now) (at-part-end .part-end .result) (c .no-name .result) (at-part-end .part-end .ensures)
+          (omega arith) (same-eq _ _ (sym (at-same-bytes .same-bytes .ensures) ∙ not-false _ (else2 .if2 .left)))
+          (c .no-name .ensures .0) (c .no-name .ensures .1)),
     )
 
 next-requires : tie.Need-next-requires Inv-loop μ-loop
@@ -72,7 +78,8 @@ returns-3 c =
     let at-next : tie.After-next Inv-loop μ-loop = search in
     let then3 : tie.Then3 Inv-loop μ-loop = search in
     let l = turn .loop in
-    c .refused3 .ensures ∙ stops (begin .args .text .now) (l .entries) (l .last) (l .n) (l .at) (l .inv .1) (inside .loop-test .taken) (at-next .next .result) (at-next .next .ensures) (then3 .if3 .taken)
+    c .refused3 .ensures ∙ stops (begin .args .text .now) (l .entries) (l .last) (l .n) (l .at) (l .inv .1)
+    (inside .loop-test .taken) (at-next .next .result) (at-next .next .ensures) (then3 .if3 .taken)
 
 array-set-from-entries : tie.Need-array-set-from-entries Inv-loop μ-loop
 array-set-from-entries c =
@@ -82,7 +89,8 @@ array-set-from-entries c =
     let at-next : tie.After-next Inv-loop μ-loop = search in
     let else3 : tie.Else3 Inv-loop μ-loop = search in
     let l = turn .loop in
-    takes (begin .args .text .now) (l .entries) (l .last) (l .n) (l .at) (l .inv .1) (inside .loop-test .taken) (at-next .next .result) (at-next .next .ensures) (else3 .if3 .left) .room
+    takes (begin .args .text .now) (l .entries) (l .last) (l .n) (l .at) (l .inv .1) (inside .loop-test .taken)
+    (at-next .next .result) (at-next .next .ensures) (else3 .if3 .left) .room
 
 add-n : tie.Need-add-n Inv-loop μ-loop
 add-n c =
@@ -92,7 +100,8 @@ add-n c =
     let at-next : tie.After-next Inv-loop μ-loop = search in
     let else3 : tie.Else3 Inv-loop μ-loop = search in
     let l = turn .loop in
-    let r = takes (begin .args .text .now) (l .entries) (l .last) (l .n) (l .at) (l .inv .1) (inside .loop-test .taken) (at-next .next .result) (at-next .next .ensures) (else3 .if3 .left) .room in
+    let r = takes (begin .args .text .now) (l .entries) (l .last) (l .n) (l .at) (l .inv .1) (inside .loop-test .taken)
+    (at-next .next .result) (at-next .next .ensures) (else3 .if3 .left) .room in
     search needs
 
 add-at-2 : tie.Need-add-at-2 Inv-loop μ-loop
@@ -103,7 +112,8 @@ add-at-2 c =
     let at-next : tie.After-next Inv-loop μ-loop = search in
     let else3 : tie.Else3 Inv-loop μ-loop = search in
     let l = turn .loop in
-    let w = takes (begin .args .text .now) (l .entries) (l .last) (l .n) (l .at) (l .inv .1) (inside .loop-test .taken) (at-next .next .result) (at-next .next .ensures) (else3 .if3 .left) .within in
+    let w = takes (begin .args .text .now) (l .entries) (l .last) (l .n) (l .at) (l .inv .1) (inside .loop-test .taken)
+    (at-next .next .result) (at-next .next .ensures) (else3 .if3 .left) .within in
     let b = l .inv .0 in
     record { fits = omega arith }
 
@@ -115,7 +125,8 @@ loop-less c =
     let at-next : tie.After-next Inv-loop μ-loop = search in
     let else3 : tie.Else3 Inv-loop μ-loop = search in
     let l = turn .loop in
-    let t = takes (begin .args .text .now) (l .entries) (l .last) (l .n) (l .at) (l .inv .1) (inside .loop-test .taken) (at-next .next .result) (at-next .next .ensures) (else3 .if3 .left) in
+    let t = takes (begin .args .text .now) (l .entries) (l .last) (l .n) (l .at) (l .inv .1) (inside .loop-test .taken)
+    (at-next .next .result) (at-next .next .ensures) (else3 .if3 .left) in
     let a = t .within in
     let b = t .later in
     omega arith
@@ -127,8 +138,11 @@ loop-again c =
     let inside : tie.In-loop Inv-loop μ-loop = search in
     let at-next : tie.After-next Inv-loop μ-loop = search in
     let else3 : tie.Else3 Inv-loop μ-loop = search in
-    let l = turn .loop in
-    (l .inv .0, takes (begin .args .text .now) (l .entries) (l .last) (l .n) (l .at) (l .inv .1) (inside .loop-test .taken) (at-next .next .result) (at-next .next .ensures) (else3 .if3 .left) .going)
+    let l = turn .loop in (
+      l .inv .0,
+      takes (begin .args .text .now) (l .entries) (l .last) (l .n) (l .at) (l .inv .1) (inside .loop-test .taken)
+          (at-next .next .result) (at-next .next .ensures) (else3 .if3 .left) .going,
+    )
 
 returns-4 : tie.Need-returns-4 Inv-loop μ-loop
 returns-4 c =

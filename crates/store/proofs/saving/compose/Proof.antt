@@ -5,12 +5,15 @@ use mathlib.Core.Path.{_≡_, refl, sym, _∙_}
 use Prim.Native.Nat.{_-_, _*_, _≤_}
 use lib.ListN.{length}
 use Rattle.store.specs.Writing.{Ended}
-use Rattle.store.proofs.Judging.{Judging, judged-all, judged-bad, judged-many, judged-on, judging-none, lines-all, lines-none, lines-on, linesTo, unmapped}
+use Rattle.store.proofs.Judging.{Judging, judged-all, judged-bad, judged-many, judged-on, judging-none, lines-all}
+use Rattle.store.proofs.Judging.{lines-none, lines-on, linesTo, unmapped}
 use Rattle.store.proofs.saving.compose.Statement.{statement}
 use Rattle.store.proofs.saving.compose.Tie as tie
 
 abbrev Inv-loop : tie.InvT-loop
-Inv-loop out₀ entries count last₀ end₀ i₀ out last end i = (length entries ≡ 64) × (8838 ≤ length out₀) × (end₀ ≤ 6) × Judging entries count last i × Ended out₀ end₀ (linesTo entries i) (138 * i) end out
+Inv-loop out₀ entries count last₀ end₀ i₀ out last end i =
+    (length entries ≡ 64) × (8838 ≤ length out₀) × (end₀ ≤ 6) × Judging entries count last i × Ended out₀ end₀ (linesTo entries i)
+    (138 * i) end out
 
 abbrev μ-loop : tie.MeasureT-loop
 μ-loop out₀ entries count last₀ end₀ i₀ out last end i = count - i
@@ -23,8 +26,15 @@ loop-holds c =
     let l : length (begin .args .settings .entries) ≡ 64 = search (unmapped, needs) in
     let h = at-put-heading .put-heading .ensures .high in
     let g = at-put-heading .put-heading .ensures .long in
-    let p = begin .pre in
-    (l, omega arith, omega arith, judging-none (begin .args .settings .entries) (begin .args .settings .count) (at-no-name .no-name .result) (at-no-name .no-name .ensures .0) (at-no-name .no-name .ensures .1), lines-none (begin .args .settings .entries) _ _)
+    let p = begin .pre in (
+      l,
+      omega arith,
+      omega arith,
+      judging-none (begin .args .settings .entries) (begin .args .settings .count)
+          (at-no-name .no-name .result) (at-no-name .no-name .ensures .0) (at-no-name .no-name .ensures .1),
+      lines-none
+          (begin .args .settings .entries) _ _,
+    )
 
 same-length : tie.Need-same-length Inv-loop μ-loop
 same-length c =
@@ -40,7 +50,8 @@ returns c =
     let at-put-heading : tie.After-put-heading Inv-loop μ-loop = search in
     let a = begin .args in
     record {
-      judged = judged-many (a .settings .entries) (a .settings .count) (turn .loop .last) (turn .loop .i) (turn .loop .inv .0) (turn .loop .inv .3) (inside .loop-test .taken) (c .if1 .taken);
+      judged = judged-many (a .settings .entries) (a .settings .count) (turn .loop .last) (turn .loop .i) (turn .loop .inv .0)
+          (turn .loop .inv .3) (inside .loop-test .taken) (c .if1 .taken);
       wrote = λ z. absurd (omega arith);
       long = turn .loop .inv .4 .long ∙ at-put-heading .put-heading .ensures .long;
     }
@@ -66,7 +77,9 @@ returns-2 c =
     let at-put-heading : tie.After-put-heading Inv-loop μ-loop = search in
     let a = begin .args in
     record {
-      judged = judged-bad (a .settings .entries) (a .settings .count) (turn .loop .last) (turn .loop .i) (turn .loop .inv .0) (turn .loop .inv .3) (inside .loop-test .taken) (else1 .if1 .left) _ _ refl (at-entry-number .entry-number .result) (at-entry-number .entry-number .ensures .0) (c .if2 .taken);
+      judged = judged-bad (a .settings .entries) (a .settings .count) (turn .loop .last) (turn .loop .i) (turn .loop .inv .0)
+          (turn .loop .inv .3) (inside .loop-test .taken) (else1 .if1 .left) _ _ refl (at-entry-number .entry-number .result)
+          (at-entry-number .entry-number .ensures .0) (c .if2 .taken);
       wrote = λ z. absurd (c .if2 .taken z);
       long = turn .loop .inv .4 .long ∙ at-put-heading .put-heading .ensures .long;
     }
@@ -101,7 +114,9 @@ loop-again c =
       n,
       p,
       q,
-      judged-on (a .settings .entries) (a .settings .count) (l .last) (l .i) n (l .inv .3) (inside .loop-test .taken) (else1 .if1 .left) _ _ refl (at-entry-number .entry-number .result) (at-entry-number .entry-number .ensures .0) (else2 .if2 .left) (s .0),
+      judged-on (a .settings .entries) (a .settings .count) (l .last) (l .i) n (l .inv .3) (inside .loop-test .taken)
+          (else1 .if1 .left) _ _ refl (at-entry-number .entry-number .result) (at-entry-number .entry-number .ensures .0)
+          (else2 .if2 .left) (s .0),
       lines-on (a .settings .entries) _ _ (l .i) _ _ _ _ _ _ (omega arith) refl (omega arith) (l .inv .4) (at-put-line .put-line .ensures),
     )
 
@@ -121,7 +136,8 @@ returns-3 c =
     let f = l .inv .3 .few in
     record {
       judged = judged-all (a .settings .entries) (a .settings .count) (l .last) (l .i) (l .inv .0) (l .inv .3) (c .loop-test .left);
-      wrote = λ z. lines-all (a .settings .entries) (a .settings .count) (l .i) _ _ _ _ _ (omega arith) (l .inv .3 .room) (at-put-heading .put-heading .ensures) (l .inv .4);
+      wrote = λ z. lines-all (a .settings .entries) (a .settings .count) (l .i) _ _ _ _ _ (omega arith) (l .inv .3 .room)
+          (at-put-heading .put-heading .ensures) (l .inv .4);
       long = l .inv .4 .long ∙ at-put-heading .put-heading .ensures .long;
     }
 

@@ -49,7 +49,8 @@ returns-3 c =
     let else1 : tie.Else1 = search in
     let else2 : tie.Else2 = search in
     let at-put-bytes : tie.After-put-bytes = search in
-    all-written (begin .args .settings) (begin .args .out .now) _ _ _ _ (at-compose .compose .ensures) (else1 .if1 .left) _ _ (else2 .if2 .left) (at-put-bytes .put-bytes .ensures)
+    all-written (begin .args .settings) (begin .args .out .now) _ _ _ _ (at-compose .compose .ensures) (else1 .if1 .left) _ _
+    (else2 .if2 .left) (at-put-bytes .put-bytes .ensures)
 
 pub write-form1-spec : {M : Type 1} → statement M
 write-form1-spec =

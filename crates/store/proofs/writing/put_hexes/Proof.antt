@@ -26,8 +26,11 @@ loop-again c =
     let inside : tie.In-loop Inv-loop μ-loop = search in
     let at-put-byte : tie.After-put-byte Inv-loop μ-loop = search in
     let a = begin .args in
-    let l = turn .loop in
-    (l .inv .0, hexing-on (a .out .now) (a .at) (a .k) (a .m) (l .out) (l .next) (l .left) (l .i) (l .inv .0) (l .inv .1) (at-hex-byte .hex-byte .result) _ _ (inside .loop-test .taken) (at-hex-byte .hex-byte .ensures) (at-put-byte .put-byte .ensures))
+    let l = turn .loop in (
+      l .inv .0,
+      hexing-on (a .out .now) (a .at) (a .k) (a .m) (l .out) (l .next) (l .left) (l .i) (l .inv .0) (l .inv .1)
+          (at-hex-byte .hex-byte .result) _ _ (inside .loop-test .taken) (at-hex-byte .hex-byte .ensures) (at-put-byte .put-byte .ensures),
+    )
 
 same-length : tie.Need-same-length Inv-loop μ-loop
 same-length c =

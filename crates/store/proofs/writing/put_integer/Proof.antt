@@ -16,7 +16,12 @@ returns c =
     let at-put-byte : tie.After-put-byte = search in
     let at-put-signed : tie.After-put-signed = search in
     let a = begin .args in
-    one-field (a .out .now) (a .at) (signedOf (a .v)) 12 _ _ _ _ (begin .pre) (integer-most (a .v) (c .before .before .before .before .before .before .before .before .before .fits .v)) (at-put-byte .put-byte .ensures) (puts-same (ap signedOf (toZ-ofZ w32 (a .v) (c .before .before .before .before .before .before .before .before .before .fits .v))) (at-put-signed .put-signed .ensures))
+    one-field (a .out .now) (a .at) (signedOf (a .v)) 12 _ _ _ _ (begin .pre)
+    (integer-most (a .v) (c .before .before .before .before .before .before .before .before .before .fits .v))
+    (at-put-byte .put-byte .ensures)
+    (puts-same (ap signedOf
+    (toZ-ofZ w32 (a .v) (c .before .before .before .before .before .before .before .before .before .fits .v)))
+    (at-put-signed .put-signed .ensures))
 
 pub put-integer-spec : {M : Type 1} → statement M
 put-integer-spec =

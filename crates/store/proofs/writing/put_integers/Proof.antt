@@ -16,7 +16,8 @@ use Rattle.store.proofs.writing.put_integers.Statement.{statement}
 use Rattle.store.proofs.writing.put_integers.Tie as tie
 
 abbrev Inv-loop : tie.InvT-loop
-Inv-loop out₀ at a k next₀ i₀ out next i = (i ≤ k) × (k ≤ 8) × (length a ≡ 8) × (at + 12 * k ≤ length out₀) × Fielded out₀ at (texts (take i (map (wrap w32) a))) (12 * i) next out
+Inv-loop out₀ at a k next₀ i₀ out next i =
+    (i ≤ k) × (k ≤ 8) × (length a ≡ 8) × (at + 12 * k ≤ length out₀) × Fielded out₀ at (texts (take i (map (wrap w32) a))) (12 * i) next out
 
 abbrev μ-loop : tie.MeasureT-loop
 μ-loop out₀ at a k next₀ i₀ out next i = k - i
@@ -44,8 +45,16 @@ loop-again c =
     let l = turn .loop in
     let n = l .inv .2 in
     let r = l .inv .3 in
-    let f = l .inv .1 in
-    (omega arith, f, n, r, integers-on (a .out .now) (a .at) (map (wrap w32) (a .a .now)) (l .i) (l .out) (l .next) _ _ (toZ w32 (ofZ w32 (getD (a .a .now) (l .i) (pos 0)))) (omega arith) (omega (arith, wrapped-length (a .a .now))) (read-wrapped (a .a .now) (l .i) (omega arith) (c .before .before .before .before .v .given)) (l .inv .4) (at-put-integer .put-integer .ensures))
+    let f = l .inv .1 in (
+      omega arith,
+      f,
+      n,
+      r,
+      integers-on (a .out .now) (a .at) (map (wrap w32) (a .a .now)) (l .i) (l .out) (l .next) _ _
+          (toZ w32 (ofZ w32 (getD (a .a .now) (l .i) (pos 0)))) (omega arith) (omega (arith, wrapped-length (a .a .now)))
+          (read-wrapped (a .a .now) (l .i) (omega arith) (c .before .before .before .before .v .given)) (l .inv .4)
+          (at-put-integer .put-integer .ensures),
+    )
 
 same-length : tie.Need-same-length Inv-loop μ-loop
 same-length c =

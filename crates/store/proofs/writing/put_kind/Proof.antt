@@ -9,13 +9,15 @@ returns : tie.Need-returns
 returns c =
     let begin : tie.Start = search in
     let at-put-bytes : tie.After-put-bytes = search in
-    rw (c .before .before .before .before .before .enum-told .given .1) (bytes-ended _ _ _ _ _ _ (begin .pre) (omega arith) (at-put-bytes .put-bytes .ensures))
+    rw (c .before .before .before .before .before .enum-told .given .1)
+    (bytes-ended _ _ _ _ _ _ (begin .pre) (omega arith) (at-put-bytes .put-bytes .ensures))
 
 returns-2 : tie.Need-returns-2
 returns-2 c =
     let begin : tie.Start = search in
     let at-put-bytes2 : tie.After-put-bytes2 = search in
-    rw (c .before .before .before .before .before .enum-told2 .given .1) (bytes-ended _ _ _ _ _ _ (begin .pre) (omega arith) (at-put-bytes2 .put-bytes2 .ensures))
+    rw (c .before .before .before .before .before .enum-told2 .given .1)
+    (bytes-ended _ _ _ _ _ _ (begin .pre) (omega arith) (at-put-bytes2 .put-bytes2 .ensures))
 
 pub put-kind-spec : {M : Type 1} → statement M
 put-kind-spec =

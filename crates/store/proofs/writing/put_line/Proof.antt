@@ -70,7 +70,11 @@ returns c =
     let s = begin .pre .2 in
     let h : begin .args .entry .name .len ≤ length (begin .args .entry .name .bytes) = omega arith in
     let n = length-take-le (begin .args .entry .name .len) (begin .args .entry .name .bytes) h in
-    rw (whole-name (begin .args .entry .name) s) (whole-line (begin .args .out .now) (begin .args .at) (nameIn (begin .args .entry .name)) (begin .args .entry .kind) (map (wrap w32) (begin .args .entry .a)) (length (nameIn (begin .args .entry .name)) + 1) _ _ _ _ _ _ _ _ (begin .pre .0) (begin .pre .1) (wrapped-length (begin .args .entry .a) ∙ k) (omega arith) (at-put-kind .put-kind .ensures) (at-put-text .put-text .ensures) (at-put-body .put-body .ensures) (at-put-byte .put-byte .ensures))
+    rw (whole-name (begin .args .entry .name) s)
+    (whole-line (begin .args .out .now) (begin .args .at) (nameIn (begin .args .entry .name)) (begin .args .entry .kind)
+    (map (wrap w32) (begin .args .entry .a)) (length (nameIn (begin .args .entry .name)) + 1) _ _ _ _ _ _ _ _ (begin .pre .0)
+    (begin .pre .1) (wrapped-length (begin .args .entry .a) ∙ k) (omega arith) (at-put-kind .put-kind .ensures)
+    (at-put-text .put-text .ensures) (at-put-body .put-body .ensures) (at-put-byte .put-byte .ensures))
 
 pub put-line-spec : {M : Type 1} → statement M
 put-line-spec =

@@ -12,7 +12,8 @@ returns c =
     let at-put-byte : tie.After-put-byte = search in
     let at-put-decimal : tie.After-put-decimal = search in
     let a = begin .args in
-    one-field (a .out .now) (a .at) (decimalOf (a .n)) 11 _ _ _ _ (begin .pre) (natural-most (a .n) (omega arith)) (at-put-byte .put-byte .ensures) (at-put-decimal .put-decimal .ensures)
+    one-field (a .out .now) (a .at) (decimalOf (a .n)) 11 _ _ _ _ (begin .pre) (natural-most (a .n) (omega arith))
+    (at-put-byte .put-byte .ensures) (at-put-decimal .put-decimal .ensures)
 
 pub put-natural-spec : {M : Type 1} → statement M
 put-natural-spec =

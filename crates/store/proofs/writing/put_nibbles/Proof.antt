@@ -34,7 +34,8 @@ returns-2 c =
     let at-put-byte : tie.After-put-byte = search in
     let at-put-hexes : tie.After-put-hexes = search in
     let a = begin .args in
-    hexes-field (a .out .now) (a .at) (a .k) (a .m) _ _ _ _ (begin .pre .0) (begin .pre .1) (else1 .if1 .left) (at-put-byte .put-byte .ensures) (at-put-hexes .put-hexes .ensures)
+    hexes-field (a .out .now) (a .at) (a .k) (a .m) _ _ _ _ (begin .pre .0) (begin .pre .1) (else1 .if1 .left)
+    (at-put-byte .put-byte .ensures) (at-put-hexes .put-hexes .ensures)
 
 pub put-nibbles-spec : {M : Type 1} → statement M
 put-nibbles-spec =

@@ -13,7 +13,8 @@ returns c =
     let at-put-byte : tie.After-put-byte = search in
     let at-put-bytes : tie.After-put-bytes = search in
     let a = begin .args in
-    one-field (a .out .now) (a .at) (a .s .now) (length (a .s .now) + 1) _ _ _ _ (begin .pre) (omega arith) (at-put-byte .put-byte .ensures) (at-put-bytes .put-bytes .ensures)
+    one-field (a .out .now) (a .at) (a .s .now) (length (a .s .now) + 1) _ _ _ _ (begin .pre) (omega arith)
+    (at-put-byte .put-byte .ensures) (at-put-bytes .put-bytes .ensures)
 
 pub put-text-spec : {M : Type 1} → statement M
 put-text-spec =

@@ -47,7 +47,8 @@ loop-again c =
     let l = turn .loop in (
       omega arith,
       omega arith,
-      l .inv .2 ∙ bytes-alike (begin .args .a .now) (begin .args .b .now) (l .i) (omega arith) (omega arith) (less .if2 .left) (c .if3 .left),
+      l .inv .2 ∙ bytes-alike (begin .args .a .now) (begin .args .b .now) (l .i) (omega arith) (omega arith) (less .if2 .left)
+          (c .if3 .left),
     )
 
 returns-4 : tie.Need-returns-4 Inv-loop μ-loop
