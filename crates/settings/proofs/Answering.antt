@@ -21,12 +21,12 @@ use Rattle.store.specs.declared.saving.Written.{Written}
 use Rattle.store.specs.declared.saving.Written.the-variants.{Bytes, Refused}
 use Rattle.store.specs.declared.settings.Settings.{Settings}
 use Rattle.store.proofs.Copied.{copy-same}
-use Rattle.settings.specs.Answers.{okLine, badLine, checked, copied, Gave}
+use Rattle.settings.specs.Answers.{okAnswer, badAnswer, checked, copied, Gave}
 
 module _ (o : List ℕ) (room : 36 ≤ length o) where
   pub ok-wrote : (count a b r : ℕ) (o₁ o₂ o₃ : List ℕ) → Puts o 0 (bytes "ok\t1\t") a o₁ → Puts o₁ a (decimalOf count) b o₂
-      → Puts o₂ b (newline ∷ []) r o₃ → Gave o (okLine count) r o₃
-  unfolding okLine
+      → Puts o₂ b (newline ∷ []) r o₃ → Gave o (okAnswer count) r o₃
+  unfolding okAnswer
   ok-wrote count a b r o₁ o₂ o₃ x y z =
       let k = spelt-short 20 count in
       let p₂ : List ℕ = bytes "ok\t1\t" ++ decimalOf count in
@@ -39,8 +39,8 @@ module _ (o : List ℕ) (room : 36 ≤ length o) where
 
   pub bad-wrote : (line number a b c d r : ℕ) (o₁ o₂ o₃ o₄ o₅ : List ℕ) → number < 2 ^ 32
       → Puts o 0 (bytes "bad\t") a o₁ → Puts o₁ a (decimalOf line) b o₂ → Puts o₂ b (tab ∷ []) c o₃
-      → Puts o₃ c (decimalOf number) d o₄ → Puts o₄ d (newline ∷ []) r o₅ → Gave o (badLine line number) r o₅
-  unfolding badLine
+      → Puts o₃ c (decimalOf number) d o₄ → Puts o₄ d (newline ∷ []) r o₅ → Gave o (badAnswer line number) r o₅
+  unfolding badAnswer
   bad-wrote line number a b c d r o₁ o₂ o₃ o₄ o₅ f x y z u v =
       let k = spelt-short 20 line in
       let l = decimal-most number f in
@@ -63,17 +63,17 @@ gave-same e g = record { wrote = wrote-same e (g .wrote); inside = g .inside }
 
 -- a number above 0 is a refusal's, and 0 is that of settings
 module _ (text : List ℕ) (r : Read) (e : r ≡ found (readOf form1 text)) where
-  pub bad-checked : (r .number ≡ 0 → ⊥) → badLine (r .line) (r .number) ≡ checked (readOf form1 text)
+  pub bad-checked : (r .number ≡ 0 → ⊥) → badAnswer (r .line) (r .number) ≡ checked (readOf form1 text)
   bad-checked h = by (readOf form1 text) e
     where
-      by : (f : Found Setting) → r ≡ found f → badLine (r .line) (r .number) ≡ checked f
+      by : (f : Found Setting) → r ≡ found f → badAnswer (r .line) (r .number) ≡ checked f
       by (Good ss) q = absurd (h (ap (λ (x : Read). x .number) q))
       by (Bad line n) q = rw q
 
-  pub bad-copied : (r .number ≡ 0 → ⊥) → badLine (r .line) (r .number) ≡ copied text (readOf form1 text)
+  pub bad-copied : (r .number ≡ 0 → ⊥) → badAnswer (r .line) (r .number) ≡ copied text (readOf form1 text)
   bad-copied h = by (readOf form1 text) e
     where
-      by : (f : Found Setting) → r ≡ found f → badLine (r .line) (r .number) ≡ copied text f
+      by : (f : Found Setting) → r ≡ found f → badAnswer (r .line) (r .number) ≡ copied text f
       by (Good ss) q = absurd (h (ap (λ (x : Read). x .number) q))
       by (Bad line n) q = rw q
 
@@ -92,10 +92,10 @@ module _ (text : List ℕ) (r : Read) (e : r ≡ found (readOf form1 text)) wher
           let z : n ≡ 0 = sym (ap (λ (x : Read). x .number) q) ∙ h in
           absurd (numbered form1 text line (p ∙ ap (Bad line) z))
 
-  pub ok-checked : r .number ≡ 0 → okLine (r .settings .count) ≡ checked (readOf form1 text)
+  pub ok-checked : r .number ≡ 0 → okAnswer (r .settings .count) ≡ checked (readOf form1 text)
   ok-checked h =
       let g = held h in
-      ap (λ (x : Settings). okLine (x .count)) (g .by-value) ∙ sym (ap checked (g .are))
+      ap (λ (x : Settings). okAnswer (x .count)) (g .by-value) ∙ sym (ap checked (g .are))
 
   module _ (h : r .number ≡ 0) (o : List ℕ) (room : length text ≤ length o) (w : Written) (o' : List ℕ)
       (s : Saves (r .settings) o w o') where

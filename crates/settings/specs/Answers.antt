@@ -9,22 +9,22 @@ use Rattle.settings_text.specs.Lines.{Setting}
 use Rattle.settings_text.specs.Stores.{Found, Good, Bad}
 
 -- `ok`, the form and the count of records
-unfoldable pub okLine : ℕ → List ℕ
-okLine count = bytes "ok\t1\t" ++ (decimalOf count ++ (newline ∷ []))
+unfoldable pub okAnswer : ℕ → List ℕ
+okAnswer count = bytes "ok\t1\t" ++ (decimalOf count ++ (newline ∷ []))
 
 -- `bad`, line number from 1, refusal number
-unfoldable pub badLine : ℕ → ℕ → List ℕ
-badLine line number = bytes "bad\t" ++ (decimalOf line ++ (tab ∷ (decimalOf number ++ (newline ∷ []))))
+unfoldable pub badAnswer : ℕ → ℕ → List ℕ
+badAnswer line number = bytes "bad\t" ++ (decimalOf line ++ (tab ∷ (decimalOf number ++ (newline ∷ []))))
 
 -- with no argument or with `check`
 abbrev pub checked : Found Setting → List ℕ
-checked (Good ss) = okLine (length ss)
-checked (Bad line number) = badLine line number
+checked (Good ss) = okAnswer (length ss)
+checked (Bad line number) = badAnswer line number
 
 -- with `copy`: byte for byte the same
 abbrev pub copied : List ℕ → Found Setting → List ℕ
 copied text (Good ss) = text
-copied text (Bad line number) = badLine line number
+copied text (Bad line number) = badAnswer line number
 
 -- bytes were put at a buffer's start, and none past its end
 pub record Gave (o bs : List ℕ) (r : ℕ) (o' : List ℕ) : Type 0 where

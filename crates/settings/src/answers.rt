@@ -9,12 +9,12 @@ ghost use Prim.Native.Nat.{_≤_};
 ghost use lib.ListN.{length};
 ghost use Rattle.settings_text.specs.Lines.{form1};
 ghost use Rattle.settings_text.specs.Stores.{readOf};
-ghost use Rattle.settings.specs.Answers.{Gave, okLine, badLine, checked, copied};
+ghost use Rattle.settings.specs.Answers.{Gave, okAnswer, badAnswer, checked, copied};
 
 // `ok`, the form and the count of records.
 fn put_ok(count: usize, out: &mut [u8]) -> usize
     requires { ⌜ 36 ≤ length (now out) ⌝ }
-    ensures { λ r. ⌜ Gave (now (out .entry)) (okLine count) r (now (out .exit)) ⌝ }
+    ensures { λ r. ⌜ Gave (now (out .entry)) (okAnswer count) r (now (out .exit)) ⌝ }
 {
     let a = put_bytes(out, 0, b"ok\t1\t");
     let b = put_decimal(out, a, count as u64);
@@ -24,7 +24,7 @@ fn put_ok(count: usize, out: &mut [u8]) -> usize
 // `bad`, line number from 1, refusal number.
 fn put_bad(line: usize, number: u32, out: &mut [u8]) -> usize
     requires { ⌜ 36 ≤ length (now out) ⌝ }
-    ensures { λ r. ⌜ Gave (now (out .entry)) (badLine line number) r (now (out .exit)) ⌝ }
+    ensures { λ r. ⌜ Gave (now (out .entry)) (badAnswer line number) r (now (out .exit)) ⌝ }
 {
     let a = put_bytes(out, 0, b"bad\t");
     let b = put_decimal(out, a, line as u64);

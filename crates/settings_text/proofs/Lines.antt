@@ -12,7 +12,7 @@ use lib.ListN.{length, length-append}
 use borrow.Author.Tests.{le-leb, eqb-true, eq-eqb, ltb-false, lt-ltb}
 use Rattle.text.specs.Letters.{bytes}
 use Rattle.text.specs.Numbers.{decimalOf, signedOf}
-use Rattle.text.specs.Parts.{parted, joined, count}
+use Rattle.text.specs.Parts.{parted, joinedBy, count}
 use Rattle.text.specs.Ranges.{Range, unsigned, signed, lies, allLie, numberIn, numbersIn, texts}
 use Rattle.text.specs.Same.{same}
 use Rattle.text.proofs.Joining.{Plain, none, more, parted-joined, joined-parted, count-joined}
@@ -23,8 +23,8 @@ use Rattle.text.proofs.Spelling.{decimal-most}
 use Rattle.wdf.specs.Calls.{sectionsNumber}
 use Rattle.settings_text.specs.Fields.{isName, nibblesOf, nibblesIn}
 use Rattle.settings_text.specs.Laws.{Lawful}
-use Rattle.settings_text.specs.Lines.{Setting, Cic, Wdf, fieldsOf, lineOf, cicBy, cicIn, counts, wdfOf, wdfBy, wdfIn}
-use Rattle.settings_text.specs.Lines.{kindIn, fieldsIn, lineIn, nameOf, formed, parameters, form1}
+use Rattle.settings_text.specs.Lines.{Setting, Cic, Wdf, fieldsOf, recordLine, cicBy, cicIn, counts, wdfOf, wdfBy, wdfIn}
+use Rattle.settings_text.specs.Lines.{kindIn, fieldsIn, recordIn, recordName, formed, parameters, form1}
 use Rattle.settings_text.proofs.Names.{name-short, name-plain}
 use Rattle.settings_text.proofs.Nibbles.{nibbles-again, nibbles-only, nibbles-plain, nibbles-length, nibbles-bound}
 
@@ -33,11 +33,11 @@ abbrev weight : List (List ℕ) → ℕ
 weight [] = 0
 weight (f ∷ fs) = suc (length f) + weight fs
 
-joined-short : (fs : List (List ℕ)) → length (joined 9 fs) ≤ weight fs
-unfolding joined
+joined-short : (fs : List (List ℕ)) → length (joinedBy 9 fs) ≤ weight fs
+unfolding joinedBy
 joined-short [] = omega arith
 joined-short (f ∷ []) = omega arith
-joined-short (f ∷ g ∷ fs) = omega (arith, length-append f (9 ∷ joined 9 (g ∷ fs)), joined-short (g ∷ fs))
+joined-short (f ∷ g ∷ fs) = omega (arith, length-append f (9 ∷ joinedBy 9 (g ∷ fs)), joined-short (g ∷ fs))
 
 texts-weight : (r : Range) → r .least < 2 ^ 32 → r .most < 2 ^ 32 → (zs : List ℤ) → allLie r zs ≡ true → weight (texts zs) ≤ 12 * length zs
 texts-weight r l m [] h = omega arith
@@ -152,19 +152,19 @@ some-fields (Wdf name arch cs) = record {
   is = refl;
 }
 
-parted-fields : (sep : ℕ) (fs : List (List ℕ)) → Two-at-least fs → Plain sep fs → parted sep (joined sep fs) ≡ fs
+parted-fields : (sep : ℕ) (fs : List (List ℕ)) → Two-at-least fs → Plain sep fs → parted sep (joinedBy sep fs) ≡ fs
 parted-fields sep fs t p =
     let q : Plain sep (t .first ∷ t .rest) = rw (t .is) at p in
     rw (t .is) (parted-joined sep (t .first) (t .rest) q)
 
-line-again : (s : Setting) → Fine s → lineIn (lineOf s) ≡ some s
-unfolding lineIn lineOf
+line-again : (s : Setting) → Fine s → recordIn (recordLine s) ≡ some s
+unfolding recordIn recordLine
 line-again s f =
-    let l : length (joined 9 (fieldsOf s)) ≤ 160 = omega (arith, f .short, joined-short (fieldsOf s)) in
+    let l : length (joinedBy 9 (fieldsOf s)) ≤ 160 = omega (arith, f .short, joined-short (fieldsOf s)) in
     rw (le-leb _ _ l, parted-fields 9 (fieldsOf s) (some-fields s) (f .plain-of 9 (omega arith))) (f .again)
 
-line-one : (s : Setting) → Fine s → count 10 (lineOf s) ≡ 0
-unfolding lineOf
+line-one : (s : Setting) → Fine s → count 10 (recordLine s) ≡ 0
+unfolding recordLine
 line-one s f = let d : _≡_ {A = ℕ} 10 9 → ⊥ = λ e. omega arith in count-joined 9 10 d (fieldsOf s) (f .plain-of 10 (omega arith))
 
 -- no nibble beyond the last section
@@ -250,29 +250,29 @@ fields-only (kind ∷ name ∷ fs) s e = by (isName name) refl (same kind (bytes
     by true n false f false g k = absurd (let z : _≡_ {A = ℕ} 0 1 = cc in omega arith)
     by false n a f b g k = absurd (let z : _≡_ {A = ℕ} 0 1 = cc in omega arith)
 
-line-only : (l : List ℕ) (s : Setting) → lineIn l ≡ some s → (l ≡ lineOf s) × (formed s ≡ true)
-unfolding lineIn lineOf
+line-only : (l : List ℕ) (s : Setting) → recordIn l ≡ some s → (l ≡ recordLine s) × (formed s ≡ true)
+unfolding recordIn recordLine
 line-only l s e = by (leb (length l) 160) e
   where
-    by : (t : Bool) → cond t (fieldsIn (parted 9 l)) none ≡ some s → (l ≡ lineOf s) × (formed s ≡ true)
-    by true k = let h = fields-only (parted 9 l) s k in (sym (joined-parted 9 l) ∙ ap (joined 9) (h .fields), h .good)
+    by : (t : Bool) → cond t (fieldsIn (parted 9 l)) none ≡ some s → (l ≡ recordLine s) × (formed s ≡ true)
+    by true k = let h = fields-only (parted 9 l) s k in (sym (joined-parted 9 l) ∙ ap (joinedBy 9) (h .fields), h .good)
     by false k = absurd (let z : _≡_ {A = ℕ} 0 1 = cc in omega arith)
 
-pub line-fits : (l : List ℕ) (s : Setting) → lineIn l ≡ some s → fitting s ≡ true
-unfolding lineIn
+pub line-fits : (l : List ℕ) (s : Setting) → recordIn l ≡ some s → fitting s ≡ true
+unfolding recordIn
 line-fits l s e = by (leb (length l) 160) e
   where
     by : (t : Bool) → cond t (fieldsIn (parted 9 l)) none ≡ some s → fitting s ≡ true
     by true k = fields-only (parted 9 l) s k .fits
     by false k = absurd (let z : _≡_ {A = ℕ} 0 1 = cc in omega arith)
 
-formed-named : (s : Setting) → formed s ≡ true → isName (nameOf s) ≡ true
+formed-named : (s : Setting) → formed s ≡ true → isName (recordName s) ≡ true
 unfolding formed
 formed-named (Cic name n m rate) h = two (isName name) (allLie unsigned (pos n ∷ pos m ∷ pos rate ∷ [])) h .0
 formed-named (Wdf name arch cs) h = two (isName name) (allLie signed cs) h .0
 
-pub line-named : (l : List ℕ) (s : Setting) → lineIn l ≡ some s → length (nameOf s) ≤ 16
-line-named l s e = name-short (nameOf s) (formed-named s (line-only l s e .1))
+pub line-named : (l : List ℕ) (s : Setting) → recordIn l ≡ some s → length (recordName s) ≤ 16
+line-named l s e = name-short (recordName s) (formed-named s (line-only l s e .1))
 
 heading-one : count 10 (form1 .heading) ≡ 0
 unfolding count form1

@@ -10,9 +10,9 @@ use Rattle.settings_text.specs.Stores.{Form, Good, Bad, listNumber, text
 
 -- a record that is not refused is held by its line, which has no newline; and a line holds only what it is the line of
 pub record Lawful {A : Type 0} (form : Form A) : Type 0 where
-  pub again : (s : A) → form .formed s ≡ true → form .parameters s ≡ 0 → form .lineIn (form .lineOf s) ≡ some s
-  pub only : (l : List ℕ) (s : A) → form .lineIn l ≡ some s → (l ≡ form .lineOf s) × (form .formed s ≡ true)
-  pub one-line : (s : A) → form .formed s ≡ true → form .parameters s ≡ 0 → count newline (form .lineOf s) ≡ 0
+  pub again : (s : A) → form .formed s ≡ true → form .parameters s ≡ 0 → form .recordIn (form .recordLine s) ≡ some s
+  pub only : (l : List ℕ) (s : A) → form .recordIn l ≡ some s → (l ≡ form .recordLine s) × (form .formed s ≡ true)
+  pub one-line : (s : A) → form .formed s ≡ true → form .parameters s ≡ 0 → count newline (form .recordLine s) ≡ 0
   pub one-heading : count newline (form .heading) ≡ 0
 
 -- reading what was written gives the same settings

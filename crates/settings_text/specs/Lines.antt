@@ -9,7 +9,7 @@ use lib.ListN.{length}
 use Rattle.sums.specs.Calls.{newNumber}
 use Rattle.text.specs.Letters.{bytes, tab}
 use Rattle.text.specs.Numbers.{decimalOf}
-use Rattle.text.specs.Parts.{parted, joined}
+use Rattle.text.specs.Parts.{parted, joinedBy}
 use Rattle.text.specs.Ranges.{unsigned, signed, allLie, numberIn, numbersIn, texts}
 use Rattle.text.specs.Same.{same}
 use Rattle.wdf.specs.Calls.{sectionsNumber}
@@ -21,9 +21,9 @@ pub data Setting : Type 0 where
   Cic : List ℕ → ℕ → ℕ → ℕ → Setting
   Wdf : List ℕ → ℕ → List ℤ → Setting
 
-abbrev pub nameOf : Setting → List ℕ
-nameOf (Cic name n m rate) = name
-nameOf (Wdf name arch cs) = name
+abbrev pub recordName : Setting → List ℕ
+recordName (Cic name n m rate) = name
+recordName (Wdf name arch cs) = name
 
 -- fields with tabs: `cic`, name, N, M, rate; or `wdf`, name, the number of sections, that many nibbles in one field, then each
 -- coefficient's bits in decimal
@@ -31,8 +31,8 @@ unfoldable pub fieldsOf : Setting → List (List ℕ)
 fieldsOf (Cic name n m rate) = bytes "cic" ∷ name ∷ texts (pos n ∷ pos m ∷ pos rate ∷ [])
 fieldsOf (Wdf name arch cs) = bytes "wdf" ∷ name ∷ decimalOf (length cs) ∷ nibblesOf (length cs) arch ∷ texts cs
 
-unfoldable pub lineOf : Setting → List ℕ
-lineOf s = joined tab (fieldsOf s)
+unfoldable pub recordLine : Setting → List ℕ
+recordLine s = joinedBy tab (fieldsOf s)
 
 -- three numbers
 abbrev pub cicBy : List ℕ → Option (List ℤ) → Option Setting
@@ -78,8 +78,8 @@ fieldsIn (kind ∷ []) = none
 fieldsIn (kind ∷ name ∷ fields) = cond (isName name) (kindIn kind name fields) none
 
 -- lines are at most 160 bytes before the newline
-unfoldable pub lineIn : List ℕ → Option Setting
-lineIn line = cond (leb (length line) 160) (fieldsIn (parted tab line)) none
+unfoldable pub recordIn : List ℕ → Option Setting
+recordIn line = cond (leb (length line) 160) (fieldsIn (parted tab line)) none
 
 -- a record has a line where its name is one and its numbers are of their types
 unfoldable pub formed : Setting → Bool
@@ -95,9 +95,9 @@ parameters (Wdf name arch cs) = sectionsNumber (length cs) arch
 unfoldable pub form1 : Form Setting
 form1 = record {
   heading = bytes "set\t1";
-  lineOf = lineOf;
-  lineIn = lineIn;
-  nameOf = nameOf;
+  recordLine = recordLine;
+  recordIn = recordIn;
+  recordName = recordName;
   formed = formed;
   parameters = parameters;
 }

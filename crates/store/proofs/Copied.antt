@@ -19,13 +19,13 @@ use Rattle.text.specs.Ranges.{signed, unsigned, lies, allLie}
 use Rattle.text.proofs.Ranges.{two}
 use Rattle.settings_text.specs.Fields.{isName}
 use Rattle.settings_text.specs.Lines.{Setting, Cic, Wdf, formed, parameters, form1}
-use Rattle.settings_text.specs.Stores.{Good, orElse, recordNumber, writeNumber, listFrom, listNumber, textOf, readOf}
+use Rattle.settings_text.specs.Stores.{Good, orElse, recordNumber, listedNumber, listFrom, listNumber, textOf, readOf}
 use Rattle.settings_text.proofs.FormOne.{only-text}
 use Rattle.settings_text.proofs.Lines.{wdf-small, below}
 use Rattle.settings_text.proofs.Names.{name-short}
 use Rattle.settings_text.proofs.Stores.{both-zero, write-zero, no-parameter}
-use Rattle.store.specs.Entries.{padTo, eight, padded, nameIn, wholeName, entryOf, settingBy, settingOf, settingsIn}
-use Rattle.store.specs.Entries.{storeNumber, blank}
+use Rattle.store.specs.Entries.{padTo, eight, padded, nameBytes, wholeName, entryOf, settingBy, entrySetting, recordsIn}
+use Rattle.store.specs.Entries.{storeNumber, emptyEntry}
 use Rattle.store.specs.Laws.{CopySame}
 use Rattle.store.specs.Reading.{found}
 use Rattle.store.specs.declared.settings.Entry.{Entry}
@@ -58,7 +58,7 @@ small arch k h e =
     let p : 16 ^ k ≤ 16 ^ 8 = pow-le-pow-right (omega arith) h in
     omega arith
 
-pub record-back : (s : Setting) → formed s ≡ true → parameters s ≡ 0 → settingOf (entryOf s) ≡ s
+pub record-back : (s : Setting) → formed s ≡ true → parameters s ≡ 0 → entrySetting (entryOf s) ≡ s
 unfolding formed parameters entryOf settingBy
 record-back (Cic name n m rate) h e =
     let a = two (isName name) (allLie unsigned (pos n ∷ pos m ∷ pos rate ∷ [])) h in
@@ -73,19 +73,19 @@ record-back (Wdf name arch cs) h e =
     rw (name-whole name (name-short name (a .0)), small arch (length cs) few (w .1), c)
 
 -- a list that isn't refused: its records come back, and there are at most 64
-records-back : (ss : List Setting) (k : ℕ) (last : List ℕ) → listFrom form1 k last ss ≡ 0 → map settingOf (map entryOf ss) ≡ ss
+records-back : (ss : List Setting) (k : ℕ) (last : List ℕ) → listFrom form1 k last ss ≡ 0 → map entrySetting (map entryOf ss) ≡ ss
 unfolding listFrom form1
 records-back [] k last h = refl
 records-back (s ∷ ss) k last h =
-    let z = both-zero form1 (writeNumber form1 k last s) (listFrom form1 (suc k) (form1 .nameOf s) ss) h in
+    let z = both-zero form1 (listedNumber form1 k last s) (listFrom form1 (suc k) (form1 .recordName s) ss) h in
     let w = write-zero form1 k last s (z .0) in
-    rw (record-back s (w .0) (no-parameter form1 k last s (w .1)), records-back ss (suc k) (form1 .nameOf s) (z .1))
+    rw (record-back s (w .0) (no-parameter form1 k last s (w .1)), records-back ss (suc k) (form1 .recordName s) (z .1))
 
 room-of : (k : ℕ) (last : List ℕ) (s : Setting) → recordNumber form1 k last s ≡ 0 → k < 64
 unfolding recordNumber
 room-of k last s e = by (leb 64 k) refl e
   where
-    by : (t : Bool) → leb 64 k ≡ t → cond t 83 (cond (precedes last (form1 .nameOf s)) (form1 .parameters s) 82) ≡ 0 → k < 64
+    by : (t : Bool) → leb 64 k ≡ t → cond t 83 (cond (precedes last (form1 .recordName s)) (form1 .parameters s) 82) ≡ 0 → k < 64
     by true f g = absurd (omega arith)
     by false f g = leb-false 64 k f
 
@@ -93,20 +93,20 @@ at-most : (ss : List Setting) (k : ℕ) (last : List ℕ) → listFrom form1 k l
 unfolding listFrom
 at-most [] k last h r = omega arith
 at-most (s ∷ ss) k last h r =
-    let z = both-zero form1 (writeNumber form1 k last s) (listFrom form1 (suc k) (form1 .nameOf s) ss) h in
+    let z = both-zero form1 (listedNumber form1 k last s) (listFrom form1 (suc k) (form1 .recordName s) ss) h in
     let m = room-of k last s (write-zero form1 k last s (z .0) .1) in
-    let n = at-most ss (suc k) (form1 .nameOf s) (z .1) (omega arith) in
+    let n = at-most ss (suc k) (form1 .recordName s) (z .1) (omega arith) in
     omega arith
 
 map-length : (ss : List Setting) → length (map entryOf ss) ≡ length ss
 map-length [] = refl
 map-length (s ∷ ss) = ap suc (map-length ss)
 
-settings-back : (ss : List Setting) → listNumber form1 ss ≡ 0 → settingsIn (found (Good ss) .settings) ≡ ss
+settings-back : (ss : List Setting) → listNumber form1 ss ≡ 0 → recordsIn (found (Good ss) .settings) ≡ ss
 settings-back ss h =
-    let t : take (length ss) (map entryOf ss ++ replicate (64 - length ss) blank) ≡ map entryOf ss =
-    take-at (map entryOf ss) (replicate (64 - length ss) blank) (length ss) (map-length ss) in
-    ap (map settingOf) t ∙ records-back ss 0 [] h
+    let t : take (length ss) (map entryOf ss ++ replicate (64 - length ss) emptyEntry) ≡ map entryOf ss =
+    take-at (map entryOf ss) (replicate (64 - length ss) emptyEntry) (length ss) (map-length ss) in
+    ap (map entrySetting) t ∙ records-back ss 0 [] h
 
 pub copy-same : CopySame
 unfolding storeNumber

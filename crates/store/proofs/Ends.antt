@@ -21,8 +21,8 @@ use Rattle.text.specs.Ranges.{allLie, lies, numberIn, numbersIn, signed, unsign
 use Rattle.text.specs.Same.{same}
 use Rattle.text.proofs.Ranges.{number-only, numbers-only, two}
 use Rattle.settings_text.specs.Fields.{isName, nibblesIn}
-use Rattle.settings_text.specs.Lines.{cicBy, cicIn, counts, kindIn, lineIn, wdfBy, wdfIn, wdfOf}
-use Rattle.store.specs.Entries.{eight, entryOf, nameIn, padTo, padded}
+use Rattle.settings_text.specs.Lines.{cicBy, cicIn, counts, kindIn, recordIn, wdfBy, wdfIn, wdfOf}
+use Rattle.store.specs.Entries.{eight, entryOf, nameBytes, padTo, padded}
 use Rattle.store.specs.Reading.{archBy, fieldsFrom, lineRead, numbersRead, wordBy}
 use Rattle.store.specs.declared.line.Line.{Line}
 use Rattle.store.specs.declared.line.Natural.the-variants.{Outside, Within}
@@ -32,11 +32,11 @@ use Rattle.store.specs.declared.settings.Kind.{Kind}
 use Rattle.store.specs.declared.settings.Name.{Name}
 use Rattle.store.proofs.Counting.{field-here, fields-over}
 
-pub name-back : (l : List ℕ) → nameIn (padded l) ≡ l
+pub name-back : (l : List ℕ) → nameBytes (padded l) ≡ l
 name-back l = take-at l (replicate (16 - length l) 0) (length l) refl
 
-pub name-kept : (n : Name) (l : List ℕ) → n ≡ padded l → n ≡ padded (nameIn n)
-name-kept n l e = e ∙ ap padded (sym (ap nameIn e ∙ name-back l))
+pub name-kept : (n : Name) (l : List ℕ) → n ≡ padded l → n ≡ padded (nameBytes n)
+name-kept n l e = e ∙ ap padded (sym (ap nameBytes e ∙ name-back l))
 
 -- a line's record
 abbrev pub got : Name → Kind → List ℤ → Line
@@ -64,23 +64,23 @@ plain-word : (z : ℤ) → lies unsigned z ≡ true → (z ≡ pos (word w32 z))
 plain-word (pos v) h = let w = word-is w32 v (record { fits = let k = leb-true v 4294967295 h in omega arith }) in (ap pos (sym w), sym w)
 plain-word (negsuc v) h = absurd (omega (arith, leb-true (suc v) 0 h))
 
-module _ (name : Name) (kept : name ≡ padded (nameIn name)) (fs : List (List ℕ)) (ns : Numbers)
+module _ (name : Name) (kept : name ≡ padded (nameBytes name)) (fs : List (List ℕ)) (ns : Numbers)
     (e : ns ≡ numbersRead (numbersIn unsigned fs)) where
-  pub cic-none : ns .found ≡ false → lineRead none ≡ lineRead (cicIn (nameIn name) fs)
+  pub cic-none : ns .found ≡ false → lineRead none ≡ lineRead (cicIn (nameBytes name) fs)
   unfolding cicIn
   cic-none h = by (numbersIn unsigned fs) refl
     where
-      by : (o : Option (List ℤ)) → numbersIn unsigned fs ≡ o → lineRead none ≡ lineRead (cicBy (nameIn name) (numbersIn unsigned fs))
+      by : (o : Option (List ℤ)) → numbersIn unsigned fs ≡ o → lineRead none ≡ lineRead (cicBy (nameBytes name) (numbersIn unsigned fs))
       by none f = sym (rw f)
       by (some zs) f = absurd
           (let t : true ≡ false = sym (ap (λ (x : Numbers). x .found) (e ∙ ap numbersRead f))
           ∙ h in let z : _≡_ {A = ℕ} 0 1 = cc in omega arith)
 
-  pub cic-other : (ns .count ≡ 3 → ⊥) → lineRead none ≡ lineRead (cicIn (nameIn name) fs)
+  pub cic-other : (ns .count ≡ 3 → ⊥) → lineRead none ≡ lineRead (cicIn (nameBytes name) fs)
   unfolding cicIn
   cic-other h = by (numbersIn unsigned fs) refl
     where
-      by : (o : Option (List ℤ)) → numbersIn unsigned fs ≡ o → lineRead none ≡ lineRead (cicBy (nameIn name) (numbersIn unsigned fs))
+      by : (o : Option (List ℤ)) → numbersIn unsigned fs ≡ o → lineRead none ≡ lineRead (cicBy (nameBytes name) (numbersIn unsigned fs))
       by none f = sym (rw f)
       by (some []) f = sym (rw f)
       by (some (a ∷ [])) f = sym (rw f)
@@ -90,7 +90,7 @@ module _ (name : Name) (kept : name ≡ padded (nameIn name)) (fs : List (List �
 
   pub cic-some : ns .found ≡ true → ns .count ≡ 3
       → got name (kinds.Cic (word w32 (getD (ns .words) 0 (pos 0))) (word w32 (getD (ns .words) 1 (pos 0)))
-      (word w32 (getD (ns .words) 2 (pos 0)))) (eight []) ≡ lineRead (cicIn (nameIn name) fs)
+      (word w32 (getD (ns .words) 2 (pos 0)))) (eight []) ≡ lineRead (cicIn (nameBytes name) fs)
   unfolding cicIn entryOf
   cic-some t h = by (numbersIn unsigned fs) refl
     where
@@ -99,7 +99,7 @@ module _ (name : Name) (kept : name ≡ padded (nameIn name)) (fs : List (List �
 
       by : (o : Option (List ℤ)) → numbersIn unsigned fs ≡ o
           → got name (kinds.Cic (word w32 (getD (ns .words) 0 (pos 0))) (word w32 (getD (ns .words) 1 (pos 0)))
-          (word w32 (getD (ns .words) 2 (pos 0)))) (eight []) ≡ lineRead (cicBy (nameIn name) (numbersIn unsigned fs))
+          (word w32 (getD (ns .words) 2 (pos 0)))) (eight []) ≡ lineRead (cicBy (nameBytes name) (numbersIn unsigned fs))
       by none f = absurd (let t : false ≡ true = sym (ap (λ (x : Numbers). x .found) (e ∙ ap numbersRead f))
           ∙ t in let z : _≡_ {A = ℕ} 0 1 = cc in omega arith)
       by (some []) f = absurd (omega (arith, count-is [] f))
@@ -149,13 +149,13 @@ module _ (f : List ℕ) (k : ℕ) where
   pub count-same : (n : ℕ) → wordBy (numberIn unsigned f) ≡ Within n → n ≡ k → counts k (numberIn unsigned f) ≡ true
   count-same n h d = counts-word n h ∙ eq-eqb n k d
 
-module _ (name : Name) (kept : name ≡ padded (nameIn name)) (line : List ℕ) (from : ℕ) where
-  pub wdf-over : length line < from → lineRead none ≡ lineRead (wdfIn (nameIn name) (fieldsFrom line from))
+module _ (name : Name) (kept : name ≡ padded (nameBytes name)) (line : List ℕ) (from : ℕ) where
+  pub wdf-over : length line < from → lineRead none ≡ lineRead (wdfIn (nameBytes name) (fieldsFrom line from))
   unfolding wdfIn
   wdf-over h = sym (rw (fields-over line from h))
 
   module _ (h : from ≤ length line) (e : ℕ) (pe : e ≡ endOf 9 line from) where
-    pub wdf-one : length line ≤ e → lineRead none ≡ lineRead (wdfIn (nameIn name) (fieldsFrom line from))
+    pub wdf-one : length line ≤ e → lineRead none ≡ lineRead (wdfIn (nameBytes name) (fieldsFrom line from))
     unfolding wdfIn
     wdf-one l = let q : length line < e + 1 = omega arith in sym (rw (field-here line from h, ← pe, fields-over line (e + 1) q))
 
@@ -167,14 +167,14 @@ module _ (name : Name) (kept : name ≡ padded (nameIn name)) (line : List ℕ) 
       abbrev n-field : List ℕ
       n-field = take (f - (e + 1)) (drop (e + 1) line)
 
-      wdf-is : wdfIn (nameIn name) (fieldsFrom line from) ≡ wdfBy (nameIn name) k-field n-field (numbersIn signed (fieldsFrom line (f + 1)))
+      wdf-is : wdfIn (nameBytes name) (fieldsFrom line from) ≡ wdfBy (nameBytes name) k-field n-field (numbersIn signed (fieldsFrom line (f + 1)))
       unfolding wdfIn
       wdf-is = let i : e + 1 ≤ length line = omega arith in rw (field-here line from h, ← pe, field-here line (e + 1) i, ← pf)
 
-      pub wdf-none : cs .found ≡ false → lineRead none ≡ lineRead (wdfIn (nameIn name) (fieldsFrom line from))
+      pub wdf-none : cs .found ≡ false → lineRead none ≡ lineRead (wdfIn (nameBytes name) (fieldsFrom line from))
       wdf-none t = sym (ap lineRead (wdf-is ∙ by (numbersIn signed (fieldsFrom line (f + 1))) refl))
         where
-          by : (o : Option (List ℤ)) → numbersIn signed (fieldsFrom line (f + 1)) ≡ o → wdfBy (nameIn name) k-field n-field
+          by : (o : Option (List ℤ)) → numbersIn signed (fieldsFrom line (f + 1)) ≡ o → wdfBy (nameBytes name) k-field n-field
               (numbersIn signed (fieldsFrom line (f + 1))) ≡ none
           by none g = rw g
           by (some zs) g = absurd
@@ -186,10 +186,10 @@ module _ (name : Name) (kept : name ≡ padded (nameIn name)) (line : List ℕ) 
         wdf-some zs g = (ap (λ (x : Numbers). x .count) (pc ∙ ap numbersRead g), ap (λ (x : Numbers). x .words) (pc ∙ ap numbersRead g))
 
         pub wdf-other : counts (cs .count) (numberIn unsigned k-field) ≡ false → lineRead none ≡ lineRead
-            (wdfIn (nameIn name) (fieldsFrom line from))
+            (wdfIn (nameBytes name) (fieldsFrom line from))
         wdf-other q = sym (ap lineRead (wdf-is ∙ by (numbersIn signed (fieldsFrom line (f + 1))) refl))
           where
-            by : (o : Option (List ℤ)) → numbersIn signed (fieldsFrom line (f + 1)) ≡ o → wdfBy (nameIn name) k-field n-field
+            by : (o : Option (List ℤ)) → numbersIn signed (fieldsFrom line (f + 1)) ≡ o → wdfBy (nameBytes name) k-field n-field
                 (numbersIn signed (fieldsFrom line (f + 1))) ≡ none
             by none g = rw g
             by (some zs) g =
@@ -198,15 +198,15 @@ module _ (name : Name) (kept : name ≡ padded (nameIn name)) (line : List ℕ) 
                 rw (g, k)
 
         pub nibbles-none : archBy (nibblesIn (cs .count) n-field) ≡ Outside → lineRead none ≡ lineRead
-            (wdfIn (nameIn name) (fieldsFrom line from))
+            (wdfIn (nameBytes name) (fieldsFrom line from))
         nibbles-none q = sym (ap lineRead (wdf-is ∙ by (numbersIn signed (fieldsFrom line (f + 1))) refl))
           where
-            off : (zs : List ℤ) (b : Bool) (o : Option ℕ) → archBy o ≡ Outside → cond b (wdfOf (nameIn name) zs o) none ≡ none
+            off : (zs : List ℤ) (b : Bool) (o : Option ℕ) → archBy o ≡ Outside → cond b (wdfOf (nameBytes name) zs o) none ≡ none
             off zs true none i = refl
             off zs false o i = refl
             off zs true (some m) i = absurd (let z : _≡_ {A = ℕ} 0 1 = cc in omega arith)
 
-            by : (o : Option (List ℤ)) → numbersIn signed (fieldsFrom line (f + 1)) ≡ o → wdfBy (nameIn name) k-field n-field
+            by : (o : Option (List ℤ)) → numbersIn signed (fieldsFrom line (f + 1)) ≡ o → wdfBy (nameBytes name) k-field n-field
                 (numbersIn signed (fieldsFrom line (f + 1))) ≡ none
             by none g = rw g
             by (some zs) g =
@@ -215,12 +215,12 @@ module _ (name : Name) (kept : name ≡ padded (nameIn name)) (line : List ℕ) 
                 rw g (off zs (counts (length zs) (numberIn unsigned k-field)) (nibblesIn (length zs) n-field) k)
 
         pub wdf-all : (m : ℕ) → counts (cs .count) (numberIn unsigned k-field) ≡ true → archBy (nibblesIn (cs .count) n-field) ≡ Within m
-            → got name (kinds.Wdf (cs .count) m) (cs .words) ≡ lineRead (wdfIn (nameIn name) (fieldsFrom line from))
+            → got name (kinds.Wdf (cs .count) m) (cs .words) ≡ lineRead (wdfIn (nameBytes name) (fieldsFrom line from))
         unfolding entryOf
         wdf-all m q r = sym (ap lineRead wdf-is ∙ by (numbersIn signed (fieldsFrom line (f + 1))) refl)
           where
             by : (o : Option (List ℤ)) → numbersIn signed (fieldsFrom line (f + 1)) ≡ o → lineRead
-                (wdfBy (nameIn name) k-field n-field (numbersIn signed (fieldsFrom line (f + 1)))) ≡ got name
+                (wdfBy (nameBytes name) k-field n-field (numbersIn signed (fieldsFrom line (f + 1)))) ≡ got name
                 (kinds.Wdf (cs .count) m) (cs .words)
             by none g = absurd (let t : false ≡ true = sym (ap (λ (x : Numbers). x .found) (pc ∙ ap numbersRead g))
                 ∙ t in let z : _≡_ {A = ℕ} 0 1 = cc in omega arith)
@@ -233,7 +233,7 @@ module _ (name : Name) (kept : name ≡ padded (nameIn name)) (line : List ℕ) 
                 j = ap (λ (n : ℕ). archBy (nibblesIn n n-field)) (sym (wdf-some zs g .0)) ∙ r
 
                 with-arch : (o : Option ℕ) → nibblesIn (length zs) n-field ≡ o → lineRead
-                    (wdfBy (nameIn name) k-field n-field (numbersIn signed (fieldsFrom line (f + 1)))) ≡ got name
+                    (wdfBy (nameBytes name) k-field n-field (numbersIn signed (fieldsFrom line (f + 1)))) ≡ got name
                     (kinds.Wdf (cs .count) m) (cs .words)
                 with-arch none i = absurd
                     (let y : Outside ≡ Within m = sym (ap archBy i) ∙ j in let z : _≡_ {A = ℕ} 0 1 = cc in omega arith)
@@ -245,8 +245,8 @@ module _ (name : Name) (kept : name ≡ padded (nameIn name)) (line : List ℕ) 
 
 -- the line whole
 module _ (line : List ℕ) where
-  pub too-long : 160 < length line → lineRead none ≡ lineRead (lineIn line)
-  unfolding lineIn
+  pub too-long : 160 < length line → lineRead none ≡ lineRead (recordIn line)
+  unfolding recordIn
   too-long h = sym (rw (lt-leb _ _ h))
 
   from-start : parted 9 line ≡ fieldsFrom line 0
@@ -258,36 +258,36 @@ module _ (line : List ℕ) where
     first = from-start ∙ field-here line 0 (omega arith) ∙ rw (← pe)
         (let z : e - 0 ≡ e = omega arith in ap (λ (k : ℕ). take k line ∷ fieldsFrom line (e + 1)) z)
 
-    pub one-field : length line ≤ e → lineRead none ≡ lineRead (lineIn line)
-    unfolding lineIn
+    pub one-field : length line ≤ e → lineRead none ≡ lineRead (recordIn line)
+    unfolding recordIn
     one-field h = let q : length line < e + 1 = omega arith in sym (rw (le-leb _ _ short, first, fields-over line (e + 1) q))
 
     module _ (he : e < length line) (f : ℕ) (pf : f ≡ endOf 9 line (e + 1)) where
       abbrev name-field : List ℕ
       name-field = take (f - (e + 1)) (drop (e + 1) line)
 
-      line-is : lineIn line ≡ cond (isName name-field) (kindIn (take e line) name-field (fieldsFrom line (f + 1))) none
-      unfolding lineIn
+      line-is : recordIn line ≡ cond (isName name-field) (kindIn (take e line) name-field (fieldsFrom line (f + 1))) none
+      unfolding recordIn
       line-is = let i : e + 1 ≤ length line = omega arith in rw (le-leb _ _ short, first, field-here line (e + 1) i, ← pf)
 
-      pub no-name : isName name-field ≡ false → lineRead none ≡ lineRead (lineIn line)
+      pub no-name : isName name-field ≡ false → lineRead none ≡ lineRead (recordIn line)
       no-name h = sym (rw (line-is, h))
 
       module _ (named : isName name-field ≡ true) (name : Name) (pn : name ≡ padded name-field) where
-        kind-is : lineIn line ≡ kindIn (take e line) (nameIn name) (fieldsFrom line (f + 1))
+        kind-is : recordIn line ≡ kindIn (take e line) (nameBytes name) (fieldsFrom line (f + 1))
         kind-is = line-is ∙ rw (named, pn, name-back name-field)
 
-        pub is-cic : (r : Line) → r ≡ lineRead (cicIn (nameIn name) (fieldsFrom line (f + 1))) → same (take e line) (bytes "cic")
-            ≡ true → r ≡ lineRead (lineIn line)
+        pub is-cic : (r : Line) → r ≡ lineRead (cicIn (nameBytes name) (fieldsFrom line (f + 1))) → same (take e line) (bytes "cic")
+            ≡ true → r ≡ lineRead (recordIn line)
         unfolding kindIn
         is-cic r q a = q ∙ sym (rw (kind-is, a))
 
         module _ (a : same (take e line) (bytes "cic") ≡ false) where
-          pub is-wdf : (r : Line) → r ≡ lineRead (wdfIn (nameIn name) (fieldsFrom line (f + 1))) → same (take e line)
-              (bytes "wdf") ≡ true → r ≡ lineRead (lineIn line)
+          pub is-wdf : (r : Line) → r ≡ lineRead (wdfIn (nameBytes name) (fieldsFrom line (f + 1))) → same (take e line)
+              (bytes "wdf") ≡ true → r ≡ lineRead (recordIn line)
           unfolding kindIn
           is-wdf r q b = q ∙ sym (rw (kind-is, a, b))
 
-          pub no-kind : same (take e line) (bytes "wdf") ≡ false → lineRead none ≡ lineRead (lineIn line)
+          pub no-kind : same (take e line) (bytes "wdf") ≡ false → lineRead none ≡ lineRead (recordIn line)
           unfolding kindIn
           no-kind b = sym (rw (kind-is, a, b))

@@ -15,15 +15,15 @@ use borrow.Author.Tests.{le-leb, lt-leb}
 use Rattle.words.proofs.Reading.{wrap-fits}
 use Rattle.words.specs.Words.{wrap}
 use Rattle.text.specs.Order.{precedes}
-use Rattle.text.specs.Parts.{joined}
+use Rattle.text.specs.Parts.{joinedBy}
 use Rattle.text.specs.Ranges.{allLie, lies, signed}
 use Rattle.text.proofs.Putting.{nothing, then, wrote-same}
 use Rattle.settings_text.specs.Fields.{isName}
-use Rattle.settings_text.specs.Lines.{Setting, form1, formed, lineOf, nameOf, parameters}
-use Rattle.settings_text.specs.Stores.{ended, listFrom, listNumber, orElse, recordNumber, textOf, writeNumber}
+use Rattle.settings_text.specs.Lines.{Setting, form1, formed, recordLine, recordName, parameters}
+use Rattle.settings_text.specs.Stores.{partsOf, listFrom, listNumber, orElse, recordNumber, textOf, listedNumber}
 use Rattle.settings_text.proofs.Lines.{wdf-small}
 use Rattle.settings_text.proofs.Names.{long-name}
-use Rattle.store.specs.Entries.{fitsWords, kindNumber, nameIn, numberFor, sections, settingBy, settingOf, settingsIn}
+use Rattle.store.specs.Entries.{fitsWords, kindNumber, nameBytes, numberFor, sections, settingBy, entrySetting, recordsIn}
 use Rattle.store.specs.Entries.{storeNumber, wholeName}
 use Rattle.store.specs.Writing.{Ended}
 use Rattle.store.specs.declared.settings.Entry.{Entry}
@@ -64,7 +64,7 @@ unfolding formed settingBy
 formed-is name (kinds.Cic n m rate) a l = refl
 formed-is name (kinds.Wdf k arch) a l = ap (λ (b : Bool). isName name && b) (words-lie k (k - 8) a)
 
-name-is : (name : List ℕ) (kind : Kind) (a : List ℤ) → nameOf (settingBy name kind a) ≡ name
+name-is : (name : List ℕ) (kind : Kind) (a : List ℤ) → recordName (settingBy name kind a) ≡ name
 unfolding settingBy
 name-is name (kinds.Cic n m rate) a = refl
 name-is name (kinds.Wdf k arch) a = refl
@@ -80,26 +80,26 @@ number-is name (kinds.Wdf k arch) a l =
     rw n
 
 module _ (k : ℕ) (last : List ℕ) (e : Entry) (l : length (e .a) ≡ 8) (b : length (e .name .bytes) ≡ 16) where
-  refused-81 : (isName (wholeName (e .name)) && fitsWords (e .kind)) ≡ false → 81 ≡ writeNumber form1 k last (settingOf e)
-  unfolding writeNumber form1
+  refused-81 : (isName (wholeName (e .name)) && fitsWords (e .kind)) ≡ false → 81 ≡ listedNumber form1 k last (entrySetting e)
+  unfolding listedNumber form1
   refused-81 h = sym (rw (formed-is (wholeName (e .name)) (e .kind) (e .a) l, h))
 
-  pub name-long : 16 < e .name .len → 81 ≡ writeNumber form1 k last (settingOf e)
+  pub name-long : 16 < e .name .len → 81 ≡ listedNumber form1 k last (entrySetting e)
   name-long h =
-      let c = length-append (nameIn (e .name)) (replicate (e .name .len - 16) 0) in
+      let c = length-append (nameBytes (e .name)) (replicate (e .name .len - 16) 0) in
       let d = length-take (e .name .len) (e .name .bytes) in
       let f = length-replicate {A = ℕ} (e .name .len - 16) 0 in
       let n = long-name (wholeName (e .name)) (omega arith) (omega arith) in
       refused-81 (rw (← n))
 
   module _ (s : e .name .len ≤ 16) where
-    pub name-wrong : isName (nameIn (e .name)) ≡ false → 81 ≡ writeNumber form1 k last (settingOf e)
+    pub name-wrong : isName (nameBytes (e .name)) ≡ false → 81 ≡ listedNumber form1 k last (entrySetting e)
     name-wrong h = refused-81 (rw (whole-name (e .name) s, h))
 
-    module _ (n : isName (nameIn (e .name)) ≡ true) where
-      pub kind-right : (r : ℕ) → fitsWords (e .kind) ≡ true → r ≡ numberFor k last (nameIn (e .name)) (e .kind) → r
-          ≡ writeNumber form1 k last (settingOf e)
-      unfolding writeNumber recordNumber numberFor form1
+    module _ (n : isName (nameBytes (e .name)) ≡ true) where
+      pub kind-right : (r : ℕ) → fitsWords (e .kind) ≡ true → r ≡ numberFor k last (nameBytes (e .name)) (e .kind) → r
+          ≡ listedNumber form1 k last (entrySetting e)
+      unfolding listedNumber recordNumber numberFor form1
       kind-right r h q =
           let m : length (map (wrap w32) (e .a)) ≡ 8 = wrapped-length (e .a) ∙ l in
           q ∙ sym (rw (
@@ -108,8 +108,8 @@ module _ (k : ℕ) (last : List ℕ) (e : Entry) (l : length (e .a) ≡ 8) (b : 
             n,
             h,
             name-is
-                (nameIn (e .name)) (e .kind) (map (wrap w32) (e .a)),
-            number-is (nameIn (e .name)) (e .kind) (map (wrap w32) (e .a)) m,
+                (nameBytes (e .name)) (e .kind) (map (wrap w32) (e .a)),
+            number-is (nameBytes (e .name)) (e .kind) (map (wrap w32) (e .a)) m,
           ))
 
 pub fits-words : (kind : Kind) (n m r : ℕ) → kind ≡ kinds.Cic n m r → n < 2 ^ 32 → m < 2 ^ 32 → r < 2 ^ 32 → fitsWords kind ≡ true
@@ -121,10 +121,10 @@ pub record Judging (entries : List Entry) (count : ℕ) (last : Name) (i : ℕ) 
   pub few : i ≤ count
   pub room : i ≤ 64
   pub short : last .len ≤ 16
-  pub rest : listNumber form1 (settingsIn (record { count = count; entries = entries })) ≡ listFrom form1 i (nameIn last)
-      (map settingOf (drop i (take count entries)))
+  pub rest : listNumber form1 (recordsIn (record { count = count; entries = entries })) ≡ listFrom form1 i (nameBytes last)
+      (map entrySetting (drop i (take count entries)))
 
-pub judging-none : (entries : List Entry) (count : ℕ) (last : Name) → nameIn last ≡ [] → last .len ≤ 16 → Judging entries count last 0
+pub judging-none : (entries : List Entry) (count : ℕ) (last : Name) → nameBytes last ≡ [] → last .len ≤ 16 → Judging entries count last 0
 judging-none entries count last e s = record { few = omega arith; room = omega arith; short = s; rest = rw e }
 
 module _ (entries : List Entry) (count : ℕ) (last : Name) (i : ℕ) (l : length entries ≡ 64) (j : Judging entries count last i) where
@@ -149,30 +149,30 @@ module _ (entries : List Entry) (count : ℕ) (last : Name) (i : ℕ) (l : lengt
         let t = length-take count entries in
         drop-cons (take count entries) i d (omega arith) ∙ rw (getD-take count entries i d h, pe, add-one i)
 
-    left : listNumber form1 (settingsIn (record { count = count; entries = entries })) ≡ orElse
-        (writeNumber form1 i (nameIn last) (settingOf e))
-        (listFrom form1 (suc i) (form1 .nameOf (settingOf e)) (map settingOf (drop (i + 1) (take count entries))))
+    left : listNumber form1 (recordsIn (record { count = count; entries = entries })) ≡ orElse
+        (listedNumber form1 i (nameBytes last) (entrySetting e))
+        (listFrom form1 (suc i) (form1 .recordName (entrySetting e)) (map entrySetting (drop (i + 1) (take count entries))))
     unfolding listFrom
     left = j .rest ∙ rw here
 
-    pub judged-bad : (n : ℕ) → n ≡ writeNumber form1 i (nameIn last) (settingOf e) → (n ≡ 0 → ⊥) → n ≡ storeNumber
+    pub judged-bad : (n : ℕ) → n ≡ listedNumber form1 i (nameBytes last) (entrySetting e) → (n ≡ 0 → ⊥) → n ≡ storeNumber
         (record { count = count; entries = entries })
     unfolding storeNumber
     judged-bad n q x = sym (rw left (by n q x))
       where
-        by : (n : ℕ) → n ≡ writeNumber form1 i (nameIn last) (settingOf e) → (n ≡ 0 → ⊥)
-            → orElse (orElse (writeNumber form1 i (nameIn last) (settingOf e))
-            (listFrom form1 (suc i) (form1 .nameOf (settingOf e)) (map settingOf (drop (i + 1) (take count entries)))))
+        by : (n : ℕ) → n ≡ listedNumber form1 i (nameBytes last) (entrySetting e) → (n ≡ 0 → ⊥)
+            → orElse (orElse (listedNumber form1 i (nameBytes last) (entrySetting e))
+            (listFrom form1 (suc i) (form1 .recordName (entrySetting e)) (map entrySetting (drop (i + 1) (take count entries)))))
             (cond (leb count 64) 0 83) ≡ n
         by zero q d = absurd (d refl)
         by (suc n) q d = rw (← q)
 
-    pub judged-on : (n : ℕ) → n ≡ writeNumber form1 i (nameIn last) (settingOf e) → n ≡ 0 → e .name .len ≤ 16
+    pub judged-on : (n : ℕ) → n ≡ listedNumber form1 i (nameBytes last) (entrySetting e) → n ≡ 0 → e .name .len ≤ 16
         → Judging entries count (e .name) (i + 1)
     unfolding form1
     judged-on n q z s =
-        let w : writeNumber form1 i (nameIn last) (settingOf e) ≡ 0 = sym q ∙ z in
-        let m : form1 .nameOf (settingOf e) ≡ nameIn (e .name) = name-is (wholeName (e .name)) (e .kind) (map (wrap w32) (e .a))
+        let w : listedNumber form1 i (nameBytes last) (entrySetting e) ≡ 0 = sym q ∙ z in
+        let m : form1 .recordName (entrySetting e) ≡ nameBytes (e .name) = name-is (wholeName (e .name)) (e .kind) (map (wrap w32) (e .a))
         ∙ whole-name (e .name) s in
         record { few = omega arith; room = omega arith; short = s; rest = left ∙ rw (w, add-one i, m) }
 
@@ -199,18 +199,18 @@ few-sections k last name kind h = by (leb 64 k) (precedes last name) h
 -- a text is its first line and its records' lines
 abbrev pub lines : List Setting → List ℕ
 lines [] = []
-lines (s ∷ ss) = (lineOf s ++ (10 ∷ [])) ++ lines ss
+lines (s ∷ ss) = (recordLine s ++ (10 ∷ [])) ++ lines ss
 
-lines-snoc : (ss : List Setting) (s : Setting) → lines (ss ++ (s ∷ [])) ≡ lines ss ++ (lineOf s ++ (10 ∷ []))
-lines-snoc [] s = append-nil (lineOf s ++ (10 ∷ []))
-lines-snoc (t ∷ ss) s = ap (λ (l : List ℕ). (lineOf t ++ (10 ∷ [])) ++ l) (lines-snoc ss s) ∙ sym
-    (append-assoc (lineOf t ++ (10 ∷ [])) (lines ss) (lineOf s ++ (10 ∷ [])))
+lines-snoc : (ss : List Setting) (s : Setting) → lines (ss ++ (s ∷ [])) ≡ lines ss ++ (recordLine s ++ (10 ∷ []))
+lines-snoc [] s = append-nil (recordLine s ++ (10 ∷ []))
+lines-snoc (t ∷ ss) s = ap (λ (l : List ℕ). (recordLine t ++ (10 ∷ [])) ++ l) (lines-snoc ss s) ∙ sym
+    (append-assoc (recordLine t ++ (10 ∷ [])) (lines ss) (recordLine s ++ (10 ∷ [])))
 
-text-joined : (f : List ℕ) (ss : List Setting) → joined 10 (f ∷ ended form1 ss) ≡ (f ++ (10 ∷ [])) ++ lines ss
-unfolding joined form1
+text-joined : (f : List ℕ) (ss : List Setting) → joinedBy 10 (f ∷ partsOf form1 ss) ≡ (f ++ (10 ∷ [])) ++ lines ss
+unfolding joinedBy form1
 text-joined f [] = sym (append-nil (f ++ (10 ∷ [])))
-text-joined f (s ∷ ss) = ap (λ (l : List ℕ). f ++ (10 ∷ l)) (text-joined (lineOf s) ss) ∙ sym
-    (append-assoc f (10 ∷ []) ((lineOf s ++ (10 ∷ [])) ++ lines ss))
+text-joined f (s ∷ ss) = ap (λ (l : List ℕ). f ++ (10 ∷ l)) (text-joined (recordLine s) ss) ∙ sym
+    (append-assoc f (10 ∷ []) ((recordLine s ++ (10 ∷ [])) ++ lines ss))
 
 text-is : (ss : List Setting) → textOf form1 ss ≡ (form1 .heading ++ (10 ∷ [])) ++ lines ss
 unfolding textOf form1
@@ -218,32 +218,32 @@ text-is ss = text-joined (form1 .heading) ss
 
 -- the lines so far
 abbrev pub linesTo : List Entry → ℕ → List ℕ
-linesTo entries i = lines (map settingOf (take i entries))
+linesTo entries i = lines (map entrySetting (take i entries))
 
 pub lines-none : (entries : List Entry) (o : List ℕ) (at : ℕ) → Ended o at (linesTo entries 0) (138 * 0) at o
 lines-none entries o at = record { wrote = nothing o at; high = omega arith; long = refl }
 
 pub lines-on : (entries : List Entry) (o : List ℕ) (at i : ℕ) (r : ℕ) (o₁ : List ℕ) (q : ℕ) (o₂ : List ℕ) (e d : Entry)
     → at ≤ length o → e ≡ getD entries i d → i < length entries
-    → Ended o at (linesTo entries i) (138 * i) r o₁ → Ended o₁ r (lineOf (settingOf e) ++ (10 ∷ [])) 138 q o₂ → Ended o at
+    → Ended o at (linesTo entries i) (138 * i) r o₁ → Ended o₁ r (recordLine (entrySetting e) ++ (10 ∷ [])) 138 q o₂ → Ended o at
     (linesTo entries (i + 1)) (138 * (i + 1)) q o₂
 lines-on entries o at i r o₁ q o₂ e d room pe h a b =
-    let t : map settingOf (take (i + 1) entries) ≡ map settingOf (take i entries) ++ (settingOf e ∷ []) =
-    rw (pe, add-one i) (ap (map settingOf) (take-suc entries i d h) ∙ map-append settingOf (take i entries) (getD entries i d ∷ [])) in
-    let x : linesTo entries (i + 1) ≡ linesTo entries i ++ (lineOf (settingOf e) ++ (10 ∷ [])) = ap lines t ∙ lines-snoc
-    (map settingOf (take i entries)) (settingOf e) in
+    let t : map entrySetting (take (i + 1) entries) ≡ map entrySetting (take i entries) ++ (entrySetting e ∷ []) =
+    rw (pe, add-one i) (ap (map entrySetting) (take-suc entries i d h) ∙ map-append entrySetting (take i entries) (getD entries i d ∷ [])) in
+    let x : linesTo entries (i + 1) ≡ linesTo entries i ++ (recordLine (entrySetting e) ++ (10 ∷ [])) = ap lines t ∙ lines-snoc
+    (map entrySetting (take i entries)) (entrySetting e) in
     let ah = a .high in
     let bh = b .high in
     record { wrote = wrote-same (sym x) (then room (a .wrote) (b .wrote)); high = omega arith; long = b .long ∙ a .long }
 
 pub lines-all : (entries : List Entry) (count i : ℕ) (o : List ℕ) (r : ℕ) (o₁ : List ℕ) (q : ℕ) (o₂ : List ℕ) → i ≡ count → i ≤ 64
     → Ended o 0 (form1 .heading ++ (10 ∷ [])) 6 r o₁ → Ended o₁ r (linesTo entries i) (138 * i) q o₂ → Ended o 0
-    (textOf form1 (settingsIn (record { count = count; entries = entries }))) 8838 q o₂
+    (textOf form1 (recordsIn (record { count = count; entries = entries }))) 8838 q o₂
 lines-all entries count i o r o₁ q o₂ e s a b =
     let ah = a .high in
     let bh = b .high in
     let w = then (omega arith) (a .wrote) (b .wrote) in
     let x : (form1 .heading ++ (10 ∷ [])) ++ linesTo entries i ≡ textOf form1
-    (settingsIn (record { count = count; entries = entries })) = rw e
-    (sym (text-is (settingsIn (record { count = count; entries = entries })))) in
+    (recordsIn (record { count = count; entries = entries })) = rw e
+    (sym (text-is (recordsIn (record { count = count; entries = entries })))) in
     record { wrote = wrote-same x w; high = omega arith; long = b .long ∙ a .long }

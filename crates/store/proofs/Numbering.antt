@@ -9,10 +9,10 @@ use lib.Dec.{ltb}
 use lib.ListN.{length}
 use borrow.Author.Tests.{lt-ltb, ltb-true, ltb-false}
 use Rattle.wdf.specs.Calls.{sectionsNumber}
-use Rattle.settings_text.specs.Lines.{form1, Cic, Setting, Wdf, nameOf, parameters}
+use Rattle.settings_text.specs.Lines.{form1, Cic, Setting, Wdf, recordName, parameters}
 use Rattle.settings_text.specs.Stores.{recordNumber}
 use Rattle.settings_text.proofs.Lines.{fitting}
-use Rattle.store.specs.Entries.{entryOf, kindNumber, nameIn, numberFor}
+use Rattle.store.specs.Entries.{entryOf, kindNumber, nameBytes, numberFor}
 use Rattle.store.proofs.Ends.{name-back}
 
 -- more than 8 sections: the nibbles don't matter
@@ -35,17 +35,17 @@ kind-kept (Wdf name arch cs) h = by (ltb 8 (length cs)) refl
         let m : arch % 2 ^ 32 ≡ arch = omega arith in
         ap (sectionsNumber (length cs)) m
 
-pub entry-name : (s : Setting) → nameIn (entryOf s .name) ≡ nameOf s
+pub entry-name : (s : Setting) → nameBytes (entryOf s .name) ≡ recordName s
 unfolding entryOf
 entry-name (Cic name n m rate) = name-back name
 entry-name (Wdf name arch cs) = name-back name
 
-pub entry-len : (s : Setting) → entryOf s .name .len ≡ length (nameOf s)
+pub entry-len : (s : Setting) → entryOf s .name .len ≡ length (recordName s)
 unfolding entryOf
 entry-len (Cic name n m rate) = refl
 entry-len (Wdf name arch cs) = refl
 
-pub number-kept : (k : ℕ) (last : List ℕ) (s : Setting) → fitting s ≡ true → numberFor k last (nameIn (entryOf s .name))
+pub number-kept : (k : ℕ) (last : List ℕ) (s : Setting) → fitting s ≡ true → numberFor k last (nameBytes (entryOf s .name))
     (entryOf s .kind) ≡ recordNumber form1 k last s
 unfolding numberFor recordNumber form1
 number-kept k last s h = rw (entry-name s, kind-kept s h)

@@ -14,14 +14,14 @@ use Rattle.words.proofs.Reading.{read, wrap-is}
 use Rattle.words.specs.Words.{wrap}
 use Rattle.text.specs.Letters.{bytes}
 use Rattle.text.specs.Numbers.{decimalOf, signedOf}
-use Rattle.text.specs.Parts.{joined}
+use Rattle.text.specs.Parts.{joinedBy}
 use Rattle.text.specs.Ranges.{texts}
 use Rattle.text.specs.Writing.{Puts, Wrote}
 use Rattle.text.proofs.Putting.{nothing, then, then-puts, written, wrote-length, wrote-same}
 use Rattle.text.proofs.Spelling.{decimal-most, signed-most}
 use Rattle.settings_text.specs.Fields.{hexOf, hexesOf, nibblesOf}
-use Rattle.settings_text.specs.Lines.{fieldsOf, lineOf}
-use Rattle.store.specs.Entries.{bodyOf, kindWord, nameIn, sections, settingBy, wholeName}
+use Rattle.settings_text.specs.Lines.{fieldsOf, recordLine}
+use Rattle.store.specs.Entries.{bodyOf, kindWord, nameBytes, sections, settingBy, wholeName}
 use Rattle.store.specs.Writing.{Ended, Fielded, tabs}
 use Rattle.store.specs.declared.settings.Kind.the-variants as kinds
 use Rattle.store.specs.declared.settings.Kind.{Kind}
@@ -32,8 +32,8 @@ unfolding tabs
 tabs-append [] gs = refl
 tabs-append (f ∷ fs) gs = ap (λ (l : List ℕ). (9 ∷ f) ++ l) (tabs-append fs gs) ∙ sym (append-assoc (9 ∷ f) (tabs fs) (tabs gs))
 
-pub joined-tabs : (f : List ℕ) (fs : List (List ℕ)) → joined 9 (f ∷ fs) ≡ f ++ tabs fs
-unfolding joined tabs
+pub joined-tabs : (f : List ℕ) (fs : List (List ℕ)) → joinedBy 9 (f ∷ fs) ≡ f ++ tabs fs
+unfolding joinedBy tabs
 joined-tabs f [] = sym (append-nil f)
 joined-tabs f (g ∷ fs) = ap (λ (l : List ℕ). f ++ (9 ∷ l)) (joined-tabs g fs)
 
@@ -159,8 +159,8 @@ pub whole-line : (o : List ℕ) (at : ℕ) (name : List ℕ) (kind : Kind) (a : 
     (z : ℕ) (o₃ : List ℕ) (r : ℕ) (o₄ : List ℕ)
     → at + 138 ≤ length o → sections kind ≤ 8 → length a ≡ 8 → n ≤ 17
     → Ended o at (kindWord kind) 3 x o₁ → Fielded o₁ x (name ∷ []) n y o₂ → Fielded o₂ y (bodyOf kind a) 117 z o₃ → Puts o₃ z (10 ∷ []) r o₄
-    → Ended o at (lineOf (settingBy name kind a) ++ (10 ∷ [])) 138 r o₄
-unfolding lineOf
+    → Ended o at (recordLine (settingBy name kind a) ++ (10 ∷ [])) 138 r o₄
+unfolding recordLine
 whole-line o at name kind a n x o₁ y o₂ z o₃ r o₄ room few l short p q s t =
     let a1 = p .high in
     let a2 = p .long in
@@ -173,8 +173,8 @@ whole-line o at name kind a n x o₁ y o₂ z o₃ r o₄ room few l short p q s
     let u = written o₃ z (10 ∷ []) r o₄ (omega arith) t in
     let v = then (omega arith) w u in
     let m = u .next in
-    let e : kindWord kind ++ tabs (name ∷ bodyOf kind a) ≡ joined 9 (fieldsOf (settingBy name kind a)) =
-    sym (ap (joined 9) (fields-are name kind a few l) ∙ joined-tabs (kindWord kind) (name ∷ bodyOf kind a)) in
+    let e : kindWord kind ++ tabs (name ∷ bodyOf kind a) ≡ joinedBy 9 (fieldsOf (settingBy name kind a)) =
+    sym (ap (joinedBy 9) (fields-are name kind a few l) ∙ joined-tabs (kindWord kind) (name ∷ bodyOf kind a)) in
     record {
       wrote = wrote-same (ap (λ (k : List ℕ). k ++ (10 ∷ [])) e) v;
       high = omega arith;
@@ -188,8 +188,8 @@ bytes-ended o at bs most r o₁ room few p =
     let w = written o at bs r o₁ (omega arith) p in
     record { wrote = w; high = omega (arith, w .next); long = wrote-length (omega arith) w }
 
-pub whole-name : (n : Name) → n .len ≤ 16 → wholeName n ≡ nameIn n
-whole-name n h = let z : n .len - 16 ≡ 0 = omega arith in rw z (append-nil (nameIn n))
+pub whole-name : (n : Name) → n .len ≤ 16 → wholeName n ≡ nameBytes n
+whole-name n h = let z : n .len - 16 ≡ 0 = omega arith in rw z (append-nil (nameBytes n))
 
 -- coefficients are words
 pub wrapped-length : (a : List ℤ) → length (map (wrap w32) a) ≡ length a

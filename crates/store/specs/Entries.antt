@@ -36,8 +36,8 @@ eight zs = padTo 8 (map (wrap w32) zs)
 abbrev pub padded : List ℕ → Name
 padded l = record { bytes = l ++ replicate (16 - length l) 0; len = length l }
 
-abbrev pub nameIn : Name → List ℕ
-nameIn n = take (n .len) (n .bytes)
+abbrev pub nameBytes : Name → List ℕ
+nameBytes n = take (n .len) (n .bytes)
 
 -- the entry of a record
 abbrev pub entry : List ℕ → Kind → List ℤ → Entry
@@ -48,8 +48,8 @@ entryOf (Cic name n m rate) = entry name (kinds.Cic n m rate) []
 entryOf (Wdf name arch cs) = entry name (kinds.Wdf (length cs) (arch % 2 ^ 32)) cs
 
 -- what stands where there is no record
-abbrev pub blank : Entry
-blank = entry [] (kinds.Cic 0 1 0) []
+abbrev pub emptyEntry : Entry
+emptyEntry = entry [] (kinds.Cic 0 1 0) []
 
 -- the record of an entry. Coefficients beyond the eighth are zero, and so are a name's bytes beyond the sixteenth: either is refused
 unfoldable pub settingBy : List ℕ → Kind → List ℤ → Setting
@@ -57,18 +57,18 @@ settingBy name (kinds.Cic n m rate) a = Cic name n m rate
 settingBy name (kinds.Wdf k arch) a = Wdf name arch (take k a ++ replicate (k - 8) (pos 0))
 
 abbrev pub wholeName : Name → List ℕ
-wholeName n = nameIn n ++ replicate (n .len - 16) 0
+wholeName n = nameBytes n ++ replicate (n .len - 16) 0
 
-abbrev pub settingOf : Entry → Setting
-settingOf e = settingBy (wholeName (e .name)) (e .kind) (map (wrap w32) (e .a))
+abbrev pub entrySetting : Entry → Setting
+entrySetting e = settingBy (wholeName (e .name)) (e .kind) (map (wrap w32) (e .a))
 
 -- the records of the settings
-abbrev pub settingsIn : Settings → List Setting
-settingsIn s = map settingOf (take (s .count) (s .entries))
+abbrev pub recordsIn : Settings → List Setting
+recordsIn s = map entrySetting (take (s .count) (s .entries))
 
 -- the number of the first bad record, or 83 where there are more than 64
 unfoldable pub storeNumber : Settings → ℕ
-storeNumber s = orElse (listNumber form1 (settingsIn s)) (cond (leb (s .count) 64) 0 83)
+storeNumber s = orElse (listNumber form1 (recordsIn s)) (cond (leb (s .count) 64) 0 83)
 
 -- the parameter numbers of an entry, and before these 83 and 82 after k records, the last of them named `last`
 abbrev pub kindNumber : Kind → ℕ

@@ -10,9 +10,9 @@ use mir.Syntax.{w32}
 use Rattle.words.specs.Words.{word}
 use Rattle.text.specs.Letters.{tab, newline}
 use Rattle.text.specs.Parts.{parted, endOf}
-use Rattle.settings_text.specs.Lines.{Setting, lineIn, form1}
+use Rattle.settings_text.specs.Lines.{Setting, recordIn, form1}
 use Rattle.settings_text.specs.Stores.{Found, Good, Bad, recordNumber}
-use Rattle.store.specs.Entries.{eight, entryOf, blank}
+use Rattle.store.specs.Entries.{eight, entryOf, emptyEntry}
 use Rattle.store.specs.declared.line.Line.{Line}
 use Rattle.store.specs.declared.line.Natural.{Natural}
 use Rattle.store.specs.declared.line.Natural.the-variants.{Within, Outside}
@@ -24,10 +24,10 @@ use Rattle.store.specs.declared.settings.Entry.{Entry}
 abbrev pub holding : ℕ → List Entry → ℕ → ℕ → Read
 holding count entries line number = record { settings = record { count = count; entries = entries }; line = line; number = number }
 
--- the settings in 64 entries, blank ones last; or blank ones alone, the first bad line and its number
+-- the settings in 64 entries, empty ones last; or empty ones alone, the first bad line and its number
 abbrev pub found : Found Setting → Read
-found (Good ss) = holding (length ss) (map entryOf ss ++ replicate (64 - length ss) blank) 0 0
-found (Bad line number) = holding 0 (replicate 64 blank) line number
+found (Good ss) = holding (length ss) (map entryOf ss ++ replicate (64 - length ss) emptyEntry) 0 0
+found (Bad line number) = holding 0 (replicate 64 emptyEntry) line number
 
 -- For private functions. A line's fields from a place on; none from past its end
 unfoldable pub fieldsFrom : List ℕ → ℕ → List (List ℕ)
@@ -47,7 +47,7 @@ numbersRead (some zs) = record { found = true; count = length zs; words = eight 
 
 -- a line's record, or that it holds none
 abbrev pub lineRead : Option Setting → Line
-lineRead none = record { found = false; entry = blank }
+lineRead none = record { found = false; entry = emptyEntry }
 lineRead (some s) = record { found = true; entry = entryOf s }
 
 -- the line at a place, if a newline ends it
@@ -55,11 +55,11 @@ abbrev pub lineAt : List ℕ → ℕ → List ℕ
 lineAt text at = take (endOf newline text at - at) (drop at text)
 
 abbrev pub settingAt : List ℕ → ℕ → Option Setting
-settingAt text at = cond (ltb (endOf newline text at) (length text)) (lineIn (lineAt text at)) none
+settingAt text at = cond (ltb (endOf newline text at) (length text)) (recordIn (lineAt text at)) none
 
 abbrev pub stepBy : Option Setting → ℕ → ℕ → List ℕ → Step
-stepBy none end k last = record { entry = blank; end = end; number = 81 }
+stepBy none end k last = record { entry = emptyEntry; end = end; number = 81 }
 stepBy (some s) end k last = record { entry = entryOf s; end = end; number = recordNumber form1 k last s }
 
-unfoldable pub stepOf : List ℕ → ℕ → ℕ → List ℕ → Step
-stepOf text at k last = stepBy (settingAt text at) (endOf newline text at) k last
+unfoldable pub stepAt : List ℕ → ℕ → ℕ → List ℕ → Step
+stepAt text at k last = stepBy (settingAt text at) (endOf newline text at) k last

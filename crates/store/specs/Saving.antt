@@ -8,13 +8,13 @@ use lib.ListN.{length}
 use Rattle.text.specs.Writing.{overlaid}
 use Rattle.settings_text.specs.Lines.{form1}
 use Rattle.settings_text.specs.Stores.{textOf}
-use Rattle.store.specs.Entries.{settingsIn, storeNumber}
+use Rattle.store.specs.Entries.{recordsIn, storeNumber}
 use Rattle.store.specs.declared.settings.Settings.{Settings}
 use Rattle.store.specs.declared.saving.Written.{Written}
 use Rattle.store.specs.declared.saving.Written.the-variants.{Bytes, Refused}
 
 abbrev pub storeText : Settings → List ℕ
-storeText s = textOf form1 (settingsIn s)
+storeText s = textOf form1 (recordsIn s)
 
 abbrev pub saved : {A : Type 0} → ℕ → List ℕ → List ℕ → (ℕ → A) → A → A
 saved number text o refused done = cond (eqb number 0) (cond (leb (length text) (length o)) done (refused 20)) (refused number)

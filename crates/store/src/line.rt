@@ -21,8 +21,8 @@ ghost use Rattle.words.specs.Words.{wrap};
 ghost use Rattle.text.specs.Hex.{hexDigit};
 ghost use Rattle.text.specs.Ranges.{range, numberIn, numbersIn};
 ghost use Rattle.settings_text.specs.Fields.{hexesIn, nibblesIn};
-ghost use Rattle.settings_text.specs.Lines.{cicIn, wdfIn, lineIn};
-ghost use Rattle.store.specs.Entries.{padded, nameIn};
+ghost use Rattle.settings_text.specs.Lines.{cicIn, wdfIn, recordIn};
+ghost use Rattle.store.specs.Entries.{padded, nameBytes};
 ghost use Rattle.store.specs.Reading.{fieldsFrom, wordBy, archBy, numbersRead, lineRead};
 
 // A word, or none.
@@ -180,8 +180,8 @@ fn nothing() -> Line
 
 // The fields of a `cic` record after its name.
 fn cic(name: Name, line: &[u8], from: usize) -> Line
-    requires { ⌜ (name ≡ padded (nameIn name)) × (from ≤ length (now line) + 1) × (length (now line) ≤ 160) ⌝ }
-    ensures { λ r. ⌜ r ≡ lineRead (cicIn (nameIn name) (fieldsFrom (now (line .entry)) from)) ⌝ }
+    requires { ⌜ (name ≡ padded (nameBytes name)) × (from ≤ length (now line) + 1) × (length (now line) ≤ 160) ⌝ }
+    ensures { λ r. ⌜ r ≡ lineRead (cicIn (nameBytes name) (fieldsFrom (now (line .entry)) from)) ⌝ }
 {
     let ns = numbers_from(line, from, 0, 4294967295);
     if !ns.found {
@@ -202,8 +202,8 @@ fn cic(name: Name, line: &[u8], from: usize) -> Line
 
 // The fields of a `wdf` record after its name.
 fn wdf(name: Name, line: &[u8], from: usize) -> Line
-    requires { ⌜ (name ≡ padded (nameIn name)) × (from ≤ length (now line) + 1) × (length (now line) ≤ 160) ⌝ }
-    ensures { λ r. ⌜ r ≡ lineRead (wdfIn (nameIn name) (fieldsFrom (now (line .entry)) from)) ⌝ }
+    requires { ⌜ (name ≡ padded (nameBytes name)) × (from ≤ length (now line) + 1) × (length (now line) ≤ 160) ⌝ }
+    ensures { λ r. ⌜ r ≡ lineRead (wdfIn (nameBytes name) (fieldsFrom (now (line .entry)) from)) ⌝ }
 {
     if line.len() < from {
         return nothing();
@@ -236,7 +236,7 @@ fn wdf(name: Name, line: &[u8], from: usize) -> Line
 
 // A line read as a record.
 pub(crate) fn record_in(line: &[u8]) -> Line
-    ensures { λ r. ⌜ r ≡ lineRead (lineIn (now (line .entry))) ⌝ }
+    ensures { λ r. ⌜ r ≡ lineRead (recordIn (now (line .entry))) ⌝ }
 {
     if 160 < line.len() {
         return nothing();

@@ -8,7 +8,7 @@ ghost use mathlib.Core.Bool.{true};
 ghost use mathlib.Core.Path.{_≡_};
 ghost use Prim.Native.Nat.{_≤_};
 ghost use lib.ListN.{length};
-ghost use Rattle.store.specs.Entries.{nameIn, kindNumber, numberFor, fitsWords};
+ghost use Rattle.store.specs.Entries.{nameBytes, kindNumber, numberFor, fitsWords};
 
 // The parameter numbers: what `Cic::new` or `Wdf::new` is refused with, or 0.
 fn kind_number(kind: Kind) -> u32
@@ -23,7 +23,7 @@ fn kind_number(kind: Kind) -> u32
 // What a well-formed record is refused with after k records, the last of them named `last`; or 0.
 pub(crate) fn number_of(k: usize, last: Name, name: Name, kind: Kind) -> u32
     requires { ⌜ (last .len ≤ 16) × (name .len ≤ 16) ⌝ }
-    ensures { λ r. ⌜ (r ≡ numberFor k (nameIn last) (nameIn name) kind) × (fitsWords kind ≡ true) ⌝ }
+    ensures { λ r. ⌜ (r ≡ numberFor k (nameBytes last) (nameBytes name) kind) × (fitsWords kind ≡ true) ⌝ }
 {
     let number = kind_number(kind);
     if 64 <= k {

@@ -14,8 +14,8 @@ ghost use Prim.Native.Nat.{_≤_, _<_};
 ghost use lib.ListN.{length};
 ghost use Rattle.settings_text.specs.Lines.{form1};
 ghost use Rattle.settings_text.specs.Stores.{Bad, readOf};
-ghost use Rattle.store.specs.Entries.{nameIn};
-ghost use Rattle.store.specs.Reading.{stepBy, stepOf, found};
+ghost use Rattle.store.specs.Entries.{nameBytes};
+ghost use Rattle.store.specs.Reading.{stepBy, stepAt, found};
 
 // A line's record, where the line ends, and the number that refuses it or 0.
 pub struct Step {
@@ -46,7 +46,7 @@ fn refused(line: usize, number: u32) -> Read
 
 // A line that holds no record.
 fn stopped(k: usize, last: Name, end: usize) -> Step
-    ensures { λ r. ⌜ r ≡ stepBy none end k (nameIn last) ⌝ }
+    ensures { λ r. ⌜ r ≡ stepBy none end k (nameBytes last) ⌝ }
 {
     let entry = no_entry();
     Step {
@@ -59,7 +59,7 @@ fn stopped(k: usize, last: Name, end: usize) -> Step
 // The line at a place, after k records, the last of them named `last`.
 fn next(text: &[u8], at: usize, k: usize, last: Name) -> Step
     requires { ⌜ (at < length (now text)) × (last .len ≤ 16) ⌝ }
-    ensures { λ r. ⌜ r ≡ stepOf (now (text .entry)) at k (nameIn last) ⌝ }
+    ensures { λ r. ⌜ r ≡ stepAt (now (text .entry)) at k (nameBytes last) ⌝ }
 {
     let end = part_end(text, at, b'\n');
     if text.len() <= end {

@@ -13,15 +13,15 @@ ghost use Prim.Native.Nat.{_≤_};
 ghost use lib.ListN.{length};
 ghost use Rattle.text.specs.Letters.{newline};
 ghost use Rattle.settings_text.specs.Lines.{form1};
-ghost use Rattle.settings_text.specs.Stores.{writeNumber};
-ghost use Rattle.store.specs.Entries.{nameIn, settingOf, sections};
+ghost use Rattle.settings_text.specs.Stores.{listedNumber};
+ghost use Rattle.store.specs.Entries.{nameBytes, entrySetting, sections};
 ghost use Rattle.store.specs.Writing.{Ended, Composing};
 ghost use Rattle.store.specs.Saving.{Saves};
 
 // The number that refuses an entry after k, the last of them named `last`; or 0.
 fn entry_number(k: usize, last: Name, entry: Entry) -> u32
     requires { ⌜ last .len ≤ 16 ⌝ }
-    ensures { λ r. ⌜ (r ≡ writeNumber form1 k (nameIn last) (settingOf entry)) × (r ≡ 0 → (entry .name .len ≤ 16) × (sections (entry .kind) ≤ 8)) ⌝ }
+    ensures { λ r. ⌜ (r ≡ listedNumber form1 k (nameBytes last) (entrySetting entry)) × (r ≡ 0 → (entry .name .len ≤ 16) × (sections (entry .kind) ≤ 8)) ⌝ }
 {
     let name = entry.name;
     let bytes = name.bytes;

@@ -2,7 +2,7 @@
 ghost use mathlib.Core.Path.{_≡_};
 ghost use mathlib.Core.List.{[]};
 ghost use Prim.Native.Nat.{_≤_};
-ghost use Rattle.store.specs.Entries.{blank, nameIn};
+ghost use Rattle.store.specs.Entries.{emptyEntry, nameBytes};
 
 // A record's name: its first `len` bytes, 1 to 16 lower-case letters.
 pub struct Name {
@@ -33,7 +33,7 @@ pub struct Settings {
 
 // What stands in an entry that holds no record.
 pub(crate) fn no_entry() -> Entry
-    ensures { λ r. ⌜ r ≡ blank ⌝ }
+    ensures { λ r. ⌜ r ≡ emptyEntry ⌝ }
 {
     let bytes = [0u8; 16];
     let name = Name { bytes, len: 0 };
@@ -44,7 +44,7 @@ pub(crate) fn no_entry() -> Entry
 
 // The name before the first record's: it comes before every name.
 pub(crate) fn no_name() -> Name
-    ensures { λ r. ⌜ nameIn r ≡ [] × (r .len ≤ 16) ⌝ }
+    ensures { λ r. ⌜ nameBytes r ≡ [] × (r .len ≤ 16) ⌝ }
 {
     let bytes = [0u8; 16];
     Name { bytes, len: 0 }

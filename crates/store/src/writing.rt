@@ -15,8 +15,8 @@ ghost use Rattle.text.specs.Letters.{newline};
 ghost use Rattle.text.specs.Numbers.{decimalOf, signedOf};
 ghost use Rattle.text.specs.Ranges.{texts};
 ghost use Rattle.settings_text.specs.Fields.{hexOf, hexesOf, nibblesOf};
-ghost use Rattle.settings_text.specs.Lines.{lineOf};
-ghost use Rattle.store.specs.Entries.{settingOf, kindWord, bodyOf, sections};
+ghost use Rattle.settings_text.specs.Lines.{recordLine};
+ghost use Rattle.store.specs.Entries.{entrySetting, kindWord, bodyOf, sections};
 ghost use Rattle.store.specs.Writing.{Fielded, Ended};
 
 // The bytes of the digit 0 and of the letter a.
@@ -149,7 +149,7 @@ fn put_body(out: &mut [u8], at: usize, kind: Kind, a: &[i32; 8]) -> usize
 // A record's line and its newline.
 pub(crate) fn put_line(out: &mut [u8], at: usize, entry: Entry) -> usize
     requires { ⌜ (at + 138 ≤ length (now out)) × (sections (entry .kind) ≤ 8) × (entry .name .len ≤ 16) ⌝ }
-    ensures { λ r. ⌜ Ended (now (out .entry)) at (lineOf (settingOf entry) ++ (newline ∷ [])) 138 r (now (out .exit)) ⌝ }
+    ensures { λ r. ⌜ Ended (now (out .entry)) at (recordLine (entrySetting entry) ++ (newline ∷ [])) 138 r (now (out .exit)) ⌝ }
 {
     let kind = entry.kind;
     let a = entry.a;

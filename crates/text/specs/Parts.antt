@@ -16,10 +16,10 @@ parted sep [] = [] ∷ []
 parted sep (b ∷ bs) = cond (eqb b sep) ([] ∷ parted sep bs) (onto b (parted sep bs))
 
 -- parts with the byte `sep` between them
-unfoldable pub joined : ℕ → List (List ℕ) → List ℕ
-joined sep [] = []
-joined sep (p ∷ []) = p
-joined sep (p ∷ q ∷ ps) = p ++ (sep ∷ joined sep (q ∷ ps))
+unfoldable pub joinedBy : ℕ → List (List ℕ) → List ℕ
+joinedBy sep [] = []
+joinedBy sep (p ∷ []) = p
+joinedBy sep (p ∷ q ∷ ps) = p ++ (sep ∷ joinedBy sep (q ∷ ps))
 
 -- the first part
 unfoldable pub before : ℕ → List ℕ → List ℕ

@@ -1,4 +1,4 @@
--- No record is a blank entry.
+-- No record is an empty entry.
 use borrow.Author.Needs.{needs}
 use Rattle.store.proofs.line.nothing.Statement.{statement}
 use Rattle.store.proofs.line.nothing.Tie as tie

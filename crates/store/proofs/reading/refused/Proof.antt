@@ -1,4 +1,4 @@
--- Sixty-four blank entries.
+-- Sixty-four empty entries.
 use borrow.Author.Needs.{needs}
 use Rattle.store.proofs.reading.refused.Statement.{statement}
 use Rattle.store.proofs.reading.refused.Tie as tie

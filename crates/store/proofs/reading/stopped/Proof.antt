@@ -1,4 +1,4 @@
--- No record is a blank entry.
+-- No record is an empty entry.
 use borrow.Author.Needs.{needs}
 use Rattle.store.proofs.reading.stopped.Statement.{statement}
 use Rattle.store.proofs.reading.stopped.Tie as tie

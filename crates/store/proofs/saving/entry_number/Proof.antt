@@ -6,7 +6,7 @@ use lib.ListN.{length}
 use lib.Seq.{length-take-le}
 use borrow.Author.Tests.{not-true, not-false}
 use borrow.Author.Needs.{needs}
-use Rattle.store.specs.Entries.{nameIn}
+use Rattle.store.specs.Entries.{nameBytes}
 use Rattle.store.proofs.Judging.{name-long, name-wrong, kind-right, few-sections}
 use Rattle.store.proofs.saving.entry_number.Statement.{statement}
 use Rattle.store.proofs.saving.entry_number.Tie as tie
@@ -17,7 +17,7 @@ returns c =
     let a = begin .args in
     let l : length (a .entry .a) ≡ 8 = search needs in
     let b : length (a .entry .name .bytes) ≡ 16 = search needs in
-    (name-long (a .k) (nameIn (a .last)) (a .entry) l b (c .if1 .taken), λ z. absurd (omega arith))
+    (name-long (a .k) (nameBytes (a .last)) (a .entry) l b (c .if1 .taken), λ z. absurd (omega arith))
 
 array-share-prefix-bytes : tie.Need-array-share-prefix-bytes
 array-share-prefix-bytes c =
@@ -40,7 +40,7 @@ returns-2 c =
     let b : length (a .entry .name .bytes) ≡ 16 = search needs in
     let named : tie.After-is-name = search in
     let short : tie.Else1 = search in (
-      name-wrong (a .k) (nameIn (a .last)) (a .entry) l b (short .if1 .left) (sym (named .is-name .ensures) ∙ not-true _ (c .if2 .taken)),
+      name-wrong (a .k) (nameBytes (a .last)) (a .entry) l b (short .if1 .left) (sym (named .is-name .ensures) ∙ not-true _ (c .if2 .taken)),
       λ z. absurd (omega arith),
     )
 
@@ -54,9 +54,9 @@ returns-3 c =
     let named : tie.After-is-name = search in
     let short : tie.Else1 = search in
     let n = c .number-of .ensures in (
-      kind-right (a .k) (nameIn (a .last)) (a .entry) l b (short .if1 .left)
+      kind-right (a .k) (nameBytes (a .last)) (a .entry) l b (short .if1 .left)
           (sym (named .is-name .ensures) ∙ not-false _ (is .if2 .left)) (c .number-of .result) (n .1) (n .0),
-      λ z. (short .if1 .left, few-sections (a .k) (nameIn (a .last)) (nameIn (a .entry .name)) (a .entry .kind) (sym (n .0) ∙ z)),
+      λ z. (short .if1 .left, few-sections (a .k) (nameBytes (a .last)) (nameBytes (a .entry .name)) (a .entry .kind) (sym (n .0) ∙ z)),
     )
 
 pub entry-number-spec : {M : Type 1} → statement M

@@ -8,7 +8,7 @@ use Prim.Native.Nat.{_+_, _≤_}
 use lib.ListN.{length, take}
 use lib.Seq.{length-take-le}
 use Rattle.words.specs.Words.{wrap}
-use Rattle.store.specs.Entries.{nameIn}
+use Rattle.store.specs.Entries.{nameBytes}
 use Rattle.store.proofs.Putting.{whole-line, whole-name, wrapped-length}
 use Rattle.store.proofs.writing.put_line.Statement.{statement}
 use Rattle.store.proofs.writing.put_line.Tie as tie
@@ -71,8 +71,8 @@ returns c =
     let h : begin .args .entry .name .len ≤ length (begin .args .entry .name .bytes) = omega arith in
     let n = length-take-le (begin .args .entry .name .len) (begin .args .entry .name .bytes) h in
     rw (whole-name (begin .args .entry .name) s)
-    (whole-line (begin .args .out .now) (begin .args .at) (nameIn (begin .args .entry .name)) (begin .args .entry .kind)
-    (map (wrap w32) (begin .args .entry .a)) (length (nameIn (begin .args .entry .name)) + 1) _ _ _ _ _ _ _ _ (begin .pre .0)
+    (whole-line (begin .args .out .now) (begin .args .at) (nameBytes (begin .args .entry .name)) (begin .args .entry .kind)
+    (map (wrap w32) (begin .args .entry .a)) (length (nameBytes (begin .args .entry .name)) + 1) _ _ _ _ _ _ _ _ (begin .pre .0)
     (begin .pre .1) (wrapped-length (begin .args .entry .a) ∙ k) (omega arith) (at-put-kind .put-kind .ensures)
     (at-put-text .put-text .ensures) (at-put-body .put-body .ensures) (at-put-byte .put-byte .ensures))
 
