@@ -1,0 +1,4 @@
+pub mod Ways
+pub mod StepCalls
+pub mod BlockCalls
+pub mod InTurn
