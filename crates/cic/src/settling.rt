@@ -3,7 +3,6 @@ use crate::state::Cic;
 use crate::state::Made;
 use crate::state::kept;
 use crate::state::zeros;
-use crate::word::BITS;
 use crate::word::Word;
 use crate::word::mul;
 use blocks::Verdict;
@@ -20,7 +19,7 @@ ghost use Rattle.cic.specs.Word.{wordOps};
 ghost use Rattle.cic.specs.Reading.{stateOf, countedOf};
 ghost use Rattle.cic.specs.Answers.{madeOf};
 
-// x times by^n, modulo 2^BITS.
+// x times by^n, modulo the word.
 fn scaled(x: Word, by: u64, n: usize) -> Word
     requires { ⌜ by ≤ 524288 ⌝ }
     ensures { λ r. ⌜ r ≡ times wordOps (by ^ n) x ⌝ }
@@ -51,7 +50,7 @@ fn level(m: usize, x: Word) -> [Word; 64]
 
 impl Cic {
     // The state of zeros but for the first delay line, all x, and the last integrator, x times the gain
-    // modulo 2^BITS; where N is 0, but for the hold, x. A refused call changes nothing.
+    // modulo the word; where N is 0, but for the hold, x. A refused call changes nothing.
     pub fn settle_interpolate(self, x: Word) -> Made
         ensures { λ r. ⌜ r ≡ madeOf (refusal (stateOf self)) (settleCounted wordOps (countedOf self) x) ⌝ }
     {

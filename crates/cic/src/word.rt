@@ -1,4 +1,4 @@
-// The word of this crate, i32. No other file of src/ names it.
+// The word of this crate, i32, and its width, to be asked of `fit`. No other file of src/ names it.
 pub use words::word32::BITS;
 pub use words::word32::Word;
 pub(crate) use words::word32::add;

@@ -1,6 +1,5 @@
 // Questions about a state. Each tests the state first; a refused one gives its number alone.
 use crate::state::Cic;
-use crate::word::BITS;
 use crate::word::Word;
 use shape::numbers::refusal_of;
 pub use shape::questions::Fitting;
@@ -15,7 +14,7 @@ ghost use Rattle.sums.specs.State.{refusal};
 ghost use Rattle.sums.specs.Calls.{gainNumber, fitNumber, gain, gainLog2, responseLength, fits, currentAt};
 ghost use Rattle.sums.specs.Runs.{needed};
 ghost use Rattle.shape.specs.Answers.{toldOf, fittingOf};
-ghost use Rattle.cic64.specs.Word.{wordOps, bits};
+ghost use Rattle.cic64.specs.Word.{wordOps};
 ghost use Rattle.cic64.specs.Reading.{stateOf};
 ghost use Rattle.cic64.specs.Answers.{interpolatedOf};
 
@@ -105,10 +104,10 @@ impl Cic {
         )
     }
 
-    // Whether b + gain_log2 is at most BITS: then inputs of b signed bits make no output wrap. Refused with 17
-    // for b outside 1..BITS.
-    pub fn fit(self, b: u32) -> Fitting
-        ensures { λ r. ⌜ r ≡ fittingOf (fitNumber (stateOf self) bits b) (fits (stateOf self) bits b) ⌝ }
+    // Whether b + gain_log2 is at most the width: then inputs of b signed bits make no output of so wide words wrap.
+    // The width, 32 or 64, need not be the word's own. Refused with 17 for b outside 1..width and for another width.
+    pub fn fit(self, width: u32, b: u32) -> Fitting
+        ensures { λ r. ⌜ r ≡ fittingOf (fitNumber (stateOf self) width b) (fits (stateOf self) width b) ⌝ }
     {
         fit(
             self.order,
@@ -116,7 +115,7 @@ impl Cic {
             self.rate,
             self.countdown,
             self.unsettled,
-            BITS,
+            width,
             b,
         )
     }

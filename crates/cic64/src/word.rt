@@ -1,4 +1,4 @@
-// The word of this crate, i64. No other file of src/ names it.
+// The word of this crate, i64, and its width, to be asked of `fit`. No other file of src/ names it.
 pub use words::word64::BITS;
 pub use words::word64::Word;
 pub(crate) use words::word64::add;

@@ -7,7 +7,7 @@ use crate::runs::low_rate;
 ghost use mathlib.Core.Path.{_≡_};
 ghost use Rattle.sums.specs.State.{refusalOf};
 ghost use Rattle.sums.specs.Runs.{needed};
-ghost use Rattle.sums.specs.Calls.{gainNumberOf, gainOf, gainLog2Of, responseLengthOf, fitNumberOf, fitsOf};
+ghost use Rattle.sums.specs.Calls.{gainNumberOf, gainOf, gainLog2Of, responseLengthOf, isWidth, fitNumberOf, fitsOf};
 ghost use Rattle.shape.specs.Answers.{toldOf, fittingOf};
 
 // A whole number, or the number of a refusal.
@@ -90,8 +90,15 @@ pub fn low_rate_length(
     Told::Number(count as u64)
 }
 
-// Whether b + gain_log2 is at most the word's width: then inputs of b signed bits make no output wrap. Refused
-// with 17 for b outside 1..width.
+// Whether there are words of this width.
+fn is_width(width: u32) -> bool
+    ensures { λ r. ⌜ r ≡ isWidth width ⌝ }
+{
+    width == 32 || width == 64
+}
+
+// Whether b + gain_log2 is at most the width: then inputs of b signed bits make no output of so wide words wrap.
+// Refused with 17 for b outside 1..width, and for a width that isn't 32 or 64.
 pub fn fit(
     order: usize,
     delay: usize,
@@ -112,6 +119,9 @@ pub fn fit(
         return Fitting::Refused(17);
     }
     if width < b {
+        return Fitting::Refused(17);
+    }
+    if !is_width(width) {
         return Fitting::Refused(17);
     }
     let bits = b as u64 + shift(order, delay, rate);

@@ -17,7 +17,7 @@ use Rattle.words.proofs.Reading.{wrap-is}
 use Rattle.sums.specs.Signed.{exactOps}
 use Rattle.sums.specs.Moving.{last, moving}
 use Rattle.sums.specs.State.{State, refusal}
-use Rattle.sums.specs.Calls.{gain, gainOf, bitLength, gainLog2, gainLog2Of, fitNumber, fitNumberOf, fits, fitsOf}
+use Rattle.sums.specs.Calls.{gain, gainOf, bitLength, gainLog2, gainLog2Of, fitNumber, isWidth, fitNumberOf, fits, fitsOf}
 use Rattle.sums.proofs.Refusals.{Good, good, passed, first, both-zero}
 
 -- mag z < B says that z lies in - B .. B - 1
@@ -100,8 +100,9 @@ half-bits w128 = refl
 fit-asked : {A : Type 0} (s : State A) (width b : ℕ) → fitNumber s width b ≡ 0 → (refusal s ≡ 0) × (1 ≤ b)
 unfolding fitNumberOf
 fit-asked s width b e =
-    let z = both-zero (refusal s) (cond (eqb b 0 || ltb width b) 17 0) e in
-    let nz : b ≡ 0 → ⊥ = eqb-false b 0 (first (eqb b 0) (ltb width b) (passed (eqb b 0 || ltb width b) 16 0 (z .1))) in
+    let rest : ℕ = cond (isWidth width) 0 17 in
+    let z = both-zero (refusal s) (cond (eqb b 0 || ltb width b) 17 rest) e in
+    let nz : b ≡ 0 → ⊥ = eqb-false b 0 (first (eqb b 0) (ltb width b) (passed (eqb b 0 || ltb width b) 16 rest (z .1))) in
     (z .0, omega arith)
 
 pub fit-sound : {A : Type 0} (w : Width) (s : State A) (b : ℕ) → fitNumber s (bits w) b ≡ 0 → fits s (bits w) b ≡ true

@@ -136,9 +136,13 @@ gainLog2Of order delay rate = order * bitLength 64 (suc rate * delay - 1)
 unfoldable pub responseLengthOf : ℕ → ℕ → ℕ → ℕ
 responseLengthOf order delay rate = order * (suc rate * delay - 1)
 
--- 17: fit asked for b outside 1 .. width, of a state whose own number is k.
+-- 02, A1: fit takes the width, 32 or 64. It asks about numbers, whatever the filter's own word.
+unfoldable pub isWidth : ℕ → Bool
+isWidth width = eqb width 32 || eqb width 64
+
+-- 17: fit asked for b outside 1 .. width, or for another width, of a state whose own number is k.
 unfoldable pub fitNumberOf : ℕ → ℕ → ℕ → ℕ
-fitNumberOf k width b = unless k k (cond (eqb b 0 || ltb width b) 17 0)
+fitNumberOf k width b = unless k k (cond (eqb b 0 || ltb width b) 17 (cond (isWidth width) 0 17))
 
 -- Yes exactly when b + gain_log2 is at most the width.
 unfoldable pub fitsOf : ℕ → ℕ → ℕ → Bool

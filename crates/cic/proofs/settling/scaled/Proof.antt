@@ -1,4 +1,4 @@
--- After i turns x times by ^ i, modulo 2 ^ bits.
+-- After i turns x times by ^ i, modulo the word.
 use borrow.Author.Needs.{needs}
 use mir.ValLaws.{toZ-ofZ, toZ-pos}
 use Rattle.words.proofs.Reading.{read}

@@ -1,4 +1,4 @@
--- Zeros with one line and one integrator set; the gain is multiplied up modulo 2 ^ bits.
+-- Zeros with one line and one integrator set; the gain is multiplied up modulo the word.
 use borrow.Author.Needs.{needs}
 use mathlib.Core.Path.{_≡_, sym, ap₂, _∙_}
 use native.Mathlib.Numerals.{add-one}
