@@ -1,5 +1,12 @@
 // Runs the proved decimator and interpolator over the Rust's stored answers (oracle/README.md, cic) and prints what
 // differs: runs by steps and runs by blocks of drawn lengths, with the whole state after each.
+mod word;
+
+use crate::word::Word;
+use crate::word::bits_of;
+use crate::word::digest_word;
+use crate::word::spread_word;
+use crate::word::word_of;
 use blocks::Verdict;
 use cic::questions::Fitting;
 use cic::questions::Interpolated;
@@ -18,18 +25,14 @@ use rust_answers::lines::tally;
 use rust_answers::lines::unlike;
 use rust_answers::lines::unlike_double;
 use rust_answers::runs::digest;
-use rust_answers::runs::digest_first;
 use rust_answers::runs::draw;
-use rust_answers::runs::spread;
-use words::casts::i32_as_u32;
-use words::casts::u32_as_i32;
 use words::casts::u64_as_u32;
 use words::unsigned::add_u64;
 ghost use Prim.Native.Nat.{_≤_};
 
 const LINES: u32 = 1820;
 
-const WIDTH: u32 = 12;
+const WIDTH: u32 = 15;
 // The most inputs of a decimator's block, or outputs of an interpolator's.
 const BLOCK: usize = 250;
 // No later rate.
@@ -49,7 +52,7 @@ fn output_number(out: Out) -> u32 {
 // The digest grown by 1 and the output, by 0 where there is none, or by the number of a refusal.
 fn digest_output(d: u64, out: Out) -> u64 {
     match out {
-        Out::Given(y) => digest(digest(d, 1), i32_as_u32(y.value)),
+        Out::Given(y) => digest_word(digest(d, 1), y.value),
         Out::Nothing => digest(d, 0),
         Out::Refused(k) => digest(d, k),
     }
@@ -74,11 +77,11 @@ fn read_number(read: Read) -> u32 {
 // ---- runs
 
 // Draws a slice full of words; the generator's state after them.
-fn fill(xs: &mut [i32], first: u64) -> u64 {
+fn fill(xs: &mut [Word], first: u64) -> u64 {
     let mut draws = first;
     for i in 0..xs.len() {
-        let r = spread(draws);
-        let v = u32_as_i32(r.value);
+        let r = spread_word(draws);
+        let v = r.value;
         xs[i] = v;
         draws = r.state;
     }
@@ -97,21 +100,12 @@ struct Running {
 
 // The state of a line, resumed from its drawn cells.
 fn started(w: [u32; 40]) -> Running {
-    let mut a = [0i32; 8];
-    let mut b = [0i32; 64];
+    let mut a: [Word; 8] = [0; 8];
+    let mut b: [Word; 64] = [0; 64];
     let drawn = fill(&mut a, double(0, w[5]));
-    let hold = spread(fill(&mut b, drawn));
+    let hold = spread_word(fill(&mut b, drawn));
     let inputs = double(0, w[5]);
-    let made = Cic::resume(
-        size(w[1]),
-        size(w[2]),
-        w[3],
-        a,
-        b,
-        u32_as_i32(hold.value),
-        w[4],
-        inputs,
-    );
+    let made = Cic::resume(size(w[1]), size(w[2]), w[3], a, b, hold.value, w[4], inputs);
     let state = made.state;
     Running {
         state,
@@ -122,27 +116,26 @@ fn started(w: [u32; 40]) -> Running {
     }
 }
 
-fn eight_words(a: [i32; 8]) -> [u32; 8] {
-    [
-        i32_as_u32(a[0]),
-        i32_as_u32(a[1]),
-        i32_as_u32(a[2]),
-        i32_as_u32(a[3]),
-        i32_as_u32(a[4]),
-        i32_as_u32(a[5]),
-        i32_as_u32(a[6]),
-        i32_as_u32(a[7]),
-    ]
+// The digest grown by the first n integrators.
+fn digest_sums(d: u64, sums: [Word; 8], n: usize) -> u64 {
+    let mut e = d;
+    for at in 0..8 {
+        let v = sums[at];
+        if at < n {
+            e = digest_word(e, v);
+        }
+    }
+    e
 }
 
 // The digest grown by the first m cells of each of the first n lines.
-fn digest_lines(d: u64, cells: [i32; 64], n: usize, m: usize) -> u64 {
+fn digest_lines(d: u64, cells: [Word; 64], n: usize, m: usize) -> u64 {
     let mut e = d;
     for at in 0..64 {
         let v = cells[at];
         if at / 8 < n {
             if at % 8 < m {
-                e = digest(e, i32_as_u32(v));
+                e = digest_word(e, v);
             }
         }
     }
@@ -153,8 +146,8 @@ fn digest_lines(d: u64, cells: [i32; 64], n: usize, m: usize) -> u64 {
 fn digest_state(d: u64, s: Cic) -> u64 {
     let a = s.integrators;
     let b = s.combs;
-    let held = digest(digest(d, s.countdown), i32_as_u32(s.hold));
-    let summed = digest_first(held, &eight_words(a), s.order);
+    let held = digest_word(digest(d, s.countdown), s.hold);
+    let summed = digest_sums(held, a, s.order);
     digest_lines(summed, b, s.order, s.delay)
 }
 
@@ -184,9 +177,9 @@ fn misnumbered(out: Out, number: u64) -> u64 {
 }
 
 fn decimate_turn(r: Running) -> Running {
-    let x = spread(r.draws);
+    let x = spread_word(r.draws);
     let s = r.state;
-    let t = s.decimate(u32_as_i32(x.value));
+    let t = s.decimate(x.value);
     let state = t.state;
     let out = t.out;
     let inputs = add_u64(r.inputs, 1);
@@ -201,13 +194,13 @@ fn decimate_turn(r: Running) -> Running {
 
 fn digest_value(d: u64, out: Interpolated) -> u64 {
     match out {
-        Interpolated::Value(y) => digest(digest(d, 1), i32_as_u32(y)),
+        Interpolated::Value(y) => digest_word(digest(d, 1), y),
         Interpolated::Refused(k) => digest(d, k),
     }
 }
 
 // The sample is given exactly where the filter says that one is due.
-fn offered(due: bool, x: i32) -> Sample {
+fn offered(due: bool, x: Word) -> Sample {
     if due {
         Sample::Given(x)
     } else {
@@ -216,9 +209,9 @@ fn offered(due: bool, x: i32) -> Sample {
 }
 
 fn interpolate_turn(r: Running) -> Running {
-    let x = spread(r.draws);
+    let x = spread_word(r.draws);
     let s = r.state;
-    let t = s.interpolate(offered(s.tick(), u32_as_i32(x.value)));
+    let t = s.interpolate(offered(s.tick(), x.value));
     let state = t.state;
     let out = t.out;
     Running {
@@ -241,12 +234,12 @@ fn block_length(u: u32) -> usize
 }
 
 // The digest grown by the first n values.
-fn digest_values(d: u64, ys: [i32; BLOCK], n: usize) -> u64 {
+fn digest_values(d: u64, ys: [Word; BLOCK], n: usize) -> u64 {
     let mut e = d;
     for at in 0..BLOCK {
         let y = ys[at];
         if at < n {
-            e = digest(e, i32_as_u32(y));
+            e = digest_word(e, y);
         }
     }
     e
@@ -285,8 +278,8 @@ fn digest_count(d: u64, n: usize) -> u64 {
 fn decimate_block_turn(r: Running) -> Running {
     let first = draw(r.draws);
     let n = block_length(first.value);
-    let mut xs = [0i32; BLOCK];
-    let mut ys = [0i32; BLOCK];
+    let mut xs: [Word; BLOCK] = [0; BLOCK];
+    let mut ys: [Word; BLOCK] = [0; BLOCK];
     let draws = fill(&mut xs, first.state);
     let s = r.state;
     let t = s.decimate_block(&xs[..n], &mut ys[..n]);
@@ -307,8 +300,8 @@ fn decimate_block_turn(r: Running) -> Running {
 fn interpolate_block_turn(r: Running) -> Running {
     let first = draw(r.draws);
     let n = block_length(first.value);
-    let mut xs = [0i32; BLOCK];
-    let mut ys = [0i32; BLOCK];
+    let mut xs: [Word; BLOCK] = [0; BLOCK];
+    let mut ys: [Word; BLOCK] = [0; BLOCK];
     let draws = fill(&mut xs, first.state);
     let s = r.state;
     let t = s.interpolate_block(&xs[..n], &mut ys[..n]);
@@ -368,17 +361,17 @@ fn told(t: Told) -> u64 {
     }
 }
 
-fn value(v: Interpolated) -> u32 {
+fn value(v: Interpolated) -> u64 {
     match v {
-        Interpolated::Value(y) => i32_as_u32(y),
-        Interpolated::Refused(k) => k,
+        Interpolated::Value(y) => bits_of(y),
+        Interpolated::Refused(k) => k as u64,
     }
 }
 
-// The gain modulo 2^32, as the Rust has it; the exact one is refused with 14 above 2^63 - 1 (a difference).
-fn gain_differs(t: Told, wrapped: u32) -> u64 {
+// The gain modulo the word, as the Rust has it; the exact one is refused with 14 above 2^63 - 1 (a difference).
+fn gain_differs(t: Told, wrapped: u64) -> u64 {
     match t {
-        Told::Number(v) => unlike(u64_as_u32(v), wrapped),
+        Told::Number(v) => unlike_double(bits_of(word_of(v)), wrapped),
         Told::Refused(k) => unlike(k, 14),
     }
 }
@@ -390,27 +383,27 @@ fn questions(w: [u32; 40]) -> u64 {
     if tick != w[6] {
         return 1;
     }
-    if i32_as_u32(s.get_decimate()) != w[7] {
+    if bits_of(s.get_decimate()) != double(w[7], w[8]) {
         return 1;
     }
-    if value(s.get_interpolate()) != w[8] {
+    if value(s.get_interpolate()) != double(w[9], w[10]) {
         return 1;
     }
-    if told(s.gain_log2()) != double(0, w[10]) {
+    if told(s.gain_log2()) != double(0, w[13]) {
         return 1;
     }
-    if told(s.response_length()) != double(0, w[11]) {
+    if told(s.response_length()) != double(0, w[14]) {
         return 1;
     }
-    gain_differs(s.gain(), w[9])
+    gain_differs(s.gain(), double(w[11], w[12]))
 }
 
 fn settle(w: [u32; 40]) -> u64 {
     let r = started(w);
     let s = r.state;
-    let made = s.settle_interpolate(u32_as_i32(w[6]));
+    let made = s.settle_interpolate(word_of(double(w[6], w[7])));
     let state = made.state;
-    unlike_double(digest_state(0, state), double(w[7], w[8]))
+    unlike_double(digest_state(0, state), double(w[8], w[9]))
 }
 
 fn clear(w: [u32; 40]) -> u64 {
@@ -418,7 +411,7 @@ fn clear(w: [u32; 40]) -> u64 {
     let s = r.state;
     let made = s.clear();
     let state = made.state;
-    unlike_double(digest_state(0, state), double(w[7], w[8]))
+    unlike_double(digest_state(0, state), double(w[8], w[9]))
 }
 
 // 1 where the line differs from what the proved functions give.
@@ -512,7 +505,7 @@ fn makers() -> u64 {
 }
 
 fn resumed(countdown: u32) -> u32 {
-    let m = Cic::resume(1, 1, 1, [0i32; 8], [0i32; 64], 0, countdown, 0);
+    let m = Cic::resume(1, 1, 1, [0; 8], [0; 64], 0, countdown, 0);
     let v = m.verdict;
     number(v)
 }
@@ -527,8 +520,8 @@ fn state(order: usize, delay: usize, rate: u32, countdown: u32, unsettled: usize
         unsettled,
         inputs: 0,
         hold: 0,
-        integrators: [0i32; 8],
-        combs: [0i32; 64],
+        integrators: [0; 8],
+        combs: [0; 64],
     }
 }
 
@@ -577,10 +570,17 @@ fn asked() -> u64 {
     n = tally(n, refused(state(7, 1, 511, 0, 0).gain()), 14);
     n = tally(n, refused(state(7, 1, 511, 0, 8).gain()), 14);
     n = tally(n, refused(state(7, 1, 510, 0, 8).gain()), 15);
-    n = tally(n, fitted(state(1, 1, 0, 0, 0).fit(0)), 17);
-    n = tally(n, fitted(state(1, 1, 0, 0, 0).fit(32)), 1);
-    n = tally(n, fitted(state(1, 1, 0, 0, 0).fit(33)), 17);
-    n = tally(n, fitted(state(3, 1, 4, 0, 0).fit(25)), 0);
+    n = tally(n, fitted(state(1, 1, 0, 0, 0).fit(32, 0)), 17);
+    n = tally(n, fitted(state(1, 1, 0, 0, 0).fit(32, 32)), 1);
+    n = tally(n, fitted(state(1, 1, 0, 0, 0).fit(32, 33)), 17);
+    n = tally(n, fitted(state(1, 1, 0, 0, 0).fit(64, 0)), 17);
+    n = tally(n, fitted(state(1, 1, 0, 0, 0).fit(64, 64)), 1);
+    n = tally(n, fitted(state(1, 1, 0, 0, 0).fit(64, 65)), 17);
+    n = tally(n, fitted(state(1, 1, 0, 0, 0).fit(33, 1)), 17);
+    n = tally(n, fitted(state(1, 1, 0, 0, 0).fit(63, 1)), 17);
+    n = tally(n, fitted(state(3, 1, 4, 0, 0).fit(32, 25)), 0);
+    n = tally(n, fitted(state(3, 1, 4, 0, 0).fit(64, 55)), 1);
+    n = tally(n, fitted(state(3, 1, 4, 0, 0).fit(64, 56)), 0);
     n
 }
 
@@ -626,23 +626,23 @@ fn single_steps() -> u64 {
     n
 }
 
-fn decimate_block_number(s: Cic, input: &[i32], out: &mut [i32]) -> u32 {
+fn decimate_block_number(s: Cic, input: &[Word], out: &mut [Word]) -> u32 {
     let r = s.decimate_block(input, out);
     let wrote = r.wrote;
     wrote_number(wrote)
 }
 
-fn interpolate_block_number(s: Cic, input: &[i32], out: &mut [i32]) -> u32 {
+fn interpolate_block_number(s: Cic, input: &[Word], out: &mut [Word]) -> u32 {
     let r = s.interpolate_block(input, out);
     let read = r.read;
     read_number(read)
 }
 
 fn lent_slices() -> u64 {
-    let two = [1i32; 2];
-    let one = [1i32; 1];
-    let mut out = [0i32; 1];
-    let mut three = [0i32; 3];
+    let two: [Word; 2] = [1; 2];
+    let one: [Word; 1] = [1; 1];
+    let mut out: [Word; 1] = [0; 1];
+    let mut three: [Word; 3] = [0; 3];
     let a = decimate_block_number(state(1, 1, 0, 0, 0), &one, &mut out);
     let b = decimate_block_number(state(1, 1, 0, 0, 0), &two, &mut out);
     let c = interpolate_block_number(state(1, 1, 1, 0, 0), &one, &mut out);
@@ -658,7 +658,7 @@ fn lent_slices() -> u64 {
 }
 
 fn main() {
-    let mut space = [0u8; 200000];
+    let mut space = [0u8; 250000];
     let n = io::read_full(0, &mut space);
     let text = &space[..n];
     compare(text, 1, b"decimator steps, whole state after each");
@@ -670,7 +670,7 @@ fn main() {
     compare(text, 7, b"clear");
     report(b"refusals of the makers", 9, makers());
     report(b"refusals of state calls", 8, state_calls());
-    report(b"refusals of questions", 8, asked());
+    report(b"refusals of questions", 15, asked());
     report(b"refusals of steps", 6, single_steps());
     report(
         b"refusals of blocks and of the settled part",

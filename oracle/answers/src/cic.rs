@@ -1,14 +1,14 @@
-//! src/cic.rs: the decimator and interpolator on i32.
+// src/cic.rs: the decimator and interpolator on Word. main.rs names it and takes this text in once for each.
 
-use crate::words::{Answers, Digest, Draw, longer, moved};
+use crate::words::{longer, moved, Answers, Cell, Digest, Draw};
 use dsp_process::Process;
 use idsp::Cic;
 
 const NONE: u32 = u32::MAX;
 const RATES: [u32; 7] = [0, 1, 2, 4, 63, 1023, 65535];
 
-/// A case: the filter's numbers, the seed of its cells and inputs, and a run's length, in steps or blocks, and later
-/// rate.
+/// A case: the filter's numbers, the seed of its cells and inputs, a run's length, in steps or blocks, and later rate,
+/// and the sample that the filter is settled on.
 #[derive(Clone, Copy)]
 struct Case {
     order: u32,
@@ -18,15 +18,16 @@ struct Case {
     seed: u32,
     steps: u32,
     later: u32,
+    sample: Word,
 }
 
 pub fn write(root: &str) {
-    let mut out = Answers::new(12);
+    let mut out = Answers::new(15);
     let mut draw = Draw::new(moved(3));
     short_runs(&mut out, &mut draw);
     block_runs(&mut out, &mut Draw::new(moved(4)));
     questions(&mut out, &mut draw);
-    out.write(root, "cic");
+    out.write(root, NAME);
 }
 
 /// Every order with every delay; delays 4 to 7 at one rate only.
@@ -54,6 +55,7 @@ fn short_runs(out: &mut Answers, draw: &mut Draw) {
                 seed: draw.word(),
                 steps: 48,
                 later: NONE,
+                sample: 0,
             };
             run(out, code, &case);
             // Another rate half way, and a countdown that may lie above the rate.
@@ -76,7 +78,7 @@ fn block_runs(out: &mut Answers, draw: &mut Draw) {
             let rate = RATES[draw.below(6) as usize];
             let later = if draw.below(2) == 0 { NONE } else { RATES[draw.below(6) as usize] };
             let (countdown, seed, steps) = (draw.below(24), draw.word(), longer(60));
-            blocks(out, code, &Case { order, delay, rate, countdown, seed, steps, later });
+            blocks(out, code, &Case { order, delay, rate, countdown, seed, steps, later, sample: 0 });
         }
         for (order, delay, rate, steps, later) in [
             (3, 1, 4, 10_000, NONE),
@@ -90,7 +92,7 @@ fn block_runs(out: &mut Answers, draw: &mut Draw) {
             (4, 1, 65535, 4_000, NONE),
         ] {
             let (seed, steps) = (moved(40 + order), longer(steps));
-            blocks(out, code, &Case { order, delay, rate, countdown: order, seed, steps, later });
+            blocks(out, code, &Case { order, delay, rate, countdown: order, seed, steps, later, sample: 0 });
         }
     }
 }
@@ -118,27 +120,29 @@ fn questions(out: &mut Answers, draw: &mut Draw) {
             seed: draw.word(),
             steps: 0,
             later: 0,
+            sample: 0,
         };
         let line = |c: &Case| [c.order, c.delay, c.rate, c.countdown, c.seed];
-        out.line(5, &[&line(&case), &asked_filter(&case)]);
+        let (tick, [decimated, interpolated, gain], sizes) = asked_filter(&case);
+        out.line(5, &[&line(&case), &tick, &decimated, &interpolated, &gain, &sizes]);
         if (order + delay + rate) % 2 == 0 {
-            case.later = draw.spread();
-            out.line(6, &[&line(&case), &case.later, &of_filter(&case, 6)]);
+            case.sample = Word::drawn(draw);
+            out.line(6, &[&line(&case), &case.sample.bits(), &of_filter(&case, 6)]);
         }
         if rate == 2 {
-            out.line(7, &[&line(&case), &0u32, &of_filter(&case, 7)]);
+            out.line(7, &[&line(&case), &0u64, &of_filter(&case, 7)]);
         }
     });
 }
 
 /// The filter of a case. The cells are drawn as eight integrators, eight rows of eight comb cells, and the
 /// hold; those beyond the order and delay are drawn too.
-fn filter<const N: usize, const M: usize>(c: &Case, draw: &mut Draw) -> Cic<i32, N, M> {
-    let integrators: [i32; 8] = draw.ints();
-    let combs: [[i32; 8]; 8] = std::array::from_fn(|_| draw.ints());
+fn filter<const N: usize, const M: usize>(c: &Case, draw: &mut Draw) -> Cic<Word, N, M> {
+    let integrators: [Word; 8] = draw.cells();
+    let combs: [[Word; 8]; 8] = std::array::from_fn(|_| draw.cells());
     let mut cic = Cic::new(c.rate);
     cic.index = c.countdown;
-    cic.zoh = draw.int();
+    cic.zoh = Word::drawn(draw);
     for j in 0..N {
         cic.integrators[j] = integrators[j];
         cic.combs[j].copy_from_slice(&combs[j][..M]);
@@ -146,7 +150,7 @@ fn filter<const N: usize, const M: usize>(c: &Case, draw: &mut Draw) -> Cic<i32,
     cic
 }
 
-fn feed_state<const N: usize, const M: usize>(digest: &mut Digest, cic: &Cic<i32, N, M>) {
+fn feed_state<const N: usize, const M: usize>(digest: &mut Digest, cic: &Cic<Word, N, M>) {
     digest.feed(&cic.index);
     digest.feed(&cic.zoh);
     digest.feed(&cic.integrators);
@@ -158,24 +162,22 @@ fn digest<const N: usize, const M: usize>(c: &Case, code: u32) -> Digest {
     let mut cic = filter::<N, M>(c, &mut draw);
     let mut digest = Digest::default();
     match code {
-        6 => cic.settle_interpolate(c.later as i32),
+        6 => cic.settle_interpolate(c.sample),
         7 => cic.clear(),
         _ => {
             for i in 0..c.steps {
                 if i == c.steps / 2 && c.later != NONE {
                     cic.set_rate(c.later);
                 }
-                let x = draw.int();
-                let y: Option<i32> = if code % 2 == 1 {
+                let x = Word::drawn(&mut draw);
+                let y: Option<Word> = if code % 2 == 1 {
                     cic.process(x)
                 } else {
                     let sample = cic.tick().then_some(x);
                     Some(cic.process(sample))
                 };
-                match y {
-                    Some(y) => digest.feed(&[1, y]),
-                    None => digest.feed(&0u32),
-                }
+                digest.feed(&(y.is_some() as u32));
+                y.iter().for_each(|y| digest.feed(y));
                 feed_state(&mut digest, &cic);
             }
         }
@@ -204,10 +206,10 @@ fn by_blocks<const N: usize, const M: usize>(c: &Case, code: u32) -> (Digest, u3
             cic.set_rate(c.later);
         }
         let len = length(&mut draw);
-        let words: [i32; 250] = draw.ints();
+        let words: [Word; 250] = draw.cells();
         let xs = &words[..len as usize];
-        let (count, ys): (u32, Vec<i32>) = if code == 3 {
-            let ys: Vec<i32> = xs.iter().filter_map(|x| cic.process(*x)).collect();
+        let (count, ys): (u32, Vec<Word>) = if code == 3 {
+            let ys: Vec<Word> = xs.iter().filter_map(|x| cic.process(*x)).collect();
             (ys.len() as u32, ys)
         } else {
             let mut due = xs.iter();
@@ -223,16 +225,14 @@ fn by_blocks<const N: usize, const M: usize>(c: &Case, code: u32) -> (Digest, u3
     (digest, taken)
 }
 
-fn asked<const N: usize, const M: usize>(c: &Case) -> [u32; 6] {
+/// `tick`; `get_decimate`, `get_interpolate`, `gain`; `gain_log2`, `response_length`.
+fn asked<const N: usize, const M: usize>(c: &Case) -> (u32, [u64; 3], [u32; 2]) {
     let cic = filter::<N, M>(c, &mut Draw::new(c.seed));
-    [
+    (
         cic.tick() as u32,
-        cic.get_decimate() as u32,
-        cic.get_interpolate() as u32,
-        cic.gain() as u32,
-        cic.gain_log2(),
-        cic.response_length() as u32,
-    ]
+        [cic.get_decimate(), cic.get_interpolate(), cic.gain()].map(Word::bits),
+        [cic.gain_log2(), cic.response_length() as u32],
+    )
 }
 
 /// Order and delay are const generics in the crate: all 72 pairs are compiled in.
@@ -277,6 +277,6 @@ fn by_blocks_filter(c: &Case, code: u32) -> (Digest, u32) {
     of_order!(by_blocks, c, code)
 }
 
-fn asked_filter(c: &Case) -> [u32; 6] {
+fn asked_filter(c: &Case) -> (u32, [u64; 3], [u32; 2]) {
     of_order!(asked, c)
 }

@@ -3,7 +3,6 @@
 //! The lines and runs are told in oracle/README.md.
 
 mod biquad;
-mod cic;
 mod dsm;
 mod fixed;
 mod pll;
@@ -11,6 +10,19 @@ mod rpll;
 mod unwrap;
 mod wdf;
 mod words;
+
+/// src/cic.rs on each word: one text, the word named before it.
+mod cic {
+    type Word = i32;
+    const NAME: &str = "cic";
+    include!("cic.rs");
+}
+
+mod cic64 {
+    type Word = i64;
+    const NAME: &str = "cic64";
+    include!("cic.rs");
+}
 
 fn main() {
     let mut words = std::env::args().skip(1);
@@ -21,6 +33,7 @@ fn main() {
     unwrap::write(&root);
     dsm::write(&root);
     cic::write(&root);
+    cic64::write(&root);
     wdf::write(&root);
     fixed::write(&root);
     pll::write(&root);

@@ -73,6 +73,32 @@ impl<T: Words, const N: usize> Words for [T; N] {
     }
 }
 
+/// A word of the decimator and interpolator: drawn by spread, the high word first, and a number by its bits.
+pub trait Cell: Words {
+    fn drawn(draw: &mut Draw) -> Self;
+    fn bits(self) -> u64;
+}
+
+impl Cell for i32 {
+    fn drawn(draw: &mut Draw) -> Self {
+        draw.int()
+    }
+
+    fn bits(self) -> u64 {
+        self as u32 as u64
+    }
+}
+
+impl Cell for i64 {
+    fn drawn(draw: &mut Draw) -> Self {
+        draw.long()
+    }
+
+    fn bits(self) -> u64 {
+        self as u64
+    }
+}
+
 /// The generator: a linear congruence modulo 2^64 whose high word is the draw.
 pub struct Draw(u64);
 
@@ -110,6 +136,11 @@ impl Draw {
     /// `K` spread words.
     pub fn ints<const K: usize>(&mut self) -> [i32; K] {
         std::array::from_fn(|_| self.int())
+    }
+
+    /// `K` spread words of the decimator and interpolator.
+    pub fn cells<T: Cell, const K: usize>(&mut self) -> [T; K] {
+        std::array::from_fn(|_| T::drawn(self))
     }
 
     /// A draw below `n`.
@@ -164,7 +195,7 @@ impl Answers {
 
     /// Writes `crates/compare_NAME/stdin` under `root`.
     pub fn write(self, root: &str, name: &str) {
-        assert!(self.text.len() < 200_000, "{name}: {} bytes", self.text.len());
+        assert!(self.text.len() < 250_000, "{name}: {} bytes", self.text.len());
         let folder = format!("{root}/crates/compare_{name}");
         std::fs::create_dir_all(&folder).unwrap();
         std::fs::write(format!("{folder}/stdin"), &self.text).unwrap();

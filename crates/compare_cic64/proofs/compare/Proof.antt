@@ -1,0 +1,19 @@
+-- A turn for each line; the counts wrap.
+use Prim.Native.Nat.{_≤_, _-_}
+use borrow.Author.Needs.{needs}
+use Rattle.compare_cic64.proofs.compare.Statement.{statement}
+use Rattle.compare_cic64.proofs.compare.Tie as tie
+
+abbrev Inv-loop : tie.InvT-loop
+Inv-loop text code name cases₀ differ₀ past₀ i₀ cases differ past i = i ≤ 1820
+
+abbrev μ-loop : tie.MeasureT-loop
+μ-loop text code name cases₀ differ₀ past₀ i₀ cases differ past i = 1820 - i
+
+pub compare-spec : {M : Type 1} → statement M
+compare-spec =
+    tie.close
+    (tie.spec Inv-loop μ-loop (λ c. search needs) (λ c. search needs) (λ c κs. search needs) (λ c. search needs)
+    (λ c κs. search needs) (λ c κs. search needs) (λ c κs. search needs) (λ c κs. search needs)
+    (λ c κs. search needs) (λ c κs. search needs) (λ c. search needs) (λ c. search needs) (λ c. search needs)
+    (λ c κs. search needs) (λ c κs. search needs) (λ c. search needs))
