@@ -9,7 +9,7 @@ use lib.Dec.{ltb}
 use lib.IntN.{ℤ, pos, negsuc}
 use lib.ListN.{length, take, drop, set, getD, length-append, length-drop, length-set}
 use lib.Seq.{drop-cons, take-suc, drop-length, take-length, length-take-le, set-at}
-use mir.Syntax.{w32}
+use mir.Syntax.{w32, w64}
 use mir.Val.{SFits}
 use borrow.Author.Tests.{lt-ltb, le-ltb, ltb-true}
 use Rattle.words.specs.Words.{word}
@@ -177,22 +177,27 @@ filling-done o ds at o' left i h f =
     f .text ∙ ap (λ (k : ℕ). overlaid o k (drop (k - at) ds)) e ∙ rw z refl
 
 -- a number's sign and size, from its bits
-pub from-zero : (v : ℤ) (u : ℕ) → SFits w32 v → u ≡ word w32 v → u < 2147483648 → decimalOf u ≡ signedOf v
+pub from-zero : (v : ℤ) (u : ℕ) → SFits w64 v → u ≡ word w64 v → u < 9223372036854775808 → decimalOf u ≡ signedOf v
 unfolding word
 from-zero (pos n) u f e h = ap decimalOf (e ∙ omega (arith, f .sfits))
 from-zero (negsuc n) u f e h = absurd (omega (arith, f .sfits))
 
-pub below-zero : (v : ℤ) (u : ℕ) → SFits w32 v → u ≡ word w32 v → 2147483648 ≤ u → 45 ∷ decimalOf (4294967296 - u) ≡ signedOf v
+pub below-zero : (v : ℤ) (u size : ℕ) → SFits w64 v → u ≡ word w64 v → 9223372036854775808 ≤ u → size + u ≡ 18446744073709551616
+    → 45 ∷ decimalOf size ≡ signedOf v
 unfolding word
-below-zero (pos n) u f e h = absurd (omega (arith, f .sfits))
-below-zero (negsuc n) u f e h =
-    let m : 4294967296 - u ≡ suc n = omega (arith, f .sfits) in
-    ap (λ (k : ℕ). 45 ∷ decimalOf k) m
+below-zero (pos n) u size f e h m = absurd (omega (arith, f .sfits))
+below-zero (negsuc n) u size f e h m =
+    let k : size ≡ suc n = omega (arith, f .sfits) in
+    ap (λ (k : ℕ). 45 ∷ decimalOf k) k
 
--- a number of 32 bits has at most 10 digits, and with its sign at most 11 bytes
+-- a number of 32 bits has at most 10 digits, and with its sign at most 11 bytes; one of 64 bits at most 20 bytes
 pub decimal-most : (n : ℕ) → n < 2 ^ 32 → length (decimalOf n) ≤ 10
 decimal-most n h = spelt-most 9 20 n (omega arith)
 
 pub signed-most : (v : ℤ) → SFits w32 v → length (signedOf v) ≤ 11
 signed-most (pos n) f = omega (arith, decimal-most n (omega (arith, f .sfits)))
 signed-most (negsuc n) f = omega (arith, decimal-most (suc n) (omega (arith, f .sfits)))
+
+pub signed-most64 : (v : ℤ) → SFits w64 v → length (signedOf v) ≤ 20
+signed-most64 (pos n) f = omega (arith, spelt-short 20 n)
+signed-most64 (negsuc n) f = omega (arith, spelt-most 18 20 (suc n) (omega (arith, f .sfits)))

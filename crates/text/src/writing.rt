@@ -1,6 +1,7 @@
 // Bytes put into a lent buffer at a place. Each call gives the next place; where its bytes do not all fit, it writes
 // nothing and gives the place back. The rest of the buffer stays.
-use words::casts::i32_as_u32;
+use words::casts::i32_as_i64;
+use words::casts::i64_as_u64;
 ghost use mathlib.Core.Path.{_≡_};
 ghost use mathlib.Core.List.{[], _∷_};
 ghost use Prim.Native.Nat.{_+_};
@@ -83,18 +84,25 @@ pub fn put_decimal(out: &mut [u8], at: usize, n: u64) -> usize
     end
 }
 
-// A number with its sign, in decimal.
-pub fn put_signed(out: &mut [u8], at: usize, v: i32) -> usize
+// A number of 64 bits with its sign, in decimal.
+pub fn put_signed64(out: &mut [u8], at: usize, v: i64) -> usize
     ensures { λ r. ⌜ Puts (now (out .entry)) at (signedOf v) r (now (out .exit)) ⌝ }
 {
-    let bits = i32_as_u32(v) as u64;
-    if bits < 2147483648 {
+    let bits = i64_as_u64(v);
+    if bits < 9223372036854775808 {
         return put_decimal(out, at, bits);
     }
-    let size = 4294967296 - bits;
+    let size = (18446744073709551615 - bits) + 1;
     if !has_room(out.len(), at, width(size) + 1) {
         return at;
     }
     let next = put_byte(out, at, b'-');
     put_decimal(out, next, size)
+}
+
+// A number of 32 bits with its sign, in decimal.
+pub fn put_signed(out: &mut [u8], at: usize, v: i32) -> usize
+    ensures { λ r. ⌜ Puts (now (out .entry)) at (signedOf v) r (now (out .exit)) ⌝ }
+{
+    put_signed64(out, at, i32_as_i64(v))
 }
