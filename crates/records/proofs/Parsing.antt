@@ -9,7 +9,7 @@ use lib.Dec.{leb, ltb, eqb}
 use lib.IntN.{pos, negsuc}
 use lib.ListN.{length, take, drop, drop-of-length-le, length-drop}
 use lib.Seq.{drop-cons, getD-drop}
-use mir.Syntax.{w32}
+use mir.Syntax.{w64}
 use mir.ValLaws.{toZ-pos, toZ-neg}
 use borrow.Author.Tests.{eq-eqb, ne-eqb, lt-leb, leb-true, leb-false, ltb-true, ltb-false, eqb-true}
 use Rattle.text.specs.Letters.{tab}
@@ -25,6 +25,7 @@ use Rattle.records.specs.Lines.{
   integerOf,
   withNatural,
   fieldAt,
+  openingRecord,
   namedRecord,
   nameOf,
   wantedOf,
@@ -79,33 +80,33 @@ natural-capped (Minus v) = refl
 natural-capped Wrong = refl
 
 pub integer-capped : (n : Number) → integerOf (capped n) ≡ integerOf n
-integer-capped (Plus v) = by (leb v 2147483647) refl
+integer-capped (Plus v) = by (leb v 9223372036854775807) refl
   where
-    by : (t : Bool) → leb v 2147483647 ≡ t → cond (leb (min v cap) 2147483647) (Integer.Within (pos (min v cap))) Integer.Outside
+    by : (t : Bool) → leb v 9223372036854775807 ≡ t → cond (leb (min v cap) 9223372036854775807) (Integer.Within (pos (min v cap))) Integer.Outside
         ≡ cond t (Integer.Within (pos v)) Integer.Outside
-    by true e = let h = leb-true v 2147483647 e in let m : min v cap ≡ v = omega arith in rw (m, e)
-    by false e = let h = leb-false v 2147483647 e in rw (lt-leb (min v cap) 2147483647 (omega arith))
-integer-capped (Minus v) = by (leb v 2147483648) refl
+    by true e = let h = leb-true v 9223372036854775807 e in let m : min v cap ≡ v = omega arith in rw (m, e)
+    by false e = let h = leb-false v 9223372036854775807 e in rw (lt-leb (min v cap) 9223372036854775807 (omega arith))
+integer-capped (Minus v) = by (leb v 9223372036854775808) refl
   where
-    by : (t : Bool) → leb v 2147483648 ≡ t → integerOf (Minus (min v cap)) ≡ integerOf (Minus v)
-    by true e = let h = leb-true v 2147483648 e in let m : min v cap ≡ v = omega arith in rw m
+    by : (t : Bool) → leb v 9223372036854775808 ≡ t → integerOf (Minus (min v cap)) ≡ integerOf (Minus v)
+    by true e = let h = leb-true v 9223372036854775808 e in let m : min v cap ≡ v = omega arith in rw m
     by false e =
-        let h = leb-false v 2147483648 e in
+        let h = leb-false v 9223372036854775808 e in
         let x : v ≡ 0 → ⊥ = λ z. omega arith in
         let y : min v cap ≡ 0 → ⊥ = λ z. omega arith in
-        rw (ne-eqb _ _ x, ne-eqb _ _ y, e, lt-leb (min v cap) 2147483648 (omega arith))
+        rw (ne-eqb _ _ x, ne-eqb _ _ y, e, lt-leb (min v cap) 9223372036854775808 (omega arith))
 integer-capped Wrong = refl
 
 -- a number within the word
-pub plus-in : (v : ℕ) → v ≤ 2147483647 → wrap w32 (pos v) ≡ pos v
+pub plus-in : (v : ℕ) → v ≤ 9223372036854775807 → wrap w64 (pos v) ≡ pos v
 unfolding wrap
-plus-in v h = rw (word-is w32 v (omega arith)) (toZ-pos w32 v (omega arith))
+plus-in v h = rw (word-is w64 v (omega arith)) (toZ-pos w64 v (omega arith))
 
-pub minus-in : (v : ℕ) → (v ≡ 0 → ⊥) → v ≤ 2147483648 → wrap w32 (pos (4294967296 - v)) ≡ negsuc (v - 1)
+pub minus-in : (v : ℕ) → (v ≡ 0 → ⊥) → v ≤ 9223372036854775808 → wrap w64 (pos (18446744073709551615 - (v - 1))) ≡ negsuc (v - 1)
 unfolding wrap
 minus-in v k h =
-    let m : 4294967296 - v ≡ 2 ^ 32 - suc (v - 1) = omega arith in
-    rw (word-is w32 (4294967296 - v) (omega arith), m) (toZ-neg w32 (v - 1) (omega arith))
+    let m : 18446744073709551615 - (v - 1) ≡ 2 ^ 64 - suc (v - 1) = omega arith in
+    rw (word-is w64 (18446744073709551615 - (v - 1)) (omega arith), m) (toZ-neg w64 (v - 1) (omega arith))
 
 -- the second field is the first of what follows the first, and so on
 pub second : (fs gs : List (List ℕ)) → gs ≡ drop 1 fs → fieldAt gs 0 ≡ fieldAt fs 1
@@ -123,10 +124,10 @@ natural-is v r n e d = d ∙ ap naturalOf e ∙ natural-capped n
 pub integer-is : (v : Number) (r : Integer) (n : Number) → v ≡ capped n → r ≡ integerOf v → r ≡ integerOf n
 integer-is v r n e d = d ∙ ap integerOf e ∙ integer-capped n
 
-pub cic-is : (fs : List (List ℕ)) (a b c : Natural) → a ≡ naturalOf (fieldAt fs 0) → b ≡ naturalOf (fieldAt fs 1) → c
+pub opening-is : (wide : Bool) (fs : List (List ℕ)) (a b c : Natural) → a ≡ naturalOf (fieldAt fs 0) → b ≡ naturalOf (fieldAt fs 1) → c
     ≡ naturalOf (fieldAt fs 2)
-    → withNatural a (λ n. withNatural b (λ m. withNatural c (λ rate. Open n m rate))) ≡ namedRecord Name.Cic fs
-cic-is fs a b c p q s = simp (p, q, s)
+    → withNatural a (λ n. withNatural b (λ m. withNatural c (λ rate. Open wide n m rate))) ≡ openingRecord wide fs
+opening-is wide fs a b c p q s = simp (p, q, s)
 
 -- a line by its name, where the first tab stands at e
 module _ (l : List ℕ) (e : ℕ) (first : e ≡ endOf tab l 0) where

@@ -3,45 +3,87 @@ use mathlib.Core.Path.{_≡_, refl, sym, ap, _∙_}
 use mathlib.Core.Bool.{Bool, true, false, cond}
 use mathlib.Core.List.{List}
 use mathlib.Core.Option.{Option, none, some}
+use native.Mathlib.Omega.{arith}
 use Prim.Native.Nat.{ℕ, zero, suc, _≤_, _<_}
-use lib.IntN.{ℤ}
+use lib.IntN.{ℤ, pos, negsuc}
+use lib.Signed.{ltZ}
 use lib.ListN.{length}
-use borrow.Author.Tests.{lt-ltb, le-ltb}
+use mir.Syntax.{w32, w64}
+use mir.Val.{SFits}
+use borrow.Author.Tests.{lt-ltb, le-ltb, ltb-true}
+use Rattle.words.specs.Words.{wrap}
+use Rattle.words.proofs.Reading.{wrap-is}
 use Rattle.blocks.specs.declared.Verdict.{Verdict}
 use Rattle.sums.specs.Counted.{Counted, Numbered, takeNumber, takeState, takeGiven}
-use Rattle.cic.specs.Word.{wordOps}
-use Rattle.cic.specs.Reading.{countedOf, cicOf}
-use Rattle.cic.specs.Answers.{answerOutput, outOf, steppedOf, madeOf}
-use Rattle.cic.specs.declared.state.Cic.{Cic}
-use Rattle.cic.specs.declared.state.Made.{Made}
-use Rattle.cic.specs.declared.steps.Output as answer
-use Rattle.cic.specs.declared.steps.Out.{Out}
-use Rattle.cic.specs.declared.steps.Out.the-variants as Out
-use Rattle.cic.specs.declared.steps.Stepped.{Stepped}
+use Rattle.cic64.specs.Word.{wordOps}
+use Rattle.cic64.specs.Reading.{countedOf, cicOf}
+use Rattle.cic64.specs.Answers.{answerOutput, outOf, steppedOf, madeOf}
+use Rattle.cic64.specs.declared.state.Cic.{Cic}
+use Rattle.cic64.specs.declared.state.Made.{Made}
+use Rattle.cic64.specs.declared.steps.Output as answer
+use Rattle.cic64.specs.declared.steps.Out.{Out}
+use Rattle.cic64.specs.declared.steps.Out.the-variants as Out
+use Rattle.cic64.specs.declared.steps.Stepped.{Stepped}
 use Rattle.records.specs.Lines.{recordOf}
-use Rattle.records.specs.Sessions.{refuse, kept, toldBy, ordered, sampled, takeOf, lineOf}
+use Rattle.records.specs.Sessions.{
+  widthOf,
+  within,
+  shown,
+  keptWords,
+  refuse,
+  kept,
+  toldBy,
+  ordered,
+  sampled,
+  takeOf,
+  lineOf,
+}
 use Rattle.records.specs.declared.parse.Record.{Record}
 use Rattle.records.specs.declared.session.Session.{Session}
 use Rattle.records.specs.declared.session.Reply.{Reply}
 use Rattle.records.specs.declared.session.Reply.the-variants as Reply
 use Rattle.records.specs.declared.session.Taken.{Taken}
 
-pub ordered-is : (s : Session) (number : ℕ) (t : Counted ℤ) (m : Made) (r : Taken) → m ≡ madeOf number t → r
-    ≡ toldBy s (m .state) (m .verdict) → r ≡ ordered s number t
-ordered-is s number t m r e w = w ∙ ap (λ (x : Made). toldBy s (x .state) (x .verdict)) e
+-- the tests of the code, and what it reads
+pub within-wide : (wide : Bool) (v : ℤ) → wide ≡ true → SFits w64 v → true ≡ within wide v
+within-wide true v e h = sym (lt-ltb _ _ (h .sfits))
+within-wide false v e h = cc
 
-pub told-as : (s : Session) (f : Cic) (v w : Verdict) (r : Taken) → v ≡ w → r ≡ toldBy s f w → r ≡ toldBy s f v
-told-as s f v w r e h = h ∙ ap (toldBy s f) (sym e)
+pub within-low : (wide : Bool) (v : ℤ) → wide ≡ false → ltZ v (pos 0) ≡ true → ltZ (negsuc 2147483648) v ≡ within wide v
+within-low true v e h = cc
+within-low false (pos n) e h = absurd (let k = ltb-true n 0 h in omega arith)
+within-low false (negsuc n) e h = refl
+
+pub within-high : (wide : Bool) (v : ℤ) → wide ≡ false → ltZ v (pos 0) ≡ false → ltZ v (pos 2147483648) ≡ within wide v
+within-high true v e h = cc
+within-high false (pos n) e h = refl
+within-high false (negsuc n) e h = cc
+
+pub read-wide : (wide : Bool) (v : ℤ) → wide ≡ true → SFits w64 v → v ≡ wrap (widthOf wide) v
+read-wide true v e h = sym (wrap-is w64 v h)
+read-wide false v e h = cc
+
+pub read-narrow : (wide : Bool) (v : ℤ) → wide ≡ false → wrap w32 v ≡ wrap (widthOf wide) v
+read-narrow true v e = cc
+read-narrow false v e = refl
+
+pub ordered-is : (s : Session) (wide : Bool) (number : ℕ) (t : Counted ℤ) (m : Made) (r : Taken) → m ≡ madeOf number t → r
+    ≡ toldBy s wide (m .state) (m .verdict) → r ≡ ordered s wide number t
+ordered-is s wide number t m r e w = w ∙ ap (λ (x : Made). toldBy s wide (x .state) (x .verdict)) e
+
+pub told-as : (s : Session) (wide : Bool) (f : Cic) (v w : Verdict) (r : Taken) → v ≡ w → r ≡ toldBy s wide f w → r ≡ toldBy s wide f v
+told-as s wide f v w r e h = h ∙ ap (toldBy s wide f) (sym e)
 
 sampled-given : (s : Session) (t : Counted ℤ) (y : answer.Output) (number : ℕ) (g : Option (Numbered ℤ)) → outOf number g ≡ Out.Given y
-    → kept (cicOf t) (Reply.Output y) ≡ sampled s number t g
+    → kept (s .wide) (cicOf t) (Reply.Output (shown (s .wide) y)) ≡ sampled s number t g
 unfolding outOf
-sampled-given s t y zero (some o) e = let p : answerOutput o ≡ y = cc in ap (λ (z : answer.Output). kept (cicOf t) (Reply.Output z)) (sym p)
+sampled-given s t y zero (some o) e = let p : answerOutput o ≡ y = cc in ap
+    (λ (z : answer.Output). kept (s .wide) (cicOf t) (Reply.Output (shown (s .wide) z))) (sym p)
 sampled-given s t y zero none e = cc
 sampled-given s t y (suc k) g e = cc
 
 sampled-none : (s : Session) (t : Counted ℤ) (number : ℕ) (g : Option (Numbered ℤ)) → outOf number g ≡ Out.Nothing
-    → kept (cicOf t) Reply.Silent ≡ sampled s number t g
+    → kept (s .wide) (cicOf t) Reply.Silent ≡ sampled s number t g
 unfolding outOf
 sampled-none s t zero (some o) e = cc
 sampled-none s t zero none e = refl
@@ -63,20 +105,20 @@ module _ (s : Session) (x : ℤ) (d : Stepped) (e : d ≡ steppedOf (s .filter) 
   out-is : (o : Out) → d .out ≡ o → outOf (takeNumber (countedOf (s .filter)) 1) (takeGiven wordOps (countedOf (s .filter)) x) ≡ o
   out-is o h = sym (ap (λ (r : Stepped). r .out) e) ∙ h
 
-  state-is : (reply : Reply) → kept (d .state) reply ≡ kept (cicOf (takeState wordOps (countedOf (s .filter)) x)) reply
-  state-is reply = ap (λ (r : Stepped). kept (r .state) reply) e
+  state-is : (reply : Reply) → kept (s .wide) (d .state) reply ≡ kept (s .wide) (cicOf (takeState wordOps (countedOf (s .filter)) x)) reply
+  state-is reply = ap (λ (r : Stepped). kept (s .wide) (r .state) reply) e
 
-  pub step-given : (y : answer.Output) → d .out ≡ Out.Given y → kept (d .state) (Reply.Output y) ≡ of-step
-  step-given y h = state-is (Reply.Output y) ∙ sampled-given s _ y _ _ (out-is (Out.Given y) h)
+  pub step-given : (y : answer.Output) → d .out ≡ Out.Given y → kept (s .wide) (d .state) (Reply.Output (shown (s .wide) y)) ≡ of-step
+  step-given y h = state-is (Reply.Output (shown (s .wide) y)) ∙ sampled-given s _ y _ _ (out-is (Out.Given y) h)
 
-  pub step-none : d .out ≡ Out.Nothing → kept (d .state) Reply.Silent ≡ of-step
+  pub step-none : d .out ≡ Out.Nothing → kept (s .wide) (d .state) Reply.Silent ≡ of-step
   step-none h = state-is Reply.Silent ∙ sampled-none s _ _ _ (out-is Out.Nothing h)
 
   pub step-refused : (k : ℕ) → d .out ≡ Out.Refused k → refuse s k ≡ of-step
   step-refused k h = sampled-refused s _ k _ _ (out-is (Out.Refused k) h)
 
-pub takes : (s : Session) (r x : Record) (t : Taken) → r ≡ x → t ≡ takeOf s x → t ≡ takeOf s r
-takes s r x t e w = w ∙ ap (takeOf s) (sym e)
+pub takes : (s : Session) (r x : Record) (t : Taken) → r ≡ x → t ≡ takeOf keptWords s x → t ≡ takeOf keptWords s r
+takes s r x t e w = w ∙ ap (takeOf keptWords s) (sym e)
 
 pub is-true : {A : Type 0} (b : Bool) (x y : A) → b ≡ true → x ≡ cond b x y
 is-true b x y e = sym (rw e)
@@ -84,10 +126,10 @@ is-true b x y e = sym (rw e)
 pub is-false : {A : Type 0} (b : Bool) (x y : A) → b ≡ false → y ≡ cond b x y
 is-false b x y e = sym (rw e)
 
-pub line-long : (s : Session) (l : List ℕ) (t : Taken) → 64 < length l → t ≡ refuse s 72 → t ≡ lineOf s l
+pub line-long : (s : Session) (l : List ℕ) (t : Taken) → 64 < length l → t ≡ refuse s 72 → t ≡ lineOf keptWords s l
 unfolding lineOf
 line-long s l t h w = w ∙ sym (rw (lt-ltb _ _ h))
 
-pub line-short : (s : Session) (l : List ℕ) (r : Record) (t : Taken) → length l ≤ 64 → r ≡ recordOf l → t ≡ takeOf s r → t ≡ lineOf s l
+pub line-short : (s : Session) (l : List ℕ) (r : Record) (t : Taken) → length l ≤ 64 → r ≡ recordOf l → t ≡ takeOf keptWords s r → t ≡ lineOf keptWords s l
 unfolding lineOf
-line-short s l r t h p w = w ∙ ap (takeOf s) p ∙ sym (rw (le-ltb _ _ h))
+line-short s l r t h p w = w ∙ ap (takeOf keptWords s) p ∙ sym (rw (le-ltb _ _ h))

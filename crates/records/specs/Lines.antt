@@ -1,5 +1,5 @@
--- 01, 'The replay program', a line read as a record: `cic N M rate`, `rate r`, `x v`, `clear`.
-use mathlib.Core.Bool.{cond}
+-- 01, 'The replay program', a line read as a record: `cic N M rate`, `rate r`, `x v`, `clear`; 02, A1: `cic64` with the fields of `cic`.
+use mathlib.Core.Bool.{Bool, true, false, cond}
 use mathlib.Core.List.{List, [], _∷_}
 use Prim.Native.Nat.{ℕ, _-_}
 use lib.Dec.{leb, eqb}
@@ -24,13 +24,15 @@ use Rattle.records.specs.declared.parse.Record.the-variants.{Open, Rate,
 unfoldable pub nameOf : List ℕ → Name
 nameOf field =
     cond (same field (bytes "cic")) Name.Cic
+    (cond (same field (bytes "cic64")) Name.Cic64
     (cond (same field (bytes "rate")) Name.Rate
     (cond (same field (bytes "x")) Name.X
-    (cond (same field (bytes "clear")) Name.Clear Name.Unknown)))
+    (cond (same field (bytes "clear")) Name.Clear Name.Unknown))))
 
 -- how many fields follow it
 abbrev pub wantedOf : Name → ℕ
 wantedOf Name.Cic = 3
+wantedOf Name.Cic64 = 3
 wantedOf Name.Rate = 1
 wantedOf Name.X = 1
 wantedOf Name.Clear = 0
@@ -42,10 +44,10 @@ naturalOf (Plus v) = cond (leb v 4294967295) (Natural.Within v) Natural.Outside
 naturalOf (Minus v) = Natural.Outside
 naturalOf Wrong = Natural.Outside
 
--- v within i32; no number is minus 0
+-- v within i64, the widest word; whether it lies within the session's, the session tells. No number is minus 0
 abbrev pub integerOf : Number → Integer
-integerOf (Plus v) = cond (leb v 2147483647) (Integer.Within (pos v)) Integer.Outside
-integerOf (Minus v) = cond (eqb v 0) Integer.Outside (cond (leb v 2147483648) (Integer.Within (negsuc (v - 1))) Integer.Outside)
+integerOf (Plus v) = cond (leb v 9223372036854775807) (Integer.Within (pos v)) Integer.Outside
+integerOf (Minus v) = cond (eqb v 0) Integer.Outside (cond (leb v 9223372036854775808) (Integer.Within (negsuc (v - 1))) Integer.Outside)
 integerOf Wrong = Integer.Outside
 
 -- else 70
@@ -61,11 +63,16 @@ withInteger Integer.Outside make = Malformed
 abbrev pub fieldAt : List (List ℕ) → ℕ → Number
 fieldAt fields i = numberOf (getD fields i [])
 
+-- the record that opens a replay, with words of 64 bits or of 32
+abbrev pub openingRecord : Bool → List (List ℕ) → Record
+openingRecord wide fields =
+    withNatural (naturalOf (fieldAt fields 0))
+    (λ n. withNatural (naturalOf (fieldAt fields 1)) (λ m. withNatural (naturalOf (fieldAt fields 2)) (λ rate. Open wide n m rate)))
+
 -- the record of a name, by its fields
 abbrev pub namedRecord : Name → List (List ℕ) → Record
-namedRecord Name.Cic fields =
-    withNatural (naturalOf (fieldAt fields 0))
-    (λ n. withNatural (naturalOf (fieldAt fields 1)) (λ m. withNatural (naturalOf (fieldAt fields 2)) (λ rate. Open n m rate)))
+namedRecord Name.Cic fields = openingRecord false fields
+namedRecord Name.Cic64 fields = openingRecord true fields
 namedRecord Name.Rate fields = withNatural (naturalOf (fieldAt fields 0)) (λ rate. Rate rate)
 namedRecord Name.X fields = withInteger (integerOf (fieldAt fields 0)) (λ v. Sample v)
 namedRecord Name.Clear fields = Clear

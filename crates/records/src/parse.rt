@@ -4,20 +4,20 @@ use text::numbers::Number;
 use text::numbers::parsed;
 use text::parts::part_end;
 use text::parts::separators;
-use words::casts::u32_as_i32;
+use words::casts::u64_as_i64;
 ghost use mathlib.Core.Path.{_≡_};
 ghost use Prim.Native.Nat.{_≤_};
 ghost use lib.ListN.{length, drop};
 ghost use Rattle.text.specs.Letters.{tab};
 ghost use Rattle.text.specs.Parts.{behind};
-ghost use Rattle.records.specs.Lines.{nameOf, wantedOf, naturalOf, integerOf, withNatural, namedRecord, recordOf};
+ghost use Rattle.records.specs.Lines.{nameOf, wantedOf, naturalOf, integerOf, openingRecord, withNatural, namedRecord, recordOf};
 ghost use Rattle.records.specs.Inner.Fields.{Reads};
 
-// A line's record, or that it is none (01, refusal 70).
+// A line's record, or that it is none (01, refusal 70). A filter is opened with words of 64 bits (`cic64`) or of 32 (`cic`).
 pub enum Record {
-    Open(u32, u32, u32),
+    Open(bool, u32, u32, u32),
     Rate(u32),
-    Sample(i32),
+    Sample(i64),
     Clear,
     Malformed,
 }
@@ -25,6 +25,7 @@ pub enum Record {
 // The name in a line's first field.
 pub enum Name {
     Cic,
+    Cic64,
     Rate,
     X,
     Clear,
@@ -37,9 +38,9 @@ pub enum Natural {
     Outside,
 }
 
-// A number within i32.
+// A number within i64.
 pub enum Integer {
-    Within(i32),
+    Within(i64),
     Outside,
 }
 
@@ -54,6 +55,9 @@ fn named(name: &[u8]) -> Name
 {
     if same_bytes(name, b"cic") {
         return Name::Cic;
+    }
+    if same_bytes(name, b"cic64") {
+        return Name::Cic64;
     }
     if same_bytes(name, b"rate") {
         return Name::Rate;
@@ -73,6 +77,7 @@ fn wanted(name: Name) -> usize
 {
     match name {
         Name::Cic => 3,
+        Name::Cic64 => 3,
         Name::Rate => 1,
         Name::X => 1,
         Name::Clear => 0,
@@ -97,14 +102,14 @@ fn natural_of(n: Number) -> Natural
     }
 }
 
-// A number within i32.
+// A number within i64.
 pub fn integer_of(n: Number) -> Integer
     ensures { λ r. ⌜ r ≡ integerOf n ⌝ }
 {
     match n {
         Number::Plus(v) => {
-            if v <= 2147483647 {
-                Integer::Within(u32_as_i32(v as u32))
+            if v <= 9223372036854775807 {
+                Integer::Within(u64_as_i64(v))
             } else {
                 Integer::Outside
             }
@@ -113,8 +118,8 @@ pub fn integer_of(n: Number) -> Integer
             if v == 0 {
                 return Integer::Outside;
             }
-            if v <= 2147483648 {
-                Integer::Within(u32_as_i32((4294967296 - v) as u32))
+            if v <= 9223372036854775808 {
+                Integer::Within(u64_as_i64(18446744073709551615 - (v - 1)))
             } else {
                 Integer::Outside
             }
@@ -134,8 +139,8 @@ fn field(line: &[u8], e: usize) -> Cell
     Cell { value, end }
 }
 
-fn opening(a: Natural, b: Natural, c: Natural) -> Record
-    ensures { λ r. ⌜ r ≡ withNatural a (λ n. withNatural b (λ m. withNatural c (λ rate. Record.Open n m rate))) ⌝ }
+fn opening(wide: bool, a: Natural, b: Natural, c: Natural) -> Record
+    ensures { λ r. ⌜ r ≡ withNatural a (λ n. withNatural b (λ m. withNatural c (λ rate. Record.Open wide n m rate))) ⌝ }
 {
     let Natural::Within(n) = a else {
         return Record::Malformed;
@@ -146,12 +151,12 @@ fn opening(a: Natural, b: Natural, c: Natural) -> Record
     let Natural::Within(rate) = c else {
         return Record::Malformed;
     };
-    Record::Open(n, m, rate)
+    Record::Open(wide, n, m, rate)
 }
 
-fn cic_record(line: &[u8], e: usize) -> Record
+fn opening_record(wide: bool, line: &[u8], e: usize) -> Record
     requires { ⌜ length (behind tab (drop e (now line))) ≡ 3 ⌝ }
-    ensures { λ r. ⌜ r ≡ namedRecord Name.Cic (behind tab (drop e (now (line .entry)))) ⌝ }
+    ensures { λ r. ⌜ r ≡ openingRecord wide (behind tab (drop e (now (line .entry)))) ⌝ }
 {
     let a = field(line, e);
     let i = a.end;
@@ -161,7 +166,7 @@ fn cic_record(line: &[u8], e: usize) -> Record
     let n = a.value;
     let m = b.value;
     let rate = c.value;
-    opening(natural_of(n), natural_of(m), natural_of(rate))
+    opening(wide, natural_of(n), natural_of(m), natural_of(rate))
 }
 
 fn rate_record(line: &[u8], e: usize) -> Record
@@ -196,7 +201,8 @@ fn named_record(name: Name, line: &[u8], e: usize) -> Record
     ensures { λ r. ⌜ r ≡ namedRecord name (behind tab (drop e (now (line .entry)))) ⌝ }
 {
     match name {
-        Name::Cic => cic_record(line, e),
+        Name::Cic => opening_record(false, line, e),
+        Name::Cic64 => opening_record(true, line, e),
         Name::Rate => rate_record(line, e),
         Name::X => sample_record(line, e),
         Name::Clear => Record::Clear,

@@ -2,15 +2,34 @@
 use crate::parse::Record;
 use crate::parse::parse;
 use blocks::Verdict;
-use cic::state::Cic;
-use cic::steps::Out;
-use cic::steps::Output;
+use cic64::state::Cic;
+use cic64::steps::Out;
+use cic64::steps::Output;
+use words::casts::i32_as_i64;
+use words::casts::i64_as_i32;
 ghost use mathlib.Core.Path.{_≡_};
-ghost use Rattle.records.specs.Sessions.{refuse, kept, toldBy, making, rating, clearing, stepping, takeOf, lineOf};
+ghost use Rattle.words.specs.Words.{wrap};
+ghost use Rattle.records.specs.Sessions.{
+    widthOf,
+    within,
+    shown,
+    keptWords,
+    refuse,
+    kept,
+    toldBy,
+    making,
+    rating,
+    clearing,
+    stepping,
+    takeOf,
+    lineOf,
+};
 
-// The filter, once a `cic` record has made it.
+// The filter, once a `cic` or `cic64` record has made it, and whether that was `cic64`. It computes with words of 64 bits
+// for either; after `cic` they are read in 32, where they are what words of 32 bits would be.
 pub struct Session {
     pub opened: bool,
+    pub wide: bool,
     pub filter: Cic,
 }
 
@@ -27,6 +46,40 @@ pub struct Taken {
     pub reply: Reply,
 }
 
+// Whether v lies within the word, i64 or i32.
+pub fn fits_in(wide: bool, v: i64) -> bool
+    ensures { λ r. ⌜ r ≡ within wide v ⌝ }
+{
+    if wide {
+        return true;
+    }
+    if v < 0 {
+        return -2147483649 < v;
+    }
+    v < 2147483648
+}
+
+// A value of the filter's read in the word, i64 or i32.
+pub fn read_in(wide: bool, v: i64) -> i64
+    ensures { λ r. ⌜ r ≡ wrap (widthOf wide) v ⌝ }
+{
+    if wide {
+        return v;
+    }
+    i32_as_i64(i64_as_i32(v))
+}
+
+// An output whose value is read in the word.
+fn output_in(wide: bool, y: Output) -> Output
+    ensures { λ r. ⌜ r ≡ shown wide y ⌝ }
+{
+    Output {
+        value: read_in(wide, y.value),
+        told: y.told,
+        number: y.number,
+    }
+}
+
 fn refused(s: Session, number: u32) -> Taken
     ensures { λ r. ⌜ r ≡ refuse s number ⌝ }
 {
@@ -36,81 +89,83 @@ fn refused(s: Session, number: u32) -> Taken
     }
 }
 
-fn with_filter(filter: Cic, reply: Reply) -> Taken
-    ensures { λ r. ⌜ r ≡ kept filter reply ⌝ }
+fn with_filter(wide: bool, filter: Cic, reply: Reply) -> Taken
+    ensures { λ r. ⌜ r ≡ kept wide filter reply ⌝ }
 {
     let session = Session {
         opened: true,
+        wide,
         filter,
     };
     Taken { session, reply }
 }
 
 // A call on the filter gave this state and this verdict.
-fn told(s: Session, filter: Cic, verdict: Verdict) -> Taken
-    ensures { λ r. ⌜ r ≡ toldBy s filter verdict ⌝ }
+fn told(s: Session, wide: bool, filter: Cic, verdict: Verdict) -> Taken
+    ensures { λ r. ⌜ r ≡ toldBy s wide filter verdict ⌝ }
 {
     match verdict {
-        Verdict::Done => with_filter(filter, Reply::Silent),
+        Verdict::Done => with_filter(wide, filter, Reply::Silent),
         Verdict::Refused(number) => refused(s, number),
     }
 }
 
-fn make(s: Session, order: u32, delay: u32, rate: u32) -> Taken
-    ensures { λ r. ⌜ r ≡ making s order delay rate ⌝ }
+fn make(s: Session, wide: bool, order: u32, delay: u32, rate: u32) -> Taken
+    ensures { λ r. ⌜ r ≡ making keptWords s wide order delay rate ⌝ }
 {
     let m = Cic::new(order as usize, delay as usize, rate);
     let f = m.state;
     let v = m.verdict;
-    told(s, f, v)
+    told(s, wide, f, v)
 }
 
 fn change_rate(s: Session, rate: u32) -> Taken
-    ensures { λ r. ⌜ r ≡ rating s rate ⌝ }
+    ensures { λ r. ⌜ r ≡ rating keptWords s rate ⌝ }
 {
     let f = s.filter;
     let m = f.set_rate(rate);
     let g = m.state;
     let v = m.verdict;
-    told(s, g, v)
+    told(s, s.wide, g, v)
 }
 
 fn clear_filter(s: Session) -> Taken
-    ensures { λ r. ⌜ r ≡ clearing s ⌝ }
+    ensures { λ r. ⌜ r ≡ clearing keptWords s ⌝ }
 {
     let f = s.filter;
     let m = f.clear();
     let g = m.state;
     let v = m.verdict;
-    told(s, g, v)
+    told(s, s.wide, g, v)
 }
 
-fn take_sample(s: Session, x: i32) -> Taken
-    ensures { λ r. ⌜ r ≡ stepping s x ⌝ }
+fn take_sample(s: Session, x: i64) -> Taken
+    ensures { λ r. ⌜ r ≡ stepping keptWords s x ⌝ }
 {
     let f = s.filter;
     let t = f.decimate(x);
     let g = t.state;
     let out = t.out;
+    let wide = s.wide;
     match out {
-        Out::Given(y) => with_filter(g, Reply::Output(y)),
-        Out::Nothing => with_filter(g, Reply::Silent),
+        Out::Given(y) => with_filter(wide, g, Reply::Output(output_in(wide, y))),
+        Out::Nothing => with_filter(wide, g, Reply::Silent),
         Out::Refused(number) => refused(s, number),
     }
 }
 
-// A record. Refused with 70 where it is none, with 71 before a `cic` record or for a second one, then with the
-// filter's own number; a refused record changes nothing.
+// A record. Refused with 70 where it is none or its sample lies outside the session's word, with 71 before a `cic` or
+// `cic64` record or for a second one of either, then with the filter's own number; a refused record changes nothing.
 pub fn take_record(s: Session, r: Record) -> Taken
-    ensures { λ t. ⌜ t ≡ takeOf s r ⌝ }
+    ensures { λ t. ⌜ t ≡ takeOf keptWords s r ⌝ }
 {
     let opened = s.opened;
     match r {
-        Record::Open(n, m, rate) => {
+        Record::Open(wide, n, m, rate) => {
             if opened {
                 refused(s, 71)
             } else {
-                make(s, n, m, rate)
+                make(s, wide, n, m, rate)
             }
         }
         Record::Rate(rate) => {
@@ -121,10 +176,14 @@ pub fn take_record(s: Session, r: Record) -> Taken
             }
         }
         Record::Sample(x) => {
-            if opened {
-                take_sample(s, x)
+            if fits_in(s.wide, x) {
+                if opened {
+                    take_sample(s, x)
+                } else {
+                    refused(s, 71)
+                }
             } else {
-                refused(s, 71)
+                refused(s, 70)
             }
         }
         Record::Clear => {
@@ -141,7 +200,7 @@ pub fn take_record(s: Session, r: Record) -> Taken
 // A line that its newline ends, given without the newline. Refused with 72 where it is over 64 bytes, else as its
 // record is.
 pub fn take_line(s: Session, line: &[u8]) -> Taken
-    ensures { λ r. ⌜ r ≡ lineOf s (now (line .entry)) ⌝ }
+    ensures { λ r. ⌜ r ≡ lineOf keptWords s (now (line .entry)) ⌝ }
 {
     if 64 < line.len() {
         return refused(s, 72);

@@ -45,6 +45,7 @@ returns-4 c =
 returns-5 : tie.Need-returns-5
 unfolding nameOf
 returns-5 c =
+    let else4 : tie.Else4 = search in
     let else3 : tie.Else3 = search in
     let else2 : tie.Else2 = search in
     let else1 : tie.Else1 = search in
@@ -52,11 +53,27 @@ returns-5 c =
       sym (else1 .before .same-bytes .ensures) ∙ else1 .if1 .left,
       sym (else2 .before .same-bytes2 .ensures) ∙ else2 .if2 .left,
       sym (else3 .before .same-bytes3 .ensures) ∙ else3 .if3 .left,
-      sym (c .before .same-bytes4 .ensures) ∙ c .if4 .left,
+      sym (else4 .before .same-bytes4 .ensures) ∙ else4 .if4 .left,
+      sym (c .before .same-bytes5 .ensures) ∙ c .if5 .taken,
+    ))
+
+returns-6 : tie.Need-returns-6
+unfolding nameOf
+returns-6 c =
+    let else4 : tie.Else4 = search in
+    let else3 : tie.Else3 = search in
+    let else2 : tie.Else2 = search in
+    let else1 : tie.Else1 = search in
+    sym (rw (
+      sym (else1 .before .same-bytes .ensures) ∙ else1 .if1 .left,
+      sym (else2 .before .same-bytes2 .ensures) ∙ else2 .if2 .left,
+      sym (else3 .before .same-bytes3 .ensures) ∙ else3 .if3 .left,
+      sym (else4 .before .same-bytes4 .ensures) ∙ else4 .if4 .left,
+      sym (c .before .same-bytes5 .ensures) ∙ c .if5 .left,
     ))
 
 pub named-spec : {M : Type 1} → statement M
 named-spec =
     tie.close (tie.spec (λ c. search needs) (λ c κs. search needs) returns (λ c. search needs) (λ c κs. search needs)
     returns-2 (λ c. search needs) (λ c κs. search needs) returns-3 (λ c. search needs) (λ c κs. search needs) returns-4
-    returns-5)
+    (λ c. search needs) (λ c κs. search needs) returns-5 returns-6)

@@ -13,26 +13,32 @@ use Rattle.records.proofs.parse.named_record.Tie as tie
 abbrev of : tie.Start → Name → Record
 of c n = namedRecord n (behind tab (drop (c .args .e) (c .args .line .now)))
 
-cic-record-requires : tie.Need-cic-record-requires
-cic-record-requires c κs = let begin : tie.Start = search in begin .pre ∙ ap wantedOf (c .enum-told .given .1)
+opening-record-requires : tie.Need-opening-record-requires
+opening-record-requires c κs = let begin : tie.Start = search in begin .pre ∙ ap wantedOf (c .enum-told .given .1)
+
+opening-record-requires-2 : tie.Need-opening-record-requires-2
+opening-record-requires-2 c κs = let begin : tie.Start = search in begin .pre ∙ ap wantedOf (c .enum-told2 .given .1)
 
 rate-record-requires : tie.Need-rate-record-requires
-rate-record-requires c κs = let begin : tie.Start = search in begin .pre ∙ ap wantedOf (c .enum-told2 .given .1)
+rate-record-requires c κs = let begin : tie.Start = search in begin .pre ∙ ap wantedOf (c .enum-told3 .given .1)
 
 sample-record-requires : tie.Need-sample-record-requires
-sample-record-requires c κs = let begin : tie.Start = search in begin .pre ∙ ap wantedOf (c .enum-told3 .given .1)
+sample-record-requires c κs = let begin : tie.Start = search in begin .pre ∙ ap wantedOf (c .enum-told4 .given .1)
 
 returns : tie.Need-returns
-returns c = let begin : tie.Start = search in c .cic-record .ensures ∙ ap (of begin) (sym (c .before .enum-told .given .1))
+returns c = let begin : tie.Start = search in c .opening-record .ensures ∙ ap (of begin) (sym (c .before .enum-told .given .1))
 
 returns-2 : tie.Need-returns-2
-returns-2 c = let begin : tie.Start = search in c .rate-record .ensures ∙ ap (of begin) (sym (c .before .enum-told2 .given .1))
+returns-2 c = let begin : tie.Start = search in c .opening-record2 .ensures ∙ ap (of begin) (sym (c .before .enum-told2 .given .1))
 
 returns-3 : tie.Need-returns-3
-returns-3 c = let begin : tie.Start = search in c .sample-record .ensures ∙ ap (of begin) (sym (c .before .enum-told3 .given .1))
+returns-3 c = let begin : tie.Start = search in c .rate-record .ensures ∙ ap (of begin) (sym (c .before .enum-told3 .given .1))
+
+returns-4 : tie.Need-returns-4
+returns-4 c = let begin : tie.Start = search in c .sample-record .ensures ∙ ap (of begin) (sym (c .before .enum-told4 .given .1))
 
 pub named-record-spec : {M : Type 1} → statement M
 named-record-spec =
-    tie.close (tie.spec (λ c. search needs) cic-record-requires (λ c. search needs) rate-record-requires (λ c. search needs)
-    sample-record-requires (λ c. search needs) (λ c. search needs) returns returns-2 returns-3 (λ c. search needs)
-    (λ c. search needs))
+    tie.close (tie.spec (λ c. search needs) opening-record-requires (λ c. search needs) opening-record-requires-2
+    (λ c. search needs) rate-record-requires (λ c. search needs) sample-record-requires (λ c. search needs)
+    (λ c. search needs) returns returns-2 returns-3 returns-4 (λ c. search needs) (λ c. search needs))

@@ -1,5 +1,5 @@
--- The one field's number, within i32 or not.
-use mir.Syntax.{w32}
+-- The one field's number, within i64 or not.
+use mir.Syntax.{w64}
 use mir.ValLaws.{toZ-ofZ}
 use mathlib.Core.Path.{sym, _∙_}
 use lib.ListN.{drop}
@@ -28,7 +28,7 @@ returns-2 c =
     let e = integer-is (at-field .field .result .value) (c .before .before .before .integer-of .result)
     (fieldAt (behind tab (drop (a .e) (a .line .now))) 0) (at-field .field .ensures .value)
     (c .before .before .before .integer-of .ensures) in
-    rw (toZ-ofZ w32 (c .before .n .given .0 .0) (record { sfits = c .known-told .given .0 .1 })) (sym (rw (sym e ∙ c .before .n .given .1)))
+    rw (toZ-ofZ w64 (c .before .n .given .0 .0) (record { sfits = c .known-told .given .0 .1 })) (sym (rw (sym e ∙ c .before .n .given .1)))
 
 pub sample-record-spec : {M : Type 1} → statement M
 sample-record-spec =

@@ -5,7 +5,7 @@ use Rattle.records.proofs.session.change_rate.Statement.{statement}
 use Rattle.records.proofs.session.change_rate.Tie as tie
 
 returns : tie.Need-returns
-returns c = ordered-is _ _ _ (c .before .before .set-rate .result) _ (c .before .before .set-rate .ensures) (c .told .ensures)
+returns c = ordered-is _ _ _ _ (c .before .before .set-rate .result) _ (c .before .before .set-rate .ensures) (c .told .ensures)
 
 pub change-rate-spec : {M : Type 1} → statement M
 change-rate-spec = tie.close (tie.spec (λ c κs. search needs) (λ c κs. search needs) returns)

@@ -5,7 +5,7 @@ use Rattle.records.proofs.session.clear_filter.Statement.{statement}
 use Rattle.records.proofs.session.clear_filter.Tie as tie
 
 returns : tie.Need-returns
-returns c = ordered-is _ _ _ (c .before .before .clear .result) _ (c .before .before .clear .ensures) (c .told .ensures)
+returns c = ordered-is _ _ _ _ (c .before .before .clear .result) _ (c .before .before .clear .ensures) (c .told .ensures)
 
 pub clear-filter-spec : {M : Type 1} → statement M
 clear-filter-spec = tie.close (tie.spec (λ c κs. search needs) (λ c κs. search needs) returns)

@@ -1,6 +1,6 @@
 -- By what the step answered, with its sample and output read back from their bits.
 use mathlib.Core.Path.{_∙_}
-use mir.Syntax.{w32}
+use mir.Syntax.{w64}
 use mir.ValLaws.{toZ-ofZ}
 use borrow.Author.Needs.{needs}
 use Rattle.records.proofs.Taking.{step-given, step-none, step-refused}
@@ -14,8 +14,9 @@ returns c =
     let begin : tie.Start = search in
     let a = begin .args in
     let d = at-decimate .decimate in
-    let e = toZ-ofZ w32 (a .x) (begin .fits .x) in
-    c .with-filter .ensures ∙ step-given (a .s) (a .x) (d .result) (rw e at (d .ensures)) (at-out .out .given .0 .0) (at-out .out .given .1)
+    let e = toZ-ofZ w64 (a .x) (begin .fits .x) in
+    (rw (c .before .output-in .ensures) at (c .with-filter .ensures))
+    ∙ step-given (a .s) (a .x) (d .result) (rw e at (d .ensures)) (at-out .out .given .0 .0) (at-out .out .given .1)
 
 returns-2 : tie.Need-returns-2
 returns-2 c =
@@ -23,7 +24,7 @@ returns-2 c =
     let begin : tie.Start = search in
     let a = begin .args in
     let d = at-decimate .decimate in
-    let e = toZ-ofZ w32 (a .x) (begin .fits .x) in
+    let e = toZ-ofZ w64 (a .x) (begin .fits .x) in
     c .with-filter2 .ensures ∙ step-none (a .s) (a .x) (d .result) (rw e at (d .ensures)) (c .before .enum-told .given .1)
 
 returns-3 : tie.Need-returns-3
@@ -32,11 +33,11 @@ returns-3 c =
     let begin : tie.Start = search in
     let a = begin .args in
     let d = at-decimate .decimate in
-    let e = toZ-ofZ w32 (a .x) (begin .fits .x) in
+    let e = toZ-ofZ w64 (a .x) (begin .fits .x) in
     c .refused .ensures ∙ step-refused (a .s) (a .x) (d .result) (rw e at (d .ensures)) (c .before .before .out2 .given .0 .0)
     (c .before .before .out2 .given .1)
 
 pub take-sample-spec : {M : Type 1} → statement M
 take-sample-spec =
-    tie.close (tie.spec (λ c κs. search needs) (λ c. search needs) (λ c κs. search needs) (λ c. search needs)
-    (λ c κs. search needs) (λ c. search needs) (λ c κs. search needs) returns returns-2 returns-3)
+    tie.close (tie.spec (λ c κs. search needs) (λ c. search needs) (λ c κs. search needs) (λ c κs. search needs)
+    (λ c. search needs) (λ c κs. search needs) (λ c. search needs) (λ c κs. search needs) returns returns-2 returns-3)

@@ -8,9 +8,9 @@ use Rattle.text.specs.Letters.{tab}
 use Rattle.text.specs.Numbers.{capped}
 use Rattle.text.specs.Parts.{behind}
 use Rattle.records.specs.Lines.{fieldAt}
-use Rattle.records.proofs.Parsing.{fewer, cic-is, natural-is, second, third}
-use Rattle.records.proofs.parse.cic_record.Statement.{statement}
-use Rattle.records.proofs.parse.cic_record.Tie as tie
+use Rattle.records.proofs.Parsing.{fewer, opening-is, natural-is, second, third}
+use Rattle.records.proofs.parse.opening_record.Statement.{statement}
+use Rattle.records.proofs.parse.opening_record.Tie as tie
 
 field-requires-2 : tie.Need-field-requires-2
 field-requires-2 c κs =
@@ -43,14 +43,14 @@ returns c =
     let x = at-field .field in
     let y = at-field2 .field2 in
     let z = at-field3 .field3 in
-    c .opening .ensures ∙ cic-is fs _ _ _
+    c .opening .ensures ∙ opening-is (a .wide) fs _ _ _
     (natural-is _ _ (fieldAt fs 0) (x .ensures .value) (c .before .before .before .natural-of .ensures))
     (natural-is _ _ (fieldAt fs 1) (y .ensures .value ∙ ap capped (second fs _ (x .ensures .rest)))
     (c .before .before .natural-of2 .ensures))
     (natural-is _ _ (fieldAt fs 2) (z .ensures .value ∙ ap capped (third fs _ _ (x .ensures .rest) (y .ensures .rest)))
     (c .before .natural-of3 .ensures))
 
-pub cic-record-spec : {M : Type 1} → statement M
-cic-record-spec =
+pub opening-record-spec : {M : Type 1} → statement M
+opening-record-spec =
     tie.close (tie.spec (λ c κs. search needs) field-requires-2 field-requires-3 (λ c κs. search needs)
     (λ c κs. search needs) (λ c κs. search needs) (λ c κs. search needs) returns)
