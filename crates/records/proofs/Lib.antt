@@ -1,2 +1,3 @@
 pub mod Parsing
 pub mod Taking
+pub mod Seeing

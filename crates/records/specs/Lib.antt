@@ -1,3 +1,4 @@
 pub mod Inner
 pub mod Lines
 pub mod Sessions
+pub mod Seen
