@@ -5,14 +5,14 @@ use mathlib.Core.List.{List, [], _∷_, _++_}
 use Prim.Native.Nat.{ℕ, _+_, _-_, _^_, _≤_, _<_}
 use lib.IntN.{ℤ}
 use lib.ListN.{length, drop, length-append}
-use mir.Syntax.{w32}
+use mir.Syntax.{w64}
 use mir.Val.{SFits}
 use borrow.Author.Tests.{lt-ltb, le-ltb}
 use Rattle.text.specs.Letters.{bytes, tab, newline}
 use Rattle.text.specs.Numbers.{spelt, decimalOf, signedOf}
 use Rattle.text.specs.Writing.{overlaid, Wrote, Puts}
 use Rattle.text.proofs.Putting.{written, then, then-puts}
-use Rattle.text.proofs.Spelling.{spelt-short, decimal-most, signed-most}
+use Rattle.text.proofs.Spelling.{spelt-short, decimal-most, signed-most64}
 use Rattle.playback.specs.Replays.{lastField, outputLine, endLine, badLine}
 use Rattle.playback.specs.Places as Places
 use Rattle.playback.specs.Places.{frontWritten, answerNumber}
@@ -25,21 +25,21 @@ short n = spelt-short 20 n
 
 module _ (o : List ℕ) (at : ℕ) where
   -- an output that tells 0, and one that tells more
-  pub settled-wrote : (v : ℤ) (told a b r : ℕ) (o₁ o₂ o₃ : List ℕ) → SFits w32 v → told ≡ 0 → at + 15 + length (decimalOf told) ≤ length o
+  pub settled-wrote : (v : ℤ) (told a b r : ℕ) (o₁ o₂ o₃ : List ℕ) → SFits w64 v → told ≡ 0 → at + 24 + length (decimalOf told) ≤ length o
       → Puts o at (bytes "y\t") a o₁ → Puts o₁ a (signedOf v) b o₂ → Puts o₂ b (bytes "\t0\n") r o₃
-      → Wrote o at (outputLine v told) r o₃ × (r ≤ at + 15 + length (decimalOf told))
+      → Wrote o at (outputLine v told) r o₃ × (r ≤ at + 24 + length (decimalOf told))
   unfolding outputLine spelt
   settled-wrote v told a b r o₁ o₂ o₃ f e h x y z =
-      let n = signed-most v f in
+      let n = signed-most64 v f in
       let d : length (decimalOf told) ≡ 1 = ap (λ (k : ℕ). length (decimalOf k)) e in
       let w₁ : Wrote o at (bytes "y\t") a o₁ = written o at (bytes "y\t") a o₁ (omega arith) x in
       let w₂ : Wrote o at (bytes "y\t" ++ signedOf v) b o₂ = then-puts (omega arith) w₁ y in
       let w₃ : Wrote o at (bytes "y\t" ++ (signedOf v ++ bytes "\t0\n")) r o₃ = then-puts (omega arith) w₂ z in
       (rw e w₃, omega (arith, w₃ .next, length-append (signedOf v) (bytes "\t0\n")))
 
-  pub zero-wrote : (v : ℤ) (a b r : ℕ) (o₁ o₂ o₃ : List ℕ) → SFits w32 v → at + 16 ≤ length o
+  pub zero-wrote : (v : ℤ) (a b r : ℕ) (o₁ o₂ o₃ : List ℕ) → SFits w64 v → at + 25 ≤ length o
       → Puts o at (bytes "y\t") a o₁ → Puts o₁ a (signedOf v) b o₂ → Puts o₂ b (bytes "\t0\n") r o₃
-      → Wrote o at (outputLine v 0) r o₃ × (r ≤ at + 16)
+      → Wrote o at (outputLine v 0) r o₃ × (r ≤ at + 25)
   unfolding spelt
   zero-wrote v a b r o₁ o₂ o₃ f h x y z =
       let d : length (decimalOf 0) ≡ 1 = refl in
@@ -53,22 +53,22 @@ module _ (o : List ℕ) (at : ℕ) where
       let w₂ : Wrote o at ((tab ∷ []) ++ decimalOf n) b o₂ = then-puts (omega arith) w₁ y in
       then-puts (omega arith) w₂ z
 
-  pub output-wrote : (v : ℤ) (told a b r : ℕ) (o₁ o₂ o₃ : List ℕ) → SFits w32 v → at + 15 + length (decimalOf told) ≤ length o
+  pub output-wrote : (v : ℤ) (told a b r : ℕ) (o₁ o₂ o₃ : List ℕ) → SFits w64 v → at + 24 + length (decimalOf told) ≤ length o
       → Puts o at (bytes "y\t") a o₁ → Puts o₁ a (signedOf v) b o₂ → Wrote o₂ b (lastField told) r o₃
-      → Wrote o at (outputLine v told) r o₃ × (r ≤ at + 15 + length (decimalOf told))
+      → Wrote o at (outputLine v told) r o₃ × (r ≤ at + 24 + length (decimalOf told))
   unfolding outputLine
   output-wrote v told a b r o₁ o₂ o₃ f h x y z =
-      let n = signed-most v f in
+      let n = signed-most64 v f in
       let w₁ : Wrote o at (bytes "y\t") a o₁ = written o at (bytes "y\t") a o₁ (omega arith) x in
       let w₂ : Wrote o at (bytes "y\t" ++ signedOf v) b o₂ = then-puts (omega arith) w₁ y in
       let w₃ : Wrote o at (bytes "y\t" ++ (signedOf v ++ lastField told)) r o₃ = then (omega arith) w₂ z in
       (w₃, omega (arith, w₃ .next, length-append (signedOf v) (lastField told), length-append (decimalOf told) (newline ∷ [])))
 
   -- where the part before the last field ends
-  pub field-place : (v : ℤ) (a b : ℕ) (o₁ o₂ : List ℕ) → SFits w32 v → at + 15 ≤ length o → Puts o at (bytes "y\t") a o₁
-      → Puts o₁ a (signedOf v) b o₂ → b ≤ at + 13
+  pub field-place : (v : ℤ) (a b : ℕ) (o₁ o₂ : List ℕ) → SFits w64 v → at + 24 ≤ length o → Puts o at (bytes "y\t") a o₁
+      → Puts o₁ a (signedOf v) b o₂ → b ≤ at + 22
   field-place v a b o₁ o₂ f h x y =
-      let n = signed-most v f in
+      let n = signed-most64 v f in
       let w₁ : Wrote o at (bytes "y\t") a o₁ = written o at (bytes "y\t") a o₁ (omega arith) x in
       let w₂ : Wrote o at (bytes "y\t" ++ signedOf v) b o₂ = then-puts (omega arith) w₁ y in
       omega (arith, w₂ .next)
@@ -125,8 +125,8 @@ module _ (number : ℕ) (bs o : List ℕ) where
       let f = front o bs o' r w in
       (ap (λ (n : ℕ). record { count = n; verdict = Done }) (f .0) ∙ sym (rw e), f .1 ∙ sym (rw e))
 
-pub answer-short : (o : List ℕ) → length o < 36 → answerNumber o ≡ 20
+pub answer-short : (o : List ℕ) → length o < 44 → answerNumber o ≡ 20
 answer-short o h = rw (lt-ltb _ _ h)
 
-pub answer-fits : (o : List ℕ) → 36 ≤ length o → answerNumber o ≡ 0
+pub answer-fits : (o : List ℕ) → 44 ≤ length o → answerNumber o ≡ 0
 answer-fits o h = rw (le-ltb _ _ h)

@@ -22,12 +22,12 @@ use Rattle.sums.proofs.Steps.{Fit, fitted}
 use Rattle.sums.proofs.Counts.{outputs-length, outputs-told}
 use Rattle.sums.proofs.Blocks.{values-length}
 use Rattle.sums.proofs.Numbering.{block-accepts, block-room, taken-after, plain-taken}
-use Rattle.cic.specs.Word.{wordOps}
-use Rattle.cic.specs.Reading.{stateOf, countedOf, cicOf}
+use Rattle.cic64.specs.Word.{wordOps}
+use Rattle.cic64.specs.Reading.{stateOf, countedOf, cicOf}
 use Rattle.shape.specs.Answers.{wroteOf}
-use Rattle.cic.specs.Answers.{decimatedOf}
-use Rattle.cic.specs.declared.state.Cic.{Cic}
-use Rattle.cic.specs.declared.runs.Decimated.{Decimated}
+use Rattle.cic64.specs.Answers.{decimatedOf}
+use Rattle.cic64.specs.declared.state.Cic.{Cic}
+use Rattle.cic64.specs.declared.runs.Decimated.{Decimated}
 use Rattle.shape.specs.declared.runs.Written.{Written}
 use Rattle.shape.specs.declared.runs.Wrote.the-variants as Wrote
 use Rattle.playback.specs.Places.{Place, countedUp, fedOf, bytesOf, placeOf}
@@ -79,20 +79,20 @@ outputs-few s (x ∷ xs) = omega (
 )
 
 place-is : (s : Session) (n k len : ℕ) (line : List ℕ) (b : Bool) → s .opened ≡ true → b ≡ true → len ≡ 0
-    → _≡_ {A = Place} (record { session = s; lines = n; outputs = k; line = take len line; going = b }) (between (countedOf (s .filter)) n k)
+    → _≡_ {A = Place} (record { session = s; lines = n; outputs = k; line = take len line; going = b }) (between (s .wide) (countedOf (s .filter)) n k)
 place-is s n k len line b o e z =
     ap (λ (x : Bool). record { session = s; lines = n; outputs = k; line = take len line; going = x }) e
     ∙ ap (λ (x : ℕ). record { session = s; lines = n; outputs = k; line = take x line; going = true }) z
-    ∙ ap (λ (x : Bool). record { session = record { opened = x; filter = s .filter }; lines = n; outputs = k; line = []; going = true }) o
+    ∙ ap (λ (x : Bool). record { session = record { opened = x; wide = s .wide; filter = s .filter }; lines = n; outputs = k; line = []; going = true }) o
 
 -- the count told with the first output is the one found, where there is an output
-first-lines : (ys : List (Output ℤ)) (u : ℕ) → ((d : Output ℤ) → 0 < length ys → getD ys 0 d .told ≡ u - 0)
-    → outputLines (firstTold ys) (values ys) ≡ outputLines u (values ys)
+first-lines : (wide : Bool) (ys : List (Output ℤ)) (u : ℕ) → ((d : Output ℤ) → 0 < length ys → getD ys 0 d .told ≡ u - 0)
+    → outputLines wide (firstTold ys) (values ys) ≡ outputLines wide u (values ys)
 unfolding outputLines
-first-lines [] u h = refl
-first-lines (y ∷ ys) u h =
+first-lines wide [] u h = refl
+first-lines wide (y ∷ ys) u h =
     let e : y .told ≡ u = omega (arith, h y (omega arith)) in
-    ap (λ (n : ℕ). outputLines n (values (y ∷ ys))) e
+    ap (λ (n : ℕ). outputLines wide n (values (y ∷ ys))) e
 
 first-most : (ys : List (Output ℤ)) (u : ℕ) → u ≤ 64 → ((d : Output ℤ) → 0 < length ys → getD ys 0 d .told ≡ u - 0)
     → (t : ℕ) → t ≡ firstTold ys → t ≤ 64
@@ -100,7 +100,7 @@ first-most [] u m h t e = omega arith
 first-most (y ∷ ys) u m h t e = omega (arith, h y (omega arith))
 
 -- the block of the first n samples
-module _ (filter : Cic) (samples given : List ℤ) (n : ℕ) (enough : n ≤ length samples) (long8 : length (filter .integrators) ≡ 8)
+module _ (wide : Bool) (filter : Cic) (samples given : List ℤ) (n : ℕ) (enough : n ≤ length samples) (long8 : length (filter .integrators) ≡ 8)
     (long64 : length (filter .combs) ≡ 64) (d : Decimated) (is : d ≡ decimatedOf filter (take n samples) given) (w : Written)
     (wrote : d .wrote ≡ Wrote.Outputs w) where
   abbrev k : ℕ
@@ -154,65 +154,66 @@ module _ (filter : Cic) (samples given : List ℤ) (n : ℕ) (enough : n ≤ len
       (owed-most (f .order) (f .delay) (f .rate) (f .countdown) (f .unsettled) (fit .good))
       (λ d b. outputs-told wordOps f fit (take n samples) 0 d b) u told-is
 
-  text-is : outputLines u (take k (blockOut wordOps (countedOf filter) (take n samples) given))
-      ≡ outputLines (filter .unsettled) (values (outputs wordOps (stateOf filter) (take n samples)))
-  text-is = rw (values-are, told-is) (first-lines (outputs wordOps (stateOf filter) (take n samples)) (filter .unsettled)
+  text-is : outputLines wide u (take k (blockOut wordOps (countedOf filter) (take n samples) given))
+      ≡ outputLines wide (filter .unsettled) (values (outputs wordOps (stateOf filter) (take n samples)))
+  text-is = rw (values-are, told-is) (first-lines wide (outputs wordOps (stateOf filter) (take n samples)) (filter .unsettled)
       (λ d b. outputs-told wordOps (stateOf filter) fit (take n samples) 0 d b))
 
   after-is : (a b : ℕ) → _≡_ {A = Place} (record {
-    session = record { opened = true; filter = d .state };
+    session = record { opened = true; wide = wide; filter = d .state };
     lines = countedUp a n;
     outputs = countedUp b k;
     line = [];
     going = true;
-  }) (ran (stateOf filter) (filter .inputs) (take n samples) a b)
+  }) (ran wide (stateOf filter) (filter .inputs) (take n samples) a b)
   after-is a b =
       let m : n ≡ length (take n samples) = sym (length-take-le n samples enough) in
       let left = filterAt (after wordOps (stateOf filter) (take n samples)) (filter .inputs + length (take n samples)) in
       ap (λ (f : Cic). record {
-        session = record { opened = true; filter = f };
+        session = record { opened = true; wide = wide; filter = f };
         lines = countedUp a n;
         outputs = countedUp b k;
         line = [];
         going = true;
       }) state-is
-      ∙ ap (λ (x : ℕ). between left (countedUp a x) (countedUp b k)) m
-      ∙ ap (λ (x : ℕ). between left (countedUp a (length (take n samples))) (countedUp b x)) count-is
+      ∙ ap (λ (x : ℕ). between wide left (countedUp a x) (countedUp b k)) m
+      ∙ ap (λ (x : ℕ). between wide left (countedUp a (length (take n samples))) (countedUp b x)) count-is
 
-  module _ (r : Replay) (of : r .session .filter ≡ filter) (input o : List ℕ) (from at : ℕ) (opened : r .session .opened ≡ true)
+  module _ (r : Replay) (of : r .session .filter ≡ filter) (word : r .session .wide ≡ wide) (input o : List ℕ) (from at : ℕ) (opened : r .session .opened ≡ true)
       (going : r .going ≡ true) (none : r .len ≡ 0)
       (lines : r .lines ≤ 18446744073709551615) (outs : r .outputs ≤ 18446744073709551615)
-      (room : Room (placeOf r) (drop from input) o at) (next : ℕ) (g : Gathers input from samples n next) where
-    here : placeOf r ≡ between (countedOf filter) (r .lines) (r .outputs)
+      (room : Room (placeOf r) (drop from input) o at) (next : ℕ) (g : Gathers wide input from samples n next) where
+    here : placeOf r ≡ between wide (countedOf filter) (r .lines) (r .outputs)
     here = place-is (r .session) (r .lines) (r .outputs) (r .len) (r .line) (r .going) opened going none
-        ∙ ap (λ (f : Cic). between (countedOf f) (r .lines) (r .outputs)) of
+        ∙ ap (λ (b : Bool). between b (countedOf (r .session .filter)) (r .lines) (r .outputs)) word
+        ∙ ap (λ (f : Cic). between wide (countedOf f) (r .lines) (r .outputs)) of
 
-    pub turn-block : (t : Replay) → placeOf t ≡ afterBlock (placeOf r) (d .state) n k → t .len ≡ r .len → (w : ℕ) (o' : List ℕ)
-        → length o' ≡ length o → Wrote o at (outputLines u (take k (blockOut wordOps (countedOf filter) (take n samples) given))) w o'
-        → w ≤ at + 17 * k
+    pub turn-block : (t : Replay) → placeOf t ≡ afterBlock (placeOf r) wide (d .state) n k → t .len ≡ r .len → (w : ℕ) (o' : List ℕ)
+        → length o' ≡ length o → Wrote o at (outputLines wide u (take k (blockOut wordOps (countedOf filter) (take n samples) given))) w o'
+        → w ≤ at + 26 * k
         → Advances r input from o at t next w o'
     turn-block t e z w o' lo wr near =
-        let i : placeOf t ≡ afterBlock (between (countedOf filter) (r .lines) (r .outputs)) (d .state) n k = e
-        ∙ ap (λ (p : Place). afterBlock p (d .state) n k) here in
-        let q : placeOf t ≡ ran (stateOf filter) (filter .inputs) (take n samples) (r .lines) (r .outputs) = i ∙ after-is (r .lines) (r .outputs) in
+        let i : placeOf t ≡ afterBlock (between wide (countedOf filter) (r .lines) (r .outputs)) wide (d .state) n k = e
+        ∙ ap (λ (p : Place). afterBlock p wide (d .state) n k) here in
+        let q : placeOf t ≡ ran wide (stateOf filter) (filter .inputs) (take n samples) (r .lines) (r .outputs) = i ∙ after-is (r .lines) (r .outputs) in
         record {
           runs = record {
             place = ap (λ (x : Place). fedOf x (drop from input)) here
-                ∙ batch-place (g .lines) (stateOf filter) fit (filter .inputs) (r .lines) (r .outputs) may lines outs
+                ∙ batch-place wide (g .lines) (stateOf filter) fit (filter .inputs) (r .lines) (r .outputs) may lines outs
                 ∙ ap (λ (x : Place). fedOf x (drop next input)) (sym q);
-            text = outputLines (filter .unsettled) (values (outputs wordOps (stateOf filter) (take n samples)));
+            text = outputLines wide (filter .unsettled) (values (outputs wordOps (stateOf filter) (take n samples)));
             bytes = ap (λ (x : Place). bytesOf x (drop from input)) here
-                ∙ batch-bytes (g .lines) (stateOf filter) fit (filter .inputs) (r .lines) (r .outputs) may lines outs
-                ∙ ap (λ (x : Place). outputLines (filter .unsettled) (values (outputs wordOps (stateOf filter) (take n samples)))
+                ∙ batch-bytes wide (g .lines) (stateOf filter) fit (filter .inputs) (r .lines) (r .outputs) may lines outs
+                ∙ ap (λ (x : Place). outputLines wide (filter .unsettled) (values (outputs wordOps (stateOf filter) (take n samples)))
                 ++ bytesOf x (drop next input)) (sym q);
             wrote = wrote-same text-is wr;
           };
           room = record {
-            within = omega (arith, room .fits going, block-few, g .far, g .within, length-drop from input);
+            within = omega (arith, room .fits going, block-few, g .far, g .inside, length-drop from input);
             fits = λ y. let m : length (placeOf t .line) ≡ 0 = ap (λ (x : Place). length (x .line)) i in omega
-                (arith, room .fits going, block-few, g .far, g .within, length-drop from input, length-drop next input);
+                (arith, room .fits going, block-few, g .far, g .inside, length-drop from input, length-drop next input);
           };
           low = omega (arith, g .far);
-          high = g .within;
+          high = g .inside;
           small = omega arith;
         }

@@ -33,7 +33,7 @@ use Rattle.playback.proofs.Answering.{refused-20, done}
 use Rattle.playback.proofs.Running.{runs-end}
 use Rattle.playback.proofs.Wholes.{wholly, whole}
 
-module _ (input out : List ℕ) (short : Bool) (is : short ≡ ltb (length out) (5 * length input + 356)) where
+module _ (input out : List ℕ) (short : Bool) (is : short ≡ ltb (length out) (7 * length input + 492)) where
   pub too-short : short ≡ true → feedNumber input out ≡ 20
   too-short e = rw (sym is ∙ e)
 
@@ -42,7 +42,7 @@ module _ (input out : List ℕ) (short : Bool) (is : short ≡ ltb (length out) 
 
   pub room-for : short ≡ false → (r : Replay) → r .len ≤ 64 → Room (placeOf r) input out 0
   room-for e r h =
-      let k = ltb-false (length out) (5 * length input + 356) (sym is ∙ e) in
+      let k = ltb-false (length out) (7 * length input + 492) (sym is ∙ e) in
       record { within = omega arith; fits = λ g. omega (arith, length-take (r .len) (r .line)) }
 
 -- a part that was refused or taken
@@ -96,8 +96,8 @@ count-fits number bs o o' w e q = by (eqb number 0) (ap (λ (x : BytesPut). x .c
     by true p r = omega (arith, ap length r, length-append bs (drop (length bs) o))
     by false p r = omega arith
 
-pub feed-takes : (r : Replay) (input out : List ℕ) (f : Fed) → 5 * length input + 356 ≤ length out → f ≡ fed r input out
+pub feed-takes : (r : Replay) (input out : List ℕ) (f : Fed) → 7 * length input + 492 ≤ length out → f ≡ fed r input out
     → (f .replay ≡ replayOf (fedOf (placeOf r) input)) × (f .wrote .count ≡ length (bytesOf (placeOf r) input))
 feed-takes r input out f h e =
-    let n : feedNumber input out ≡ 0 = rw (le-ltb (length out) (5 * length input + 356) h) in
+    let n : feedNumber input out ≡ 0 = rw (le-ltb (length out) (7 * length input + 492) h) in
     (ap (λ (x : Fed). x .replay) e ∙ rw n, ap (λ (x : Fed). x .wrote .count) e ∙ rw n)

@@ -19,7 +19,9 @@ use Rattle.text.proofs.Numerals.{number-count}
 use Rattle.text.proofs.Putting.{nothing, then, wrote-same as rewritten}
 use Rattle.text.specs.declared.numbers.Number.the-variants.{Wrong}
 use Rattle.text.specs.Same.{same}
+use Rattle.words.specs.Words.{wrap}
 use Rattle.records.specs.Lines.{nameOf, integerOf, recordOf}
+use Rattle.records.specs.Sessions.{widthOf, within}
 use Rattle.playback.specs.Replays.{outputLine}
 use Rattle.playback.specs.Inner.Advances as Advances
 use Rattle.playback.specs.Inner.Advances.{SampleLine, finds, Sampled, Gathers, outputLines}
@@ -31,11 +33,12 @@ use Rattle.records.specs.declared.parse.Record.the-variants.{Sample}
 use Rattle.records.proofs.Parsing.{integer-capped}
 
 -- a line more at the end
-pub sampled-more : {bs mid : List ℕ} {xs : List ℤ} → Sampled bs xs mid → (line rest : List ℕ) (x : ℤ) → mid ≡ line ++ (newline ∷ rest)
-    → count newline line ≡ 0 → length line ≤ 64 → recordOf line ≡ Sample x → Sampled bs (xs ++ (x ∷ [])) rest
-sampled-more Advances.none line rest x e plain short reads = rw e (Advances.more line plain short reads Advances.none)
-sampled-more (Advances.more l p s r on) line rest x e plain short reads = Advances.more l p s r
-    (sampled-more on line rest x e plain short reads)
+pub sampled-more : {wide : Bool} {bs mid : List ℕ} {xs : List ℤ} → Sampled wide bs xs mid → (line rest : List ℕ) (x : ℤ)
+    → mid ≡ line ++ (newline ∷ rest) → count newline line ≡ 0 → length line ≤ 64 → recordOf line ≡ Sample x → within wide x ≡ true
+    → Sampled wide bs (xs ++ (x ∷ [])) rest
+sampled-more Advances.none line rest x e plain short reads fits = rw e (Advances.more line plain short reads fits Advances.none)
+sampled-more (Advances.more l p s r f on) line rest x e plain short reads fits = Advances.more l p s r f
+    (sampled-more on line rest x e plain short reads fits)
 
 -- `x`, a second and a field that is a number
 number-some : (field : List ℕ) (x : ℤ) → integerOf (numberOf field) ≡ Integer.Within x → numberOf field ≡ Wrong → ⊥
@@ -54,10 +57,10 @@ x-record field x e =
     (number-some field x e)) in
     rw (p, e)
 
-module _ (l : List ℕ) (at end : ℕ) (x : ℤ) (long : at + 4 ≤ length l) (first : getD l at 0 ≡ byte "x")
+module _ (wide : Bool) (l : List ℕ) (at end : ℕ) (x : ℤ) (long : at + 4 ≤ length l) (first : getD l at 0 ≡ byte "x")
     (second : getD l (at + 1) 0 ≡ tab) (ends : end ≡ endOf newline l (at + 2)) (more : end < length l) (near : end - (at + 2) ≤ 62)
     (v : Integer) (reads : v ≡ integerOf (capped (numberOf (take (end - (at + 2)) (drop (at + 2) l)))))
-    (is : v ≡ Integer.Within x) where
+    (is : v ≡ Integer.Within x) (fits : within wide x ≡ true) where
   field : List ℕ
   field = take (end - (at + 2)) (drop (at + 2) l)
 
@@ -93,7 +96,7 @@ module _ (l : List ℕ) (at end : ℕ) (x : ℤ) (long : at + 4 ≤ length l) (f
       ∙ ap (λ (j : ℕ). getD l j 0 ∷ drop (suc (suc at)) l) f ∙ ap (λ (b : ℕ). b ∷ drop (suc (suc at)) l) second
       ∙ ap (λ (j : ℕ). tab ∷ drop j l) e)
 
-  pub sample-found : SampleLine l at x (end + 1)
+  pub sample-found : SampleLine wide l at x (end + 1)
   unfolding count
   sample-found = record {
     line = byte "x" ∷ tab ∷ field;
@@ -101,58 +104,60 @@ module _ (l : List ℕ) (at end : ℕ) (x : ℤ) (long : at + 4 ≤ length l) (f
     plain = field-plain;
     short = omega (arith, length-field);
     reads = x-record field x field-reads;
+    fits = fits;
     far = omega (arith, length-field, field-some field x field-reads);
-    within = omega arith;
+    inside = omega arith;
   }
 
 -- the loop that gathers
-module _ (l : List ℕ) (from : ℕ) where
-  pub gathers-start : (samples : List ℤ) → from ≤ length l → Gathers l from samples 0 from
-  gathers-start samples h = record { few = omega arith; far = omega arith; within = h; lines = Advances.none }
+module _ (wide : Bool) (l : List ℕ) (from : ℕ) where
+  pub gathers-start : (samples : List ℤ) → from ≤ length l → Gathers wide l from samples 0 from
+  gathers-start samples h = record { few = omega arith; far = omega arith; inside = h; lines = Advances.none }
 
-  pub gathers-on : (samples : List ℤ) (n i next : ℕ) (x : ℤ) → n < 512 → n < length samples → Gathers l from samples n i
-      → SampleLine l i x next → Gathers l from (set samples n x) (n + 1) next
+  pub gathers-on : (samples : List ℤ) (n i next : ℕ) (x : ℤ) → n < 512 → n < length samples → Gathers wide l from samples n i
+      → SampleLine wide l i x next → Gathers wide l from (set samples n x) (n + 1) next
   gathers-on samples n i next x h k g s =
       let e : take (n + 1) (set samples n x) ≡ take n samples ++ (x ∷ []) = rw add-one (take-suc-set samples n x k) in
       record {
         few = omega arith;
         far = omega (arith, g .far, s .far);
-        within = s .within;
-        lines = rw e (sampled-more (g .lines) (s .line) (drop next l) x (s .here) (s .plain) (s .short) (s .reads));
+        inside = s .inside;
+        lines = rw e (sampled-more (g .lines) (s .line) (drop next l) x (s .here) (s .plain) (s .short) (s .reads) (s .fits));
       }
 
 -- the loop that writes: what is done and what is left
-pub record Writing (o : List ℕ) (at : ℕ) (ys : List ℤ) (told : ℕ) (o' : List ℕ) (w i : ℕ) : Type 0 where
+pub record Writing (wide : Bool) (o : List ℕ) (at : ℕ) (ys : List ℤ) (told : ℕ) (o' : List ℕ) (w i : ℕ) : Type 0 where
   pub small : i ≤ length ys
   pub done : List ℕ
-  pub left : outputLines told ys ≡ done ++ outputLines (told - i) (drop i ys)
+  pub left : outputLines wide told ys ≡ done ++ outputLines wide (told - i) (drop i ys)
   pub wrote : Wrote o at done w o'
-  pub near : w ≤ at + 17 * i
+  pub near : w ≤ at + 26 * i
 
-module _ (o : List ℕ) (at : ℕ) (ys : List ℤ) (told : ℕ) (within : at ≤ length o) where
-  pub writing-start : Writing o at ys told o at 0
+module _ (wide : Bool) (o : List ℕ) (at : ℕ) (ys : List ℤ) (told : ℕ) (inside : at ≤ length o) where
+  pub writing-start : Writing wide o at ys told o at 0
   writing-start =
       let z : told - 0 ≡ told = omega arith in
       record { small = omega arith; done = []; left = rw z refl; wrote = nothing o at; near = omega arith }
 
-  pub writing-on : (o₁ o₂ : List ℕ) (w₁ w₂ i : ℕ) (y : ℤ) → i < length ys → y ≡ getD ys i (pos 0) → Writing o at ys told o₁ w₁ i
-      → Wrote o₁ w₁ (outputLine y (told - i)) w₂ o₂ → w₂ ≤ w₁ + 17 → Writing o at ys told o₂ w₂ (i + 1)
+  pub writing-on : (o₁ o₂ : List ℕ) (w₁ w₂ i : ℕ) (y : ℤ) → i < length ys → y ≡ wrap (widthOf wide) (getD ys i (pos 0)) → Writing wide o at ys told o₁ w₁ i
+      → Wrote o₁ w₁ (outputLine y (told - i)) w₂ o₂ → w₂ ≤ w₁ + 26 → Writing wide o at ys told o₂ w₂ (i + 1)
   unfolding outputLines
   writing-on o₁ o₂ w₁ w₂ i y h e r w n =
-      let d : drop i ys ≡ y ∷ drop (i + 1) ys = rw add-one (drop-cons ys i (pos 0) h ∙ ap (λ (b : ℤ). b ∷ drop (suc i) ys) (sym e)) in
+      let d : drop i ys ≡ getD ys i (pos 0) ∷ drop (i + 1) ys = rw add-one (drop-cons ys i (pos 0) h) in
       let m : told - i - 1 ≡ told - (i + 1) = omega arith in
-      let s : outputLines (told - i) (drop i ys) ≡ outputLine y (told - i) ++ outputLines (told - (i + 1))
+      let s : outputLines wide (told - i) (drop i ys) ≡ outputLine y (told - i) ++ outputLines wide (told - (i + 1))
       (drop (i + 1) ys) =
-      rw d (ap (λ (u : ℕ). outputLine y (told - i) ++ outputLines u (drop (i + 1) ys)) m) in
+      rw (d, e) (ap (λ (u : ℕ). outputLine (wrap (widthOf wide) (getD ys i (pos 0))) (told - i) ++ outputLines wide u
+      (drop (i + 1) ys)) m) in
       record {
         small = omega arith;
         done = r .done ++ outputLine y (told - i);
         left = r .left ∙ ap (λ (l : List ℕ). r .done ++ l) s ∙ sym (append-assoc (r .done) (outputLine y (told - i)) _);
-        wrote = then within (r .wrote) w;
+        wrote = then inside (r .wrote) w;
         near = omega (arith, r .near);
       }
 
-  pub writing-done : (o₁ : List ℕ) (w i : ℕ) → length ys ≤ i → Writing o at ys told o₁ w i → Wrote o at (outputLines told ys) w o₁
+  pub writing-done : (o₁ : List ℕ) (w i : ℕ) → length ys ≤ i → Writing wide o at ys told o₁ w i → Wrote o at (outputLines wide told ys) w o₁
   unfolding outputLines
   writing-done o₁ w i h r =
       let e : drop i ys ≡ [] = by-length (drop i ys) (length-drop i ys ∙ omega arith) in
@@ -162,6 +167,7 @@ module _ (o : List ℕ) (at : ℕ) (ys : List ℤ) (told : ℕ) (within : at ≤
       by-length [] h = refl
       by-length (y ∷ l) h = absurd (omega arith)
 
-pub found-is : (l : List ℕ) (at : ℕ) (r : Found) (x : ℤ) (next : ℕ) → finds l at r → r ≡ Found.Sample x next → SampleLine l at x next
-found-is l at (Found.Sample y m) x next s e = let p : y ≡ x = cc in let q : m ≡ next = cc in rw (p, q) at s
-found-is l at Found.Other x next s e = let z : _≡_ {A = ℕ} 0 1 = cc in absurd (omega arith)
+pub found-is : (wide : Bool) (l : List ℕ) (at : ℕ) (r : Found) (x : ℤ) (next : ℕ) → finds wide l at r → r ≡ Found.Sample x next
+    → SampleLine wide l at x next
+found-is wide l at (Found.Sample y m) x next s e = let p : y ≡ x = cc in let q : m ≡ next = cc in rw (p, q) at s
+found-is wide l at Found.Other x next s e = let z : _≡_ {A = ℕ} 0 1 = cc in absurd (omega arith)

@@ -1,5 +1,5 @@
 -- A line that gives an output has at least 3 bytes, `x`, a tab and a digit, and an output that a step gives tells at most 64, so that its
--- line has at most 17. So no line gives more than 5 bytes out for each of its own, the newline too.
+-- line has at most 26. So no line gives more than 7 bytes out for each of its own, the newline too.
 use native.Mathlib.Omega.{arith}
 use mathlib.Core.Path.{_≡_, refl, sym, ap, _∙_}
 use mathlib.Core.Bool.{Bool, true, false, cond}
@@ -17,19 +17,19 @@ use Rattle.text.proofs.Parting.{parted-total, total}
 use Rattle.text.proofs.Spelling.{spelt-most}
 use Rattle.blocks.specs.declared.Verdict.{Verdict}
 use Rattle.blocks.specs.declared.Verdict.the-variants as Verdict
-use Rattle.cic.specs.declared.state.Cic.{Cic}
+use Rattle.cic64.specs.declared.state.Cic.{Cic}
 use Rattle.blocks.specs.Blocks.{unless}
 use Rattle.sums.specs.Machine.{Output}
 use Rattle.sums.specs.State.{refusal}
 use Rattle.sums.specs.Calls.{newNumber, rateNumber, stepGiven}
 use Rattle.sums.specs.Counted.{Counted, Numbered, takeNumber, withNumber, newCounted, rateCounted, clearCounted, takeState, takeGiven}
 use Rattle.sums.proofs.Steps.{told-most}
-use Rattle.cic.specs.Word.{wordOps}
-use Rattle.cic.specs.Reading.{stateOf, countedOf, cicOf}
+use Rattle.cic64.specs.Word.{wordOps}
+use Rattle.cic64.specs.Reading.{stateOf, countedOf, cicOf}
 use Rattle.blocks.specs.Verdicts.{verdictOf}
 use Rattle.text.specs.Same.{same}
 use Rattle.records.specs.Lines.{nameOf, naturalOf, withNatural, fieldAt, wantedOf, namedRecord, shapedOf, fieldsRecord, recordOf}
-use Rattle.records.specs.Sessions.{refuse, toldBy, ordered, sampled, takeOf, lineOf}
+use Rattle.records.specs.Sessions.{within, keptWords, refuse, toldBy, ordered, sampled, takeOf, lineOf}
 use Rattle.playback.specs.Places.{endTaken}
 use Rattle.playback.specs.Inner.Advances.{lineRoom}
 use Rattle.records.specs.declared.parse.Name.{Name}
@@ -45,42 +45,42 @@ use Rattle.records.specs.declared.session.Reply.the-variants as Reply
 
 abbrev isSample : Record → Bool
 isSample (Sample v) = true
-isSample (Open n m rate) = false
+isSample (Open wide n m rate) = false
 isSample (Rate rate) = false
 isSample Clear = false
 isSample Malformed = false
 
 -- only a sample gives an output
-told-none : (s : Session) (f : Cic) (v : Verdict) → lineRoom (toldBy s f v .reply) ≡ 0
-told-none s f Verdict.Done = refl
-told-none s f (Verdict.Refused k) = refl
+told-none : (s : Session) (wide : Bool) (f : Cic) (v : Verdict) → lineRoom (toldBy s wide f v .reply) ≡ 0
+told-none s wide f Verdict.Done = refl
+told-none s wide f (Verdict.Refused k) = refl
 
-ordered-none : (s : Session) (number : ℕ) (t : Counted ℤ) → lineRoom (ordered s number t .reply) ≡ 0
-ordered-none s number t = told-none s (cicOf t) (verdictOf number)
+ordered-none : (s : Session) (wide : Bool) (number : ℕ) (t : Counted ℤ) → lineRoom (ordered s wide number t .reply) ≡ 0
+ordered-none s wide number t = told-none s wide (cicOf t) (verdictOf number)
 
 either : (b : Bool) (x y : Taken) → lineRoom (x .reply) ≡ 0 → lineRoom (y .reply) ≡ 0 → lineRoom (cond b x y .reply) ≡ 0
 either true x y h k = h
 either false x y h k = k
 
-take-none : (s : Session) (r : Record) → isSample r ≡ false → lineRoom (takeOf s r .reply) ≡ 0
+take-none : (s : Session) (r : Record) → isSample r ≡ false → lineRoom (takeOf keptWords s r .reply) ≡ 0
 unfolding takeOf
-take-none s (Open n m rate) e =
+take-none s (Open wide n m rate) e =
     let t = newCounted wordOps n m rate in
-    either (s .opened) (refuse s 71) (ordered s (newNumber n m rate) t) refl (ordered-none s (newNumber n m rate) t)
+    either (s .opened) (refuse s 71) (ordered s wide (newNumber n m rate) t) refl (ordered-none s wide (newNumber n m rate) t)
 take-none s (Rate rate) e =
     let f = countedOf (s .filter) in
-    either (s .opened) (ordered s (rateNumber (f .state) rate) (rateCounted wordOps f rate)) (refuse s 71)
-    (ordered-none s (rateNumber (f .state) rate) (rateCounted wordOps f rate)) refl
+    either (s .opened) (ordered s (s .wide) (rateNumber (f .state) rate) (rateCounted wordOps f rate)) (refuse s 71)
+    (ordered-none s (s .wide) (rateNumber (f .state) rate) (rateCounted wordOps f rate)) refl
 take-none s (Sample v) e = cc
 take-none s Clear e =
     let f = countedOf (s .filter) in
-    either (s .opened) (ordered s (refusal (f .state)) (clearCounted wordOps f)) (refuse s 71)
-    (ordered-none s (refusal (f .state)) (clearCounted wordOps f)) refl
+    either (s .opened) (ordered s (s .wide) (refusal (f .state)) (clearCounted wordOps f)) (refuse s 71)
+    (ordered-none s (s .wide) (refusal (f .state)) (clearCounted wordOps f)) refl
 take-none s Malformed e = refl
 
--- and its line has at most 17 bytes
+-- and its line has at most 26 bytes
 sampled-most : (s : Session) (k : ℕ) (t : Counted ℤ) (g : Option (Numbered ℤ)) → ((y : Numbered ℤ) → g ≡ some y → y .told ≤ 64)
-    → lineRoom (sampled s k t g .reply) ≤ 17
+    → lineRoom (sampled s k t g .reply) ≤ 26
 sampled-most s zero t (some y) h = omega (arith, spelt-most 1 20 (y .told) (omega (arith, h y refl)))
 sampled-most s zero t none h = omega arith
 sampled-most s (suc k) t g h = omega arith
@@ -104,27 +104,31 @@ taken-most f v z e =
     unless-most (takeNumber f 1) (withNumber (suc (f .inputs)) (stepGiven wordOps (f .state) v))
     (numbered-most (suc (f .inputs)) (stepGiven wordOps (f .state) v) (told-most wordOps (f .state) v)) z e
 
-either-most : (b : Bool) (x y : Taken) → lineRoom (x .reply) ≤ 17 → lineRoom (y .reply) ≤ 17 → lineRoom (cond b x y .reply) ≤ 17
+either-most : (b : Bool) (x y : Taken) → lineRoom (x .reply) ≤ 26 → lineRoom (y .reply) ≤ 26 → lineRoom (cond b x y .reply) ≤ 26
 either-most true x y h k = h
 either-most false x y h k = k
 
-take-most : (s : Session) (r : Record) → lineRoom (takeOf s r .reply) ≤ 17
+take-most : (s : Session) (r : Record) → lineRoom (takeOf keptWords s r .reply) ≤ 26
 unfolding takeOf
-take-most s (Open n m rate) = omega (arith, take-none s (Open n m rate) refl)
+take-most s (Open wide n m rate) = omega (arith, take-none s (Open wide n m rate) refl)
 take-most s (Rate rate) = omega (arith, take-none s (Rate rate) refl)
 take-most s (Sample v) =
     let f = countedOf (s .filter) in
-    either-most (s .opened) (sampled s (takeNumber f 1) (takeState wordOps f v) (takeGiven wordOps f v)) (refuse s 71)
-    (sampled-most s (takeNumber f 1) (takeState wordOps f v) (takeGiven wordOps f v) (taken-most f v)) (omega arith)
+    let step = sampled s (takeNumber f 1) (takeState wordOps f v) (takeGiven wordOps f v) in
+    either-most (within (s .wide) v) (cond (s .opened) step (refuse s 71)) (refuse s 70)
+    (either-most (s .opened) step (refuse s 71)
+    (sampled-most s (takeNumber f 1) (takeState wordOps f v) (takeGiven wordOps f v) (taken-most f v)) (omega arith))
+    (omega arith)
 take-most s Clear = omega (arith, take-none s Clear refl)
 take-most s Malformed = omega arith
 
 -- which line is a sample
-cic-none : (a b c : Natural) → isSample (withNatural a (λ n. withNatural b (λ m. withNatural c (λ rate. Open n m rate)))) ≡ false
-cic-none (Natural.Within n) (Natural.Within m) (Natural.Within r) = refl
-cic-none (Natural.Within n) (Natural.Within m) Natural.Outside = refl
-cic-none (Natural.Within n) Natural.Outside c = refl
-cic-none Natural.Outside b c = refl
+open-none : (wide : Bool) (a b c : Natural)
+    → isSample (withNatural a (λ n. withNatural b (λ m. withNatural c (λ rate. Open wide n m rate)))) ≡ false
+open-none wide (Natural.Within n) (Natural.Within m) (Natural.Within r) = refl
+open-none wide (Natural.Within n) (Natural.Within m) Natural.Outside = refl
+open-none wide (Natural.Within n) Natural.Outside c = refl
+open-none wide Natural.Outside b c = refl
 
 rate-none : (a : Natural) → isSample (withNatural a (λ rate. Rate rate)) ≡ false
 rate-none (Natural.Within n) = refl
@@ -152,8 +156,10 @@ other-name k fs h = tested (eqb (length fs) (wantedOf k)) (namedRecord k fs) h
 
 shaped-long : (k : Name) (name : List ℕ) (fs : List (List ℕ)) → nameOf name ≡ k → isSample (shapedOf k fs) ≡ true
     → 4 ≤ total tab (name ∷ fs)
-shaped-long Name.Cic name fs n e =
-    never (sym e ∙ other-name Name.Cic fs (cic-none (naturalOf (fieldAt fs 0)) (naturalOf (fieldAt fs 1)) (naturalOf (fieldAt fs 2))))
+shaped-long Name.Cic name fs n e = never (sym e ∙ other-name Name.Cic fs
+    (open-none false (naturalOf (fieldAt fs 0)) (naturalOf (fieldAt fs 1)) (naturalOf (fieldAt fs 2))))
+shaped-long Name.Cic64 name fs n e = never (sym e ∙ other-name Name.Cic64 fs
+    (open-none true (naturalOf (fieldAt fs 0)) (naturalOf (fieldAt fs 1)) (naturalOf (fieldAt fs 2))))
 shaped-long Name.Rate name fs n e = never (sym e ∙ other-name Name.Rate fs (rate-none (naturalOf (fieldAt fs 0))))
 shaped-long Name.X name fs n e = x-field name fs n e
 shaped-long Name.Clear name fs n e = never (sym e ∙ other-name Name.Clear fs refl)
@@ -167,21 +173,21 @@ sample-long : (l : List ℕ) → isSample (recordOf l) ≡ true → 3 ≤ length
 unfolding recordOf
 sample-long l e = omega (arith, fields-long (parted tab l) e, parted-total tab l)
 
-line-given : (s : Session) (l : List ℕ) → lineRoom (lineOf s l .reply) ≤ 5 * (length l + 1)
+line-given : (s : Session) (l : List ℕ) → lineRoom (lineOf keptWords s l .reply) ≤ 7 * (length l + 1)
 unfolding lineOf
 line-given s l = by (ltb 64 (length l))
   where
-    record-given : (b : Bool) → isSample (recordOf l) ≡ b → lineRoom (takeOf s (recordOf l) .reply) ≤ 5 * (length l + 1)
+    record-given : (b : Bool) → isSample (recordOf l) ≡ b → lineRoom (takeOf keptWords s (recordOf l) .reply) ≤ 7 * (length l + 1)
     record-given true e = omega (arith, sample-long l e, take-most s (recordOf l))
     record-given false e = omega (arith, take-none s (recordOf l) e)
 
-    by : (t : Bool) → lineRoom (cond t (refuse s 72) (takeOf s (recordOf l)) .reply) ≤ 5 * (length l + 1)
+    by : (t : Bool) → lineRoom (cond t (refuse s 72) (takeOf keptWords s (recordOf l)) .reply) ≤ 7 * (length l + 1)
     by true = omega arith
     by false = record-given (isSample (recordOf l)) refl
 
-pub end-given : (s : Session) (l : List ℕ) (b : ℕ) → lineRoom (endTaken s l b .reply) ≤ 5 * (length l + 1)
+pub end-given : (s : Session) (l : List ℕ) (b : ℕ) → lineRoom (endTaken s l b .reply) ≤ 7 * (length l + 1)
 end-given s l b = by (eqb b newline)
   where
-    by : (t : Bool) → lineRoom (cond t (lineOf s l) (refuse s 72) .reply) ≤ 5 * (length l + 1)
+    by : (t : Bool) → lineRoom (cond t (lineOf keptWords s l) (refuse s 72) .reply) ≤ 7 * (length l + 1)
     by true = line-given s l
     by false = omega arith

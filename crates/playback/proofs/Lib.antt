@@ -1,5 +1,6 @@
 pub mod Answering
 pub mod Running
+pub mod Seeing
 pub mod Batches
 pub mod Gathering
 pub mod Lengths

@@ -229,12 +229,12 @@ answered-place r t lines outputs going e f g =
     }) g
 
 -- the test for room
-pub short-test : (len n : ℕ) → 356 ≤ len → ltb ((len - 356) / 5) n ≡ ltb len (5 * n + 356)
-short-test len n h = by (ltb len (5 * n + 356)) refl
+pub short-test : (len n : ℕ) → 492 ≤ len → ltb ((len - 492) / 7) n ≡ ltb len (7 * n + 492)
+short-test len n h = by (ltb len (7 * n + 492)) refl
   where
-    by : (t : Bool) → ltb len (5 * n + 356) ≡ t → ltb ((len - 356) / 5) n ≡ t
-    by true e = let k = ltb-true len (5 * n + 356) e in lt-ltb ((len - 356) / 5) n (omega arith)
-    by false e = let k = ltb-false len (5 * n + 356) e in le-ltb ((len - 356) / 5) n (omega arith)
+    by : (t : Bool) → ltb len (7 * n + 492) ≡ t → ltb ((len - 492) / 7) n ≡ t
+    by true e = let k = ltb-true len (7 * n + 492) e in lt-ltb ((len - 492) / 7) n (omega arith)
+    by false e = let k = ltb-false len (7 * n + 492) e in le-ltb ((len - 492) / 7) n (omega arith)
 
 -- no more than 64 bytes of a line are kept
 pub clip-place : (r : Replay) → length (r .line) ≡ 64 → 64 < r .len

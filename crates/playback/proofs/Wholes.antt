@@ -11,7 +11,7 @@ use borrow.Author.Tests.{ne-eqb, lt-ltb, le-ltb, eqb-false, ltb-true, ltb-false}
 use Rattle.text.specs.Letters.{newline}
 use Rattle.text.specs.Parts.{parted, onto}
 use Rattle.text.proofs.Parting.{parted-first}
-use Rattle.records.specs.Sessions.{refuse, lineOf}
+use Rattle.records.specs.Sessions.{ownWords, keptWords, refuse, lineOf}
 use Rattle.playback.specs.Replays.{endLine, badLine, answered, closing, replayFrom, replay}
 use Rattle.playback.specs.Places.{
   Place,
@@ -38,6 +38,7 @@ use Rattle.records.specs.declared.session.Reply.{Reply}
 use Rattle.records.specs.declared.session.Reply.the-variants as Reply
 use Rattle.records.specs.declared.session.Taken.{Taken}
 use Rattle.playback.specs.declared.driver.Replay.{Replay}
+use Rattle.playback.proofs.Seeing.{replay-seen, seen-unopened}
 use Rattle.playback.proofs.Running.{stopped-place, stopped-bytes, step-ends, bytes-end, step-on, bytes-on, stays-open}
 
 -- all that comes of bs and then the end, from a place
@@ -112,15 +113,15 @@ module _ (s : Session) (n k : ℕ) (l : List ℕ) (bs : List ℕ) (room : suc n 
           ∙ ap (λ (j : ℕ). badLine j number) lines
 
 -- a line over 64 bytes
-long-line : (s : Session) (n k : ℕ) (line : List ℕ) (ps : List (List ℕ)) → 64 < length line → replayFrom s n k (line ∷ ps)
+long-line : (s : Session) (n k : ℕ) (line : List ℕ) (ps : List (List ℕ)) → 64 < length line → replayFrom keptWords s n k (line ∷ ps)
     ≡ badLine (suc n) 72
 unfolding replayFrom lineOf
 long-line s n k line [] h = rw (ne-eqb (length line) 0 (λ z. omega arith), lt-ltb 64 (length line) h)
 long-line s n k line (p ∷ ps) h = rw (lt-ltb 64 (length line) h)
 
 line-first : (s : Session) (n k : ℕ) (line : List ℕ) (bs : List ℕ)
-    → replayFrom s n k (line ∷ parted newline bs) ≡ answered (lineOf s line .reply) (suc n) k
-    (λ j. replayFrom (lineOf s line .session) (suc n) j (parted newline bs))
+    → replayFrom keptWords s n k (line ∷ parted newline bs) ≡ answered (lineOf keptWords s line .reply) (suc n) k
+    (λ j. replayFrom keptWords (lineOf keptWords s line .session) (suc n) j (parted newline bs))
 unfolding replayFrom
 line-first s n k line bs = rw (parted-first newline bs)
 
@@ -131,7 +132,7 @@ prefixed-none bs = rw (parted-first newline bs)
 module _ (b : ℕ) (bs : List ℕ) (s : Session) (n k : ℕ) (l : List ℕ) (h : length l ≤ 64) (c : n + length l + suc (length bs) ≤ top)
     (d : k + length l + suc (length bs) ≤ top)
     (on : (s : Session) (n k : ℕ) (l : List ℕ) → length l ≤ 64 → n + length l + length bs ≤ top → k + length l + length bs ≤ top
-    → wholly (at s n k l) bs ≡ replayFrom s n k (prefixed l (parted newline bs))) where
+    → wholly (at s n k l) bs ≡ replayFrom keptWords s n k (prefixed l (parted newline bs))) where
   line-ended : lineEnds l b ≡ true → (t : Taken) → endTaken s l b ≡ t → wholly (at s n k l) (b ∷ bs)
       ≡ replyBytes (countedUp n 1) (t .reply) ++ wholly (ended (at s n k l) t) bs
   line-ended e t q =
@@ -140,18 +141,18 @@ module _ (b : ℕ) (bs : List ℕ) (s : Session) (n k : ℕ) (l : List ℕ) (h :
       ∙ ap (λ (p : Place). replyBytes (countedUp n 1) (endTaken s l b .reply) ++ wholly p bs) (step-ends (at s n k l) refl b e)
       ∙ ap (λ (x : Taken). replyBytes (countedUp n 1) (x .reply) ++ wholly (ended (at s n k l) x) bs) q
 
-  at-newline : eqb b newline ≡ true → wholly (at s n k l) (b ∷ bs) ≡ replayFrom s n k ((l ++ []) ∷ parted newline bs)
+  at-newline : eqb b newline ≡ true → wholly (at s n k l) (b ∷ bs) ≡ replayFrom keptWords s n k ((l ++ []) ∷ parted newline bs)
   at-newline e =
-      let t = lineOf s l in
-      let rest : ℕ → List ℕ = λ j. replayFrom (t .session) (suc n) j (parted newline bs) in
+      let t = lineOf keptWords s l in
+      let rest : ℕ → List ℕ = λ j. replayFrom keptWords (t .session) (suc n) j (parted newline bs) in
       line-ended (rw e) t (rw e)
       ∙ line-on s n k l bs (omega arith) (omega arith) t rest (λ j m. on (t .session) (suc n) j [] (omega arith) (omega arith)
-      (omega arith) ∙ ap (replayFrom (t .session) (suc n) j) (prefixed-none bs))
+      (omega arith) ∙ ap (replayFrom keptWords (t .session) (suc n) j) (prefixed-none bs))
       ∙ sym (line-first s n k l bs)
-      ∙ ap (λ (x : List ℕ). replayFrom s n k (x ∷ parted newline bs)) (sym (append-nil l))
+      ∙ ap (λ (x : List ℕ). replayFrom keptWords s n k (x ∷ parted newline bs)) (sym (append-nil l))
 
   at-longer : eqb b newline ≡ false → length l < 64 → wholly (at s n k l) (b ∷ bs)
-      ≡ replayFrom s n k (prefixed l (onto b (parted newline bs)))
+      ≡ replayFrom keptWords s n k (prefixed l (onto b (parted newline bs)))
   at-longer e g =
       let f : lineEnds l b ≡ false = stays-open l b (eqb-false b newline e) g in
       let m : length (l ++ (b ∷ [])) ≡ length l + 1 = length-append l (b ∷ []) in
@@ -159,10 +160,10 @@ module _ (b : ℕ) (bs : List ℕ) (s : Session) (n k : ℕ) (l : List ℕ) (h :
       ∙ ap (λ (x : List ℕ). x ++ wholly (stepPlace (at s n k l) b) bs) (bytes-on (at s n k l) refl b f)
       ∙ ap (λ (p : Place). wholly p bs) (step-on (at s n k l) refl b f)
       ∙ on s n k (l ++ (b ∷ [])) (omega arith) (omega arith) (omega arith)
-      ∙ ap (replayFrom s n k) (sym (prefixed-more l b (parted newline bs)))
+      ∙ ap (replayFrom keptWords s n k) (sym (prefixed-more l b (parted newline bs)))
 
   at-65th : eqb b newline ≡ false → 64 ≤ length l → wholly (at s n k l) (b ∷ bs)
-      ≡ replayFrom s n k (prefixed l (onto b (parted newline bs)))
+      ≡ replayFrom keptWords s n k (prefixed l (onto b (parted newline bs)))
   at-65th e g =
       let m : countedUp n 1 ≡ suc n = omega arith in
       line-ended (rw (e, le-ltb (length l) 64 g)) (refuse s 72) (rw e)
@@ -170,27 +171,27 @@ module _ (b : ℕ) (bs : List ℕ) (s : Session) (n k : ℕ) (l : List ℕ) (h :
       ∙ append-nil (badLine (countedUp n 1) 72) ∙ ap (λ (j : ℕ). badLine j 72) m
       ∙ sym (long (parted newline bs))
     where
-      long : (ps : List (List ℕ)) → replayFrom s n k (prefixed l (onto b ps)) ≡ badLine (suc n) 72
+      long : (ps : List (List ℕ)) → replayFrom keptWords s n k (prefixed l (onto b ps)) ≡ badLine (suc n) 72
       long [] = long-line s n k (l ++ (b ∷ [])) [] (omega (arith, length-append l (b ∷ [])))
       long (p ∷ ps) = long-line s n k (l ++ (b ∷ p)) ps (omega (arith, length-append l (b ∷ p)))
 
-  at-byte : wholly (at s n k l) (b ∷ bs) ≡ replayFrom s n k (prefixed l (parted newline (b ∷ bs)))
+  at-byte : wholly (at s n k l) (b ∷ bs) ≡ replayFrom keptWords s n k (prefixed l (parted newline (b ∷ bs)))
   unfolding parted
   at-byte = by (eqb b newline) refl
     where
       other : (t : Bool) → ltb (length l) 64 ≡ t → eqb b newline ≡ false → wholly (at s n k l) (b ∷ bs)
-          ≡ replayFrom s n k (prefixed l (onto b (parted newline bs)))
+          ≡ replayFrom keptWords s n k (prefixed l (onto b (parted newline bs)))
       other true g e = at-longer e (ltb-true (length l) 64 g)
       other false g e = at-65th e (ltb-false (length l) 64 g)
 
       by : (t : Bool) → eqb b newline ≡ t → wholly (at s n k l) (b ∷ bs)
-          ≡ replayFrom s n k (prefixed l (cond t ([] ∷ parted newline bs) (onto b (parted newline bs))))
+          ≡ replayFrom keptWords s n k (prefixed l (cond t ([] ∷ parted newline bs) (onto b (parted newline bs))))
       by true e = at-newline e
       by false e = other (ltb (length l) 64) refl e
 
 from-place : (bs : List ℕ) (s : Session) (n k : ℕ) (l : List ℕ) → length l ≤ 64 → n + length l + length bs ≤ top
     → k + length l + length bs ≤ top
-    → wholly (at s n k l) bs ≡ replayFrom s n k (prefixed l (parted newline bs))
+    → wholly (at s n k l) bs ≡ replayFrom keptWords s n k (prefixed l (parted newline bs))
 unfolding bytesOf fedOf parted replayFrom
 from-place [] s n k l h c d = closes s n k l h (omega arith) ∙ ap (closing n k) (sym (append-nil l))
 from-place (b ∷ bs) s n k l h c d = at-byte b bs s n k l h c d (from-place bs)
@@ -199,7 +200,9 @@ from-place (b ∷ bs) s n k l h c d = at-byte b bs s n k l h c d (from-place bs)
 pub whole : (input : List ℕ) → length input < 2 ^ 64 → wholly start input ≡ replay input
 unfolding replay
 whole input h = from-place input (start .session) 0 0 [] (omega arith) (omega arith) (omega arith)
-    ∙ ap (replayFrom (start .session) 0 0) (prefixed-none input)
+    ∙ ap (replayFrom keptWords (start .session) 0 0) (prefixed-none input)
+    ∙ replay-seen (start .session) 0 0 (parted newline input)
+    ∙ ap (λ (s : Session). replayFrom ownWords s 0 0 (parted newline input)) seen-unopened
 
 -- parts one after the other
 fed-append : (a b : List ℕ) (p : Place) → fedOf p (a ++ b) ≡ fedOf (fedOf p a) b

@@ -8,7 +8,7 @@ use lib.ListN.{length, take, drop, replicate}
 use Rattle.blocks.specs.Verdicts.{verdictOf}
 use Rattle.blocks.specs.Blocks.{unless}
 use Rattle.text.specs.Letters.{newline}
-use Rattle.records.specs.Sessions.{refuse, lineOf}
+use Rattle.records.specs.Sessions.{keptWords, refuse, lineOf}
 use Rattle.playback.specs.Replays.{outputLine, endLine, badLine, unopened}
 use Rattle.records.specs.declared.session.Session.{Session}
 use Rattle.records.specs.declared.session.Reply.{Reply}
@@ -51,7 +51,7 @@ abbrev pub lineEnds : List ℕ → ℕ → Bool
 lineEnds line b = cond (eqb b newline) true (cond (ltb (length line) 64) false true)
 
 abbrev pub endTaken : Session → List ℕ → ℕ → Taken
-endTaken s line b = cond (eqb b newline) (lineOf s line) (refuse s 72)
+endTaken s line b = cond (eqb b newline) (lineOf keptWords s line) (refuse s 72)
 
 abbrev pub ended : Place → Taken → Place
 ended p t = record {
@@ -104,14 +104,14 @@ replayOf p = record {
   going = p .going;
 }
 
--- 20: the output slice is shorter than an answer may need, 36 bytes, or than a part may. A line gives at most 5 bytes out for
--- each of its own (`x`, a tab, a digit and the newline: 17 bytes, since no output tells more than 64), of which 64 may have come before
+-- 20: the output slice is shorter than an answer may need, 44 bytes, or than a part may. A line gives at most 7 bytes out for
+-- each of its own (`x`, a tab, a digit and the newline: 26 bytes, since no output tells more than 64), of which 64 may have come before
 -- the part, and a refusal at most 36.
 abbrev pub answerNumber : List ℕ → ℕ
-answerNumber out = cond (ltb (length out) 36) 20 0
+answerNumber out = cond (ltb (length out) 44) 20 0
 
 abbrev pub feedNumber : List ℕ → List ℕ → ℕ
-feedNumber input out = cond (ltb (length out) (5 * length input + 356)) 20 0
+feedNumber input out = cond (ltb (length out) (7 * length input + 492)) 20 0
 
 -- the front of a lent slice is written and the rest stays as it was; where the call has a number, all of it stays
 abbrev pub frontWritten : ℕ → List ℕ → List ℕ → List ℕ

@@ -1,5 +1,6 @@
--- 01, 'The replay program': the whole output as a function of the whole input, both as bytes.
-use mathlib.Core.Bool.{false, cond}
+-- 01, 'The replay program': the whole output as a function of the whole input, both as bytes. 02, A1: the rules go over the word of
+-- the record that opened the replay.
+use mathlib.Core.Bool.{Bool, false, cond}
 use mathlib.Core.List.{List, [], _∷_, _++_}
 use Prim.Native.Nat.{ℕ, suc}
 use lib.Dec.{ltb, eqb}
@@ -8,10 +9,11 @@ use lib.ListN.{length}
 use Rattle.text.specs.Letters.{bytes, tab, newline}
 use Rattle.text.specs.Numbers.{decimalOf, signedOf}
 use Rattle.text.specs.Parts.{parted}
+use Rattle.sums.specs.Ops.{Ops}
 use Rattle.sums.specs.Counted.{blankCounted}
-use Rattle.cic.specs.Word.{wordOps}
-use Rattle.cic.specs.Reading.{cicOf}
-use Rattle.records.specs.Sessions.{lineOf}
+use Rattle.cic64.specs.Word.{wordOps}
+use Rattle.cic64.specs.Reading.{cicOf}
+use Rattle.records.specs.Sessions.{ownWords, lineOf}
 use Rattle.records.specs.declared.session.Session.{Session}
 use Rattle.records.specs.declared.session.Reply.{Reply}
 use Rattle.records.specs.declared.session.Reply.the-variants as Reply
@@ -44,15 +46,16 @@ abbrev pub closing : ℕ → ℕ → List ℕ → List ℕ
 closing lines outputs last = cond (eqb (length last) 0) (endLine outputs) (badLine (suc lines) (cond (ltb 64 (length last)) 72 70))
 
 -- what comes after so many lines and outputs
-unfoldable pub replayFrom : Session → ℕ → ℕ → List (List ℕ) → List ℕ
-replayFrom s lines outputs [] = []
-replayFrom s lines outputs (last ∷ []) = closing lines outputs last
-replayFrom s lines outputs (line ∷ next ∷ rest) =
-    answered (lineOf s line .reply) (suc lines) outputs (λ k. replayFrom (lineOf s line .session) (suc lines) k (next ∷ rest))
+unfoldable pub replayFrom : (Bool → Ops ℤ) → Session → ℕ → ℕ → List (List ℕ) → List ℕ
+replayFrom words s lines outputs [] = []
+replayFrom words s lines outputs (last ∷ []) = closing lines outputs last
+replayFrom words s lines outputs (line ∷ next ∷ rest) =
+    answered (lineOf words s line .reply) (suc lines) outputs
+    (λ k. replayFrom words (lineOf words s line .session) (suc lines) k (next ∷ rest))
 
--- no `cic` line yet
+-- no `cic` or `cic64` line yet
 abbrev pub unopened : Session
-unopened = record { opened = false; filter = cicOf (blankCounted wordOps) }
+unopened = record { opened = false; wide = false; filter = cicOf (blankCounted wordOps) }
 
 unfoldable pub replay : List ℕ → List ℕ
-replay input = replayFrom unopened 0 0 (parted newline input)
+replay input = replayFrom ownWords unopened 0 0 (parted newline input)

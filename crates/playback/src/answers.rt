@@ -4,7 +4,7 @@ use records::session::Reply;
 use text::writing::put_byte;
 use text::writing::put_bytes;
 use text::writing::put_decimal;
-use text::writing::put_signed;
+use text::writing::put_signed64;
 ghost use mathlib.Core.Path.{_≡_};
 ghost use mathlib.Core.Bool.{true};
 ghost use Prim.Native.Nat.{_+_, _≤_};
@@ -32,13 +32,13 @@ fn put_last(out: &mut [u8], at: usize, n: u64) -> usize
 }
 
 // `y`, value, the count told.
-pub(crate) fn put_output(out: &mut [u8], at: usize, value: i32, told: usize) -> usize
-    requires { ⌜ at + 15 + length (decimalOf told) ≤ length (now out) ⌝ }
+pub(crate) fn put_output(out: &mut [u8], at: usize, value: i64, told: usize) -> usize
+    requires { ⌜ at + 24 + length (decimalOf told) ≤ length (now out) ⌝ }
     ensures { λ r. ⌜ Wrote (now (out .entry)) at (outputLine value told) r (now (out .exit))
-        × (r ≤ at + 15 + length (decimalOf told)) ⌝ }
+        × (r ≤ at + 24 + length (decimalOf told)) ⌝ }
 {
     let a = put_bytes(out, at, b"y\t");
-    let b = put_signed(out, a, value);
+    let b = put_signed64(out, a, value);
     if told == 0 {
         return put_bytes(out, b, b"\t0\n");
     }
@@ -46,12 +46,12 @@ pub(crate) fn put_output(out: &mut [u8], at: usize, value: i32, told: usize) -> 
 }
 
 // The same where the count told is 0.
-pub(crate) fn put_settled(out: &mut [u8], at: usize, value: i32) -> usize
-    requires { ⌜ at + 16 ≤ length (now out) ⌝ }
-    ensures { λ r. ⌜ Wrote (now (out .entry)) at (outputLine value 0) r (now (out .exit)) × (r ≤ at + 16) ⌝ }
+pub(crate) fn put_settled(out: &mut [u8], at: usize, value: i64) -> usize
+    requires { ⌜ at + 25 ≤ length (now out) ⌝ }
+    ensures { λ r. ⌜ Wrote (now (out .entry)) at (outputLine value 0) r (now (out .exit)) × (r ≤ at + 25) ⌝ }
 {
     let a = put_bytes(out, at, b"y\t");
-    let b = put_signed(out, a, value);
+    let b = put_signed64(out, a, value);
     put_bytes(out, b, b"\t0\n")
 }
 
@@ -77,8 +77,8 @@ pub(crate) fn put_end(out: &mut [u8], at: usize, outputs: u64) -> usize
 
 // What line number `line` is answered.
 pub(crate) fn put_reply(out: &mut [u8], at: usize, line: u64, reply: Reply) -> usize
-    requires { ⌜ at + 36 ≤ length (now out) ⌝ }
-    ensures { λ r. ⌜ Wrote (now (out .entry)) at (replyBytes line reply) r (now (out .exit)) × (r ≤ at + 36)
+    requires { ⌜ at + 44 ≤ length (now out) ⌝ }
+    ensures { λ r. ⌜ Wrote (now (out .entry)) at (replyBytes line reply) r (now (out .exit)) × (r ≤ at + 44)
         × (goesOn reply ≡ true → r ≤ at + lineRoom reply) ⌝ }
 {
     match reply {
@@ -89,11 +89,11 @@ pub(crate) fn put_reply(out: &mut [u8], at: usize, line: u64, reply: Reply) -> u
 }
 
 // What line number `line` is answered, to the front of out; the rest stays. Refused with 20, nothing written, where out
-// is shorter than 36 bytes, the longest answer.
+// is shorter than 44 bytes, the longest answer.
 pub fn write_reply(line: u64, reply: Reply, out: &mut [u8]) -> BytesPut
     ensures { λ r. ⌜ Writes (answerNumber (now (out .entry))) (replyBytes line reply) (now (out .entry)) r (now (out .exit)) ⌝ }
 {
-    if out.len() < 36 {
+    if out.len() < 44 {
         return BytesPut {
             count: 0,
             verdict: Verdict::Refused(20),

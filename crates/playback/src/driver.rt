@@ -5,7 +5,7 @@ use crate::answers::put_end;
 use crate::turns::count_up;
 use crate::turns::replay_part;
 use blocks::Verdict;
-use cic::state::Cic;
+use cic64::state::Cic;
 use records::session::Session;
 ghost use mathlib.Core.Path.{_≡_};
 ghost use mathlib.Core.Bool.{true};
@@ -50,12 +50,12 @@ fn padded(line: [u8; 64], len: usize) -> [u8; 64]
 
 // Whether a part of n bytes may need more than len bytes of output.
 fn short_of(len: usize, n: usize) -> bool
-    ensures { λ r. ⌜ r ≡ ltb len (5 * n + 356) ⌝ }
+    ensures { λ r. ⌜ r ≡ ltb len (7 * n + 492) ⌝ }
 {
-    if len < 356 {
+    if len < 492 {
         return true;
     }
-    (len - 356) / 5 < n
+    (len - 492) / 7 < n
 }
 
 // What the end of the input gives out.
@@ -82,6 +82,7 @@ impl Replay {
         let filter = m.state;
         let session = Session {
             opened: false,
+            wide: false,
             filter,
         };
         let line = [0u8; 64];
@@ -96,7 +97,7 @@ impl Replay {
     }
 
     // A part of the input, of any length and cut anywhere: what it gives out goes to the front of out, and the rest of
-    // out stays. Refused with 20 where out is shorter than 5 bytes for each of the part's and 356 more; a refused part
+    // out stays. Refused with 20 where out is shorter than 7 bytes for each of the part's and 492 more; a refused part
     // changes nothing.
     pub fn feed(self, input: &[u8], out: &mut [u8]) -> Fed
         ensures { λ r. ⌜ PartFed self (now (input .entry)) (now (out .entry)) r (now (out .exit)) ⌝ }
@@ -112,8 +113,8 @@ impl Replay {
             };
         }
         let first = self.clipped();
-        let mut samples = [0i32; 512];
-        let mut given = [0i32; 512];
+        let mut samples = [0i64; 512];
+        let mut given = [0i64; 512];
         let t = replay_part(first, input, out, &mut samples, &mut given);
         let last = t.replay;
         let wrote = BytesPut {
@@ -127,11 +128,11 @@ impl Replay {
     }
 
     // The end of the input: `end` and the count of outputs, or a refusal, goes to the front of out, and the rest of out
-    // stays. Refused with 20, nothing written, where out is shorter than 36 bytes.
+    // stays. Refused with 20, nothing written, where out is shorter than 44 bytes.
     pub fn finish(self, out: &mut [u8]) -> BytesPut
         ensures { λ r. ⌜ Writes (answerNumber (now (out .entry))) (finishBytes (placeOf self)) (now (out .entry)) r (now (out .exit)) ⌝ }
     {
-        if out.len() < 36 {
+        if out.len() < 44 {
             return BytesPut {
                 count: 0,
                 verdict: Verdict::Refused(20),
@@ -175,7 +176,7 @@ impl Replay {
 }
 
 // The replay of an input that is there as a whole, to the front of out; the rest of out stays. Refused with 20, nothing
-// written, where out is shorter than 5 bytes for each of the input's and 356 more.
+// written, where out is shorter than 7 bytes for each of the input's and 492 more.
 pub fn replay_whole(input: &[u8], out: &mut [u8]) -> BytesPut
     ensures { λ r. ⌜ Writes (feedNumber (now (input .entry)) (now (out .entry))) (replay (now (input .entry))) (now (out .entry)) r
         (now (out .exit)) ⌝ }
@@ -187,8 +188,8 @@ pub fn replay_whole(input: &[u8], out: &mut [u8]) -> BytesPut
         };
     }
     let first = Replay::start();
-    let mut samples = [0i32; 512];
-    let mut given = [0i32; 512];
+    let mut samples = [0i64; 512];
+    let mut given = [0i64; 512];
     let t = replay_part(first, input, out, &mut samples, &mut given);
     let last = t.replay;
     let n = put_finish(last, out, t.written);

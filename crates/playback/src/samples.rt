@@ -3,6 +3,8 @@ use crate::answers::put_output;
 use crate::answers::put_settled;
 use records::parse::Integer;
 use records::parse::integer_of;
+use records::session::fits_in;
+use records::session::read_in;
 use text::numbers::parsed;
 use text::parts::part_end;
 ghost use Prim.Native.Nat.{_+_, _-_, _*_, _≤_};
@@ -11,9 +13,9 @@ ghost use Rattle.text.specs.Writing.{Wrote};
 ghost use Rattle.playback.specs.Replays.{outputLine};
 ghost use Rattle.playback.specs.Inner.Advances.{finds, Gathers, outputLines};
 
-// A whole line that is a sample: its value, and where the next line starts.
+// A whole line that is a sample within the word: its value, and where the next line starts.
 pub enum Found {
-    Sample(i32, usize),
+    Sample(i64, usize),
     Other,
 }
 
@@ -23,9 +25,9 @@ pub struct Gathered {
     pub next: usize,
 }
 
-fn sample_at(input: &[u8], at: usize) -> Found
+fn sample_at(wide: bool, input: &[u8], at: usize) -> Found
     requires { ⌜ at ≤ length (now input) ⌝ }
-    ensures { λ r. ⌜ finds (now (input .entry)) at r ⌝ }
+    ensures { λ r. ⌜ finds wide (now (input .entry)) at r ⌝ }
 {
     let n = input.len();
     if n - at < 4 {
@@ -49,18 +51,21 @@ fn sample_at(input: &[u8], at: usize) -> Found
     let Integer::Within(x) = v else {
         return Found::Other;
     };
+    if !fits_in(wide, x) {
+        return Found::Other;
+    }
     Found::Sample(x, end + 1)
 }
 
-// Whole lines that are samples, from a line's start on, as many as there are or as samples has room for.
-pub(crate) fn gather(input: &[u8], from: usize, samples: &mut [i32]) -> Gathered
+// Whole lines that are samples within the word, from a line's start on, as many as there are or as samples has room for.
+pub(crate) fn gather(wide: bool, input: &[u8], from: usize, samples: &mut [i64]) -> Gathered
     requires { ⌜ (from ≤ length (now input)) × (512 ≤ length (now samples)) ⌝ }
-    ensures { λ r. ⌜ Gathers (now (input .entry)) from (now (samples .exit)) (r .count) (r .next) ⌝ }
+    ensures { λ r. ⌜ Gathers wide (now (input .entry)) from (now (samples .exit)) (r .count) (r .next) ⌝ }
 {
     let mut k: usize = 0;
     let mut i = from;
     while k < 512 {
-        let found = sample_at(input, i);
+        let found = sample_at(wide, input, i);
         let Found::Sample(x, next) = found else {
             return Gathered { count: k, next: i };
         };
@@ -72,9 +77,9 @@ pub(crate) fn gather(input: &[u8], from: usize, samples: &mut [i32]) -> Gathered
 }
 
 // The line of the output i places after one that tells `told`.
-fn put_next(out: &mut [u8], at: usize, value: i32, told: usize, i: usize) -> usize
-    requires { ⌜ (told ≤ 64) × (at + 17 ≤ length (now out)) ⌝ }
-    ensures { λ r. ⌜ Wrote (now (out .entry)) at (outputLine value (told - i)) r (now (out .exit)) × (r ≤ at + 17) ⌝ }
+fn put_next(out: &mut [u8], at: usize, value: i64, told: usize, i: usize) -> usize
+    requires { ⌜ (told ≤ 64) × (at + 26 ≤ length (now out)) ⌝ }
+    ensures { λ r. ⌜ Wrote (now (out .entry)) at (outputLine value (told - i)) r (now (out .exit)) × (r ≤ at + 26) ⌝ }
 {
     if told <= i {
         return put_settled(out, at, value);
@@ -82,23 +87,25 @@ fn put_next(out: &mut [u8], at: usize, value: i32, told: usize, i: usize) -> usi
     put_output(out, at, value, told - i)
 }
 
-// The output lines of a block that gave the first count of given and told this count with its first.
+// The output lines of a block that gave the first count of given, read in the word, and told this count with its first.
 pub(crate) fn put_outputs(
+    wide: bool,
     out: &mut [u8],
     at: usize,
-    given: &[i32],
+    given: &[i64],
     count: usize,
     told: usize,
 ) -> usize
-    requires { ⌜ (told ≤ 64) × (count ≤ length (now given)) × (at + 17 * count ≤ length (now out)) ⌝ }
-    ensures { λ r. ⌜ Wrote (now (out .entry)) at (outputLines told (take count (now (given .entry)))) r (now (out .exit))
-        × (r ≤ at + 17 * count) ⌝ }
+    requires { ⌜ (told ≤ 64) × (count ≤ length (now given)) × (at + 26 * count ≤ length (now out)) ⌝ }
+    ensures { λ r. ⌜ Wrote (now (out .entry)) at (outputLines wide told (take count (now (given .entry)))) r (now (out .exit))
+        × (r ≤ at + 26 * count) ⌝ }
 {
     let mut w = at;
     let mut i: usize = 0;
     while i < count {
         let y = given[i];
-        w = put_next(out, w, y, told, i);
+        let value = read_in(wide, y);
+        w = put_next(out, w, value, told, i);
         i += 1;
     }
     w

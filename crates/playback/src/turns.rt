@@ -3,7 +3,7 @@ use crate::answers::put_reply;
 use crate::driver::Replay;
 use crate::samples::gather;
 use crate::samples::put_outputs;
-use cic::state::Cic;
+use cic64::state::Cic;
 use records::session::Reply;
 use records::session::Session;
 use records::session::Taken;
@@ -105,7 +105,7 @@ fn end_line(s: Session, line: &[u8], b: u8) -> Taken
 
 // The replay after a line that was taken, and its answer.
 fn answer_line(r: Replay, t: Taken, out: &mut [u8], at: usize) -> Answered
-    requires { ⌜ at + 36 ≤ length (now out) ⌝ }
+    requires { ⌜ at + 44 ≤ length (now out) ⌝ }
     ensures { λ a. ⌜ Answers r t (now (out .entry)) at (a .replay) (a .written) (now (out .exit)) ⌝ }
 {
     let session = t.session;
@@ -177,11 +177,12 @@ fn ready(going: bool, opened: bool, len: usize) -> bool
 }
 
 // The replay after a block of `x` lines: its filter, and so many lines and outputs more.
-fn after_block(r: Replay, filter: Cic, lines: usize, outputs: usize) -> Replay
-    ensures { λ t. ⌜ (placeOf t ≡ afterBlock (placeOf r) filter lines outputs) × (t .len ≡ r .len) ⌝ }
+fn after_block(r: Replay, wide: bool, filter: Cic, lines: usize, outputs: usize) -> Replay
+    ensures { λ t. ⌜ (placeOf t ≡ afterBlock (placeOf r) wide filter lines outputs) × (t .len ≡ r .len) ⌝ }
 {
     let session = Session {
         opened: true,
+        wide,
         filter,
     };
     let mut next = r;
@@ -198,8 +199,8 @@ fn take_samples(
     from: usize,
     out: &mut [u8],
     at: usize,
-    samples: &mut [i32],
-    given: &mut [i32],
+    samples: &mut [i64],
+    given: &mut [i64],
 ) -> Advanced
     requires { ⌜ (r .len ≤ 64) × (from ≤ length (now input)) × Room (placeOf r) (drop from (now input)) (now out) at
         × (512 ≤ length (now samples)) × (512 ≤ length (now given)) ⌝ }
@@ -214,18 +215,18 @@ fn take_samples(
     if !ready(r.going, session.opened, r.len) {
         return same;
     }
-    let g = gather(input, from, samples);
+    let g = gather(session.wide, input, from, samples);
     let count = g.count;
     let filter = session.filter;
     let d = filter.decimate_block(&samples[..count], given);
     let wrote = d.wrote;
-    let cic::runs::Wrote::Outputs(w) = wrote else {
+    let cic64::runs::Wrote::Outputs(w) = wrote else {
         return same;
     };
-    let end = put_outputs(out, at, given, w.count, w.told);
+    let end = put_outputs(session.wide, out, at, given, w.count, w.told);
     let state = d.state;
     Advanced {
-        replay: after_block(r, state, count, w.count),
+        replay: after_block(r, session.wide, state, count, w.count),
         next: g.next,
         written: end,
     }
@@ -236,8 +237,8 @@ pub(crate) fn replay_part(
     first: Replay,
     input: &[u8],
     out: &mut [u8],
-    samples: &mut [i32],
-    given: &mut [i32],
+    samples: &mut [i64],
+    given: &mut [i64],
 ) -> Advanced
     requires { ⌜ (first .len ≤ 64) × Room (placeOf first) (now input) (now out) 0 × (512 ≤ length (now samples))
         × (512 ≤ length (now given)) ⌝ }

@@ -3,7 +3,7 @@ use mathlib.Core.Path.{_≡_, _∙_, sym, ap}
 use mathlib.Core.Bool.{true, false}
 use Prim.Native.Nat.{ℕ}
 use native.Mathlib.Omega.{arith}
-use mir.Syntax.{w32}
+use mir.Syntax.{w64}
 use mir.ValLaws.{toZ-ofZ}
 use borrow.Author.Needs.{needs}
 use Rattle.playback.specs.Places.{goesOn, replyBytes}
@@ -32,7 +32,7 @@ returns-2 c =
     let at-reply : tie.After-reply = search in
     let begin : tie.Start = search in
     let a = begin .args in
-    let y = toZ-ofZ w32 (at-reply .reply .given .0 .0 .value) (record { sfits = at-struct-told .struct-told .given .0 .1 }) in
+    let y = toZ-ofZ w64 (at-reply .reply .given .0 .0 .value) (record { sfits = at-struct-told .struct-told .given .0 .1 }) in
     let p = rw y at (c .before .before .put-output .ensures) in
     let g : lineRoom (a .reply) ≡ lineRoom (Output (at-reply .reply .given .0 .0)) = ap lineRoom (at-reply .reply .given .1) in
     let d = short (at-reply .reply .given .0 .0 .told) in
@@ -45,7 +45,7 @@ returns-3 c =
     let a = begin .args in
     let p = c .before .before .put-bad .ensures in (
       wrote-same (sym (ap (replyBytes (a .line)) (at-reply2 .reply2 .given .1))) (p .0),
-      p .1,
+      omega (arith, p .1),
       λ z. let e : false ≡ true = sym (ap goesOn (at-reply2 .reply2 .given .1)) ∙ z in let n : _≡_ {A = ℕ} 0 1 = cc in absurd (omega arith),
     )
 

@@ -8,7 +8,7 @@ use Rattle.playback.proofs.driver.short_of.Statement.{statement}
 use Rattle.playback.proofs.driver.short_of.Tie as tie
 
 returns : tie.Need-returns
-returns c = let a = c .before .args in sym (lt-ltb (a .len) (5 * a .n + 356) (omega arith))
+returns c = let a = c .before .args in sym (lt-ltb (a .len) (7 * a .n + 492) (omega arith))
 
 returns-2 : tie.Need-returns-2
 returns-2 c = let a = c .before .args in short-test (a .len) (a .n) (c .if1 .left)

@@ -2,7 +2,7 @@
 use mathlib.Core.Path.{_≡_}
 use Prim.Native.Nat.{_-_}
 use native.Mathlib.Omega.{arith}
-use mir.Syntax.{w32}
+use mir.Syntax.{w64}
 use mir.ValLaws.{toZ-ofZ}
 use borrow.Author.Needs.{needs}
 use Rattle.text.proofs.Spelling.{spelt-most}
@@ -15,7 +15,7 @@ returns c =
     let begin : tie.Start = search in
     let a = begin .args in
     let z : a .told - a .i ≡ 0 = omega (arith, then1 .if1 .taken) in
-    let p = rw (toZ-ofZ w32 (a .value) (begin .fits .value)) at (c .before .before .put-settled .ensures) in
+    let p = rw (toZ-ofZ w64 (a .value) (begin .fits .value)) at (c .before .before .put-settled .ensures) in
     rw z (p .0, omega (arith, p .1))
 
 put-output-requires : tie.Need-put-output-requires
@@ -28,7 +28,7 @@ returns-2 : tie.Need-returns-2
 returns-2 c =
     let begin : tie.Start = search in
     let a = begin .args in
-    let p = rw (toZ-ofZ w32 (a .value) (begin .fits .value)) at (c .before .before .put-output .ensures) in
+    let p = rw (toZ-ofZ w64 (a .value) (begin .fits .value)) at (c .before .before .put-output .ensures) in
     (p .0, omega (arith, p .1, spelt-most 1 20 (a .told - a .i) (omega (arith, begin .pre .0))))
 
 pub put-next-spec : {M : Type 1} → statement M

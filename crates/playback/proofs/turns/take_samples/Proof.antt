@@ -33,8 +33,8 @@ abbrev begin : tie.After-gather → tie.Start
 begin c = search
 
 module _ (c : tie.After-gather) where
-  enough : c .gather .result .count ≤ length (c .gather .last .1 .1 .0)
-  enough = omega (arith, c .gather .ensures .few, c .gather .kept .1 .1 .0, begin c .pre .3)
+  enough : c .gather .result .count ≤ length (c .gather .last .1 .1 .1 .0)
+  enough = omega (arith, c .gather .ensures .few, c .gather .kept .1 .1 .1 .0, begin c .pre .3)
 
   was-ready : (begin c .args .r .going ≡ true) × (begin c .args .r .session .opened ≡ true) × (begin c .args .r .len ≡ 0)
   was-ready =
@@ -51,7 +51,7 @@ returns c =
 slice-aggregate-decimate-block : tie.Need-slice-aggregate-decimate-block
 slice-aggregate-decimate-block c =
     let g = c .before .before .before .gather in
-    sym (length-take-le (g .result .count) (g .last .1 .1 .0) (enough (c .before .before .before)))
+    sym (length-take-le (g .result .count) (g .last .1 .1 .1 .0) (enough (c .before .before .before)))
 
 returns-2 : tie.Need-returns-2
 returns-2 c =
@@ -69,14 +69,14 @@ put-outputs-requires c κs =
     let d = at-decimate-block .decimate-block in
     let at-wrote : tie.After-wrote = search in
     let w = at-wrote .wrote .given in
-    let few = block-few (a .r .session .filter) (g .last .1 .1 .0) (a .given .now) (g .result .count) (enough m) (long8 s)
+    let few = block-few (a .r .session .wide) (a .r .session .filter) (g .last .1 .1 .1 .0) (a .given .now) (g .result .count) (enough m) (long8 s)
     (long64 s) (d .result) (d .ensures .0) (w .0 .0) (w .1) in
-    let most = block-most (a .r .session .filter) (g .last .1 .1 .0) (a .given .now) (g .result .count) (enough m) (long8 s)
+    let most = block-most (a .r .session .wide) (a .r .session .filter) (g .last .1 .1 .1 .0) (a .given .now) (g .result .count) (enough m) (long8 s)
     (long64 s) (d .result) (d .ensures .0) (w .0 .0) (w .1) in
     let fits = s .pre .2 .fits (was-ready m .0) in (
       most,
       omega (arith, few, g .ensures .few, d .kept .1 .1 .0, s .pre .4),
-      omega (arith, few, fits, g .ensures .far, g .ensures .within, length-drop (a .from) (a .input .now)),
+      omega (arith, few, fits, g .ensures .far, g .ensures .inside, length-drop (a .from) (a .input .now)),
     )
 
 same-length-4 : tie.Need-same-length-4
@@ -96,12 +96,13 @@ returns-3 c =
     let d = at-decimate-block .decimate-block in
     let w = at-wrote .wrote .given in
     let p = at-put-outputs .put-outputs in
-    turn-block (a .r .session .filter) (g .last .1 .1 .0) (a .given .now) (g .result .count) (enough m) (long8 s) (long64 s)
+    turn-block (a .r .session .wide) (a .r .session .filter) (g .last .1 .1 .1 .0) (a .given .now) (g .result .count) (enough m) (long8 s) (long64 s)
     (d .result) (d .ensures .0) (w .0 .0) (w .1)
-    (a .r) refl (a .input .now) (a .out .now) (a .from) (a .at) (was-ready m .1) (was-ready m .0) (was-ready m .2) (lines s)
+    (a .r) refl refl (a .input .now) (a .out .now) (a .from) (a .at) (was-ready m .1) (was-ready m .0) (was-ready m .2) (lines s)
     (outs s) (s .pre .2) (g .result .next) (g .ensures)
-    (c .after-block .result) (c .after-block .ensures .0) (c .after-block .ensures .1) (p .result) (p .last .0) (p .kept .0)
-    (wrote-same (ap (λ (l : List ℤ). outputLines (w .0 .0 .told) (take (w .0 .0 .count) l)) (d .ensures .1)) (p .ensures .0))
+    (c .after-block .result) (c .after-block .ensures .0) (c .after-block .ensures .1) (p .result) (p .last .1 .0) (p .kept .1 .0)
+    (wrote-same (ap (λ (l : List ℤ). outputLines (a .r .session .wide) (w .0 .0 .told) (take (w .0 .0 .count) l)) (d .ensures .1))
+    (p .ensures .0))
     (p .ensures .1)
 
 pub take-samples-spec : {M : Type 1} → statement M

@@ -5,7 +5,7 @@ use lib.ListN.{replicate}
 use borrow.Author.Needs.{needs}
 use Rattle.sums.specs.State.{refusalOf}
 use Rattle.sums.specs.Calls.{newState}
-use Rattle.cic.specs.declared.state.Made.{Made}
+use Rattle.cic64.specs.declared.state.Made.{Made}
 use Rattle.playback.proofs.driver.Replay.start.Statement.{statement}
 use Rattle.playback.proofs.driver.Replay.start.Tie as tie
 
@@ -13,7 +13,7 @@ returns : tie.Need-returns
 unfolding newState refusalOf
 returns c =
     ap (λ (m : Made). record {
-      session = record { opened = false; filter = m .state };
+      session = record { opened = false; wide = false; filter = m .state };
       lines = 0;
       outputs = 0;
       line = replicate 64 0;
