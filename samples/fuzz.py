@@ -19,27 +19,32 @@ HERE = os.path.dirname(os.path.abspath(__file__))
 EDGES = [0, 1, 2, 9, 10, 2**31 - 1, 2**31, 2**32 - 1, 2**32, 2**63, 2**64, 65535, 65536]
 
 
-def number(rng):
+def sample(rng, bits):
+    """Of at most so many bits, of few as often as of many."""
+    return str(rng.randint(-(2 ** rng.randint(0, bits - 1)), 2 ** rng.randint(0, bits - 1) - 1))
+
+
+def number(rng, bits):
     kind = rng.random()
     if kind < 0.75:
-        return str(rng.randint(-(2 ** rng.randint(0, 31)), 2 ** rng.randint(0, 31) - 1))
+        return sample(rng, bits)
     if kind < 0.97:
         return str(rng.choice([1, 1, -1]) * rng.choice(EDGES) + rng.choice([0, 0, 1, -1]))
     return rng.choice(["", "-", "+1", "01", "-0", "00", "1e3", " 1", "1 ", "0x1", "9" * rng.randint(1, 60)])
 
 
-def line(rng, wild):
+def line(rng, wild, bits):
     kind = rng.random() * (1 if wild else 0.92)
     if kind < 0.86:
-        return "x\t" + str(rng.randint(-(2 ** rng.randint(0, 31)), 2 ** rng.randint(0, 31) - 1))
+        return "x\t" + sample(rng, bits)
     if kind < 0.90:
         return "rate\t%d" % rng.choice([0, 0, 1, 2, 3, 7, rng.randint(0, 70000 if wild else 65535)])
     if kind < 0.92:
         return "clear"
     if kind < 0.97:
-        return "x\t" + number(rng)
-    fields = [number(rng) for _ in range(rng.randint(0, 4))]
-    return "\t".join([rng.choice(["cic", "rate", "x", "clear", "", "X", "cicc"])] + fields)
+        return "x\t" + number(rng, bits)
+    fields = [number(rng, bits) for _ in range(rng.randint(0, 4))]
+    return "\t".join([rng.choice(["cic", "cic64", "rate", "x", "clear", "", "X", "cicc", "cic6", "cic640"])] + fields)
 
 
 def damaged(rng, data):
@@ -59,8 +64,9 @@ def generated(rng):
     """Half of the inputs are drawn valid, half wild; three in eight of each are then damaged."""
     wild = rng.random() < 0.5
     order, delay = rng.choice([0, 1, 1, 2, 3, 3, 5, 8] + [9] * wild), rng.choice([1, 1, 1, 2, 3, 8] + [0] * wild)
-    head = [] if wild and rng.random() < 0.1 else ["cic\t%d\t%d\t%d" % (order, delay, rng.choice([0, 0, 1, 2, 3, 15, 63]))]
-    lines = head + [line(rng, wild) for _ in range(rng.choice([0, 1, 3, 10, 40, 200]))]
+    name, bits = rng.choice([("cic", 32), ("cic64", 64)])
+    head = [] if wild and rng.random() < 0.1 else ["%s\t%d\t%d\t%d" % (name, order, delay, rng.choice([0, 0, 1, 2, 3, 15, 63]))]
+    lines = head + [line(rng, wild, bits) for _ in range(rng.choice([0, 1, 3, 10, 40, 200]))]
     data = "".join(l + "\n" for l in lines).encode()
     for _ in range(rng.choice([0, 0, 0, 0, 0, 1, 1, 2])):
         data = damaged(rng, data)
@@ -100,7 +106,7 @@ def answered(program, data, parts):
 
 def recorded(program):
     """Each recording gives the output that stands beside it."""
-    for name in ["steady", "torsion", "pulled_plug"]:
+    for name in ["steady", "torsion", "pulled_plug", "long_run"]:
         with open(os.path.join(HERE, name + ".txt"), "rb") as given, open(os.path.join(HERE, name + ".out"), "rb") as want:
             assert subprocess.run([program], stdin=given, stdout=subprocess.PIPE).stdout == want.read(), name
 

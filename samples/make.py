@@ -3,7 +3,7 @@
 
     python3 samples/make.py
 
-A sample is the number of encoder counts since the sample before, less 1500. The shaft turns once in 640 samples, at 1500.37
+A sample is the number of encoder counts since the sample before, less 1500, but for long_run. The shaft turns once in 640 samples, at 1500.37
 counts a sample. What a recording must give is worked out by model.py.
 """
 import math
@@ -51,8 +51,18 @@ def pulled_plug():
     return ["cic\t3\t2\t15"] + lines(before + frozen + [jump] + after[1:9]) + ["rate\t15"] + lines(after[9:])
 
 
+def long_run():
+    """A long-run encoder: each sample is the position itself, of 41 bits, not the counts since the sample before. Decimated by 16, the
+    gain of 4,096 brings the outputs to 53 bits."""
+    positions, at = [], 1 << 40
+    for step in counts(0, 2 * TURN, ORDERS):
+        at += 1500 + step
+        positions.append(at)
+    return ["cic64\t3\t1\t15"] + lines(positions)
+
+
 def main():
-    for name, record in [("steady", steady), ("torsion", torsion), ("pulled_plug", pulled_plug)]:
+    for name, record in [("steady", steady), ("torsion", torsion), ("pulled_plug", pulled_plug), ("long_run", long_run)]:
         recording = ("\n".join(record()) + "\n").encode()
         answer = replay(recording)
         paths = [(os.path.join(HERE, name + ".txt"), recording), (os.path.join(HERE, name + ".out"), answer)]

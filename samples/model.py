@@ -2,12 +2,12 @@
 
 replay(input) takes and gives bytes.
 """
-WORD = 1 << 32
+WORD = {b"cic": 1 << 32, b"cic64": 1 << 64}
 
 
-def signed(n):
-    n %= WORD
-    return n - WORD if n >= WORD // 2 else n
+def signed(n, word):
+    n %= word
+    return n - word if n >= word // 2 else n
 
 
 class Refused(Exception):
@@ -15,16 +15,16 @@ class Refused(Exception):
 
 
 class Cic:
-    """The decimator: N integrators, N delay lines of M cells, the oldest first."""
+    """The decimator: N integrators, N delay lines of M cells, the oldest first; all sums modulo word."""
 
-    def __init__(self, order, delay, rate):
+    def __init__(self, word, order, delay, rate):
         if order > 8:
             raise Refused(10)
         if not 1 <= delay <= 8:
             raise Refused(11)
         if rate > 65535:
             raise Refused(12)
-        self.order, self.delay, self.rate = order, delay, rate
+        self.word, self.order, self.delay, self.rate = word, order, delay, rate
         self.clear()
 
     def clear(self):
@@ -40,14 +40,14 @@ class Cic:
 
     def step(self, x):
         for i in range(self.order):
-            x = self.sums[i] = signed(self.sums[i] + x)
+            x = self.sums[i] = signed(self.sums[i] + x, self.word)
         if self.countdown > 0:
             self.countdown -= 1
             return None
         self.countdown = self.rate
         for line in self.lines:
             line.append(x)
-            x = signed(x - line.pop(0))
+            x = signed(x - line.pop(0), self.word)
         told = self.unsettled
         self.unsettled = max(0, told - 1)
         return x, told
@@ -66,17 +66,17 @@ def number(field, low, high):
 
 
 def natural(field):
-    return number(field, 0, WORD - 1)
+    return number(field, 0, (1 << 32) - 1)
 
 
-def record(line):
-    """A line's name and numbers; 70 where it is none."""
+def record(line, word):
+    """A line's name and numbers; 70 where it is none. v lies within the word."""
     name, *fields = line.split(b"\t")
-    wanted = {b"cic": 3, b"rate": 1, b"x": 1, b"clear": 0}
+    wanted = {b"cic": 3, b"cic64": 3, b"rate": 1, b"x": 1, b"clear": 0}
     if name not in wanted or len(fields) != wanted[name]:
         raise Refused(70)
     if name == b"x":
-        return name, [number(fields[0], -(WORD // 2), WORD // 2 - 1)]
+        return name, [number(fields[0], -(word // 2), word // 2 - 1)]
     return name, [natural(f) for f in fields]
 
 
@@ -84,11 +84,11 @@ def taken(cic, line, out):
     """What a line does: the filter after it. Its output goes to out."""
     if len(line) > 64:
         raise Refused(72)
-    name, numbers = record(line)
-    if (name == b"cic") == (cic is not None):
+    name, numbers = record(line, cic.word if cic else WORD[b"cic"])
+    if (name in WORD) == (cic is not None):
         raise Refused(71)
-    if name == b"cic":
-        return Cic(*numbers)
+    if name in WORD:
+        return Cic(WORD[name], *numbers)
     if name == b"rate":
         cic.set_rate(*numbers)
     elif name == b"clear":

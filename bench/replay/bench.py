@@ -21,7 +21,7 @@ sys.path.insert(0, os.path.dirname(HERE))
 import x86
 from x86 import ROOT
 
-LIBRARIES = ["playback", "records", "text", "words", "blocks", "sums", "shape", "cic"]
+LIBRARIES = ["playback", "records", "text", "words", "blocks", "sums", "shape", "cic64"]
 KIT_LIBRARIES = ["std", "check", "io", "libc"]
 WRAPPER = """#!/bin/sh
 case " $* " in *" -O3 "*) cp module.bc "%s/module.bc" ;; esac
@@ -61,14 +61,14 @@ def retargeted(work):
     return program
 
 
-def recording(path, rate, size):
+def recording(path, name, bits, rate, size):
     rng = random.Random(7)
     with open(path, "w") as out:
-        written = out.write("cic\t3\t1\t%d\n" % rate)
+        written = out.write("%s\t3\t1\t%d\n" % (name, rate))
         while written < size:
             block = []
             for _ in range(20000):
-                reach = 1 << rng.randint(1, 31)
+                reach = 1 << rng.randint(1, bits - 1)
                 block.append("x\t%d\n" % rng.randint(-reach, reach - 1))
             written += out.write("".join(block))
     return os.path.getsize(path)
@@ -122,15 +122,15 @@ def memory(program, path):
     return peak
 
 
-def measure(rate, work, native, counted):
+def measure(name, bits, rate, work, native, counted):
     path, small = os.path.join(work, "recording"), os.path.join(work, "small")
-    size = recording(path, rate, 20_000_000)
-    recording(small, rate, 2_000_000)
+    size = recording(path, name, bits, rate, 20_000_000)
+    recording(small, name, bits, rate, 2_000_000)
     outputs = [subprocess.run([p], stdin=open(path, "rb"), stdout=subprocess.PIPE).stdout for p in native]
     if outputs[0] != outputs[1]:
-        sys.exit("the two differ at rate %d" % rate)
+        sys.exit("the two differ at %s, rate %d" % (name, rate))
     fast = [best(p, path) for p in native]
-    print("rate %2d, %d bytes" % (rate, size))
+    print("%s, rate %2d, %d bytes" % (name, rate, size))
     print("  proved %.0f MB/s, Rust %.0f MB/s, time %.2f of the Rust's" % (size / fast[0] / 1e6, size / fast[1] / 1e6, fast[0] / fast[1]))
     if counted:
         a, b = [instructions(p, path, outputs[0]) for p in counted]
@@ -146,8 +146,9 @@ def main():
         twin = compiled(work, "twin")
         counted = [] if x86.NATIVE else emulated(work)
         print("processor %s" % platform.machine())
-        for rate in [0, 63]:
-            measure(rate, work, [proved, twin], counted)
+        for name, bits in [("cic", 32), ("cic64", 64)]:
+            for rate in [0, 63]:
+                measure(name, bits, rate, work, [proved, twin], counted)
     finally:
         shutil.rmtree(work)
 

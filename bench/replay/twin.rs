@@ -2,18 +2,44 @@
 // It is what bench.py holds the proved program's cost against.
 use std::io::{Read, Write};
 
-struct Cic {
+// A filter's word: i32 after `cic`, i64 after `cic64`.
+trait Word: Copy + Default {
+    fn plus(self, other: Self) -> Self;
+    fn less(self, other: Self) -> Self;
+}
+
+impl Word for i32 {
+    fn plus(self, other: i32) -> i32 {
+        self.wrapping_add(other)
+    }
+
+    fn less(self, other: i32) -> i32 {
+        self.wrapping_sub(other)
+    }
+}
+
+impl Word for i64 {
+    fn plus(self, other: i64) -> i64 {
+        self.wrapping_add(other)
+    }
+
+    fn less(self, other: i64) -> i64 {
+        self.wrapping_sub(other)
+    }
+}
+
+struct Cic<W> {
     order: usize,
     delay: usize,
     rate: u32,
     countdown: u32,
     unsettled: usize,
-    integrators: [i32; 8],
-    combs: [[i32; 8]; 8],
+    integrators: [W; 8],
+    combs: [[W; 8]; 8],
 }
 
-impl Cic {
-    fn new(order: u32, delay: u32, rate: u32) -> Result<Cic, u32> {
+impl<W: Word> Cic<W> {
+    fn new(order: u32, delay: u32, rate: u32) -> Result<Cic<W>, u32> {
         if order > 8 {
             return Err(10);
         }
@@ -29,8 +55,8 @@ impl Cic {
             rate,
             countdown: 0,
             unsettled: 0,
-            integrators: [0; 8],
-            combs: [[0; 8]; 8],
+            integrators: [W::default(); 8],
+            combs: [[W::default(); 8]; 8],
         })
     }
 
@@ -46,14 +72,14 @@ impl Cic {
     fn clear(&mut self) {
         self.countdown = 0;
         self.unsettled = 0;
-        self.integrators = [0; 8];
-        self.combs = [[0; 8]; 8];
+        self.integrators = [W::default(); 8];
+        self.combs = [[W::default(); 8]; 8];
     }
 
-    fn decimate(&mut self, x: i32) -> Option<(i32, usize)> {
+    fn decimate(&mut self, x: W) -> Option<(W, usize)> {
         let mut acc = x;
         for cell in self.integrators[..self.order].iter_mut() {
-            *cell = cell.wrapping_add(acc);
+            *cell = cell.plus(acc);
             acc = *cell;
         }
         if self.countdown > 0 {
@@ -65,7 +91,7 @@ impl Cic {
             let oldest = line[0];
             line.copy_within(1..self.delay, 0);
             line[self.delay - 1] = acc;
-            acc = acc.wrapping_sub(oldest);
+            acc = acc.less(oldest);
         }
         let told = self.unsettled;
         self.unsettled = told.saturating_sub(1);
@@ -91,15 +117,15 @@ fn natural(field: &[u8]) -> Option<u32> {
     u32::try_from(digits(field)?).ok()
 }
 
-fn integer(field: &[u8]) -> Option<i32> {
+fn integer(field: &[u8]) -> Option<i64> {
     if field.first() == Some(&b'-') {
         let v = digits(&field[1..])?;
-        if v == 0 || v > 2147483648 {
+        if v == 0 || v > 9223372036854775808 {
             return None;
         }
-        return Some((v as u32).wrapping_neg() as i32);
+        return Some(v.wrapping_neg() as i64);
     }
-    i32::try_from(digits(field)?).ok()
+    i64::try_from(digits(field)?).ok()
 }
 
 fn put_decimal(out: &mut Vec<u8>, n: u64) {
@@ -117,12 +143,12 @@ fn put_decimal(out: &mut Vec<u8>, n: u64) {
     out.extend_from_slice(&text[i..]);
 }
 
-fn put_output(out: &mut Vec<u8>, value: i32, told: usize) {
+fn put_output(out: &mut Vec<u8>, value: i64, told: usize) {
     out.extend_from_slice(b"y\t");
     if value < 0 {
         out.push(b'-');
     }
-    put_decimal(out, value.unsigned_abs() as u64);
+    put_decimal(out, value.unsigned_abs());
     if told == 0 {
         out.extend_from_slice(b"\t0\n");
         return;
@@ -132,8 +158,47 @@ fn put_output(out: &mut Vec<u8>, value: i32, told: usize) {
     out.push(b'\n');
 }
 
+enum Filter {
+    Unopened,
+    Narrow(Cic<i32>),
+    Wide(Cic<i64>),
+}
+
+impl Filter {
+    fn set_rate(&mut self, rate: u32) -> Result<(), u32> {
+        match self {
+            Filter::Unopened => Err(71),
+            Filter::Narrow(f) => f.set_rate(rate),
+            Filter::Wide(f) => f.set_rate(rate),
+        }
+    }
+
+    fn clear(&mut self) -> Result<(), u32> {
+        match self {
+            Filter::Unopened => return Err(71),
+            Filter::Narrow(f) => f.clear(),
+            Filter::Wide(f) => f.clear(),
+        }
+        Ok(())
+    }
+
+    fn decimate(&mut self, v: i64) -> Result<Option<(i64, usize)>, u32> {
+        match self {
+            Filter::Unopened => {
+                i32::try_from(v).map_err(|_| 70u32)?;
+                Err(71)
+            }
+            Filter::Narrow(f) => {
+                let x = i32::try_from(v).map_err(|_| 70u32)?;
+                Ok(f.decimate(x).map(|(y, told)| (y as i64, told)))
+            }
+            Filter::Wide(f) => Ok(f.decimate(v)),
+        }
+    }
+}
+
 struct Replay {
-    filter: Option<Cic>,
+    filter: Filter,
     outputs: u64,
 }
 
@@ -148,8 +213,7 @@ impl Replay {
             b"x" => {
                 let (Some(v), None) = (fields.next(), fields.next()) else { return Err(70) };
                 let v = integer(v).ok_or(70u32)?;
-                let filter = self.filter.as_mut().ok_or(71u32)?;
-                if let Some((value, told)) = filter.decimate(v) {
+                if let Some((value, told)) = self.filter.decimate(v)? {
                     self.outputs += 1;
                     put_output(out, value, told);
                 }
@@ -157,21 +221,21 @@ impl Replay {
             b"rate" => {
                 let (Some(r), None) = (fields.next(), fields.next()) else { return Err(70) };
                 let r = natural(r).ok_or(70u32)?;
-                self.filter.as_mut().ok_or(71u32)?.set_rate(r)?;
+                self.filter.set_rate(r)?;
             }
-            b"cic" => {
+            b"cic" | b"cic64" => {
                 let (Some(n), Some(m), Some(r), None) = (fields.next(), fields.next(), fields.next(), fields.next()) else { return Err(70) };
                 let (n, m, r) = (natural(n).ok_or(70u32)?, natural(m).ok_or(70u32)?, natural(r).ok_or(70u32)?);
-                if self.filter.is_some() {
+                if !matches!(self.filter, Filter::Unopened) {
                     return Err(71);
                 }
-                self.filter = Some(Cic::new(n, m, r)?);
+                self.filter = if name == b"cic" { Filter::Narrow(Cic::new(n, m, r)?) } else { Filter::Wide(Cic::new(n, m, r)?) };
             }
             b"clear" => {
                 if fields.next().is_some() {
                     return Err(70);
                 }
-                self.filter.as_mut().ok_or(71u32)?.clear();
+                self.filter.clear()?;
             }
             _ => return Err(70),
         }
@@ -193,7 +257,7 @@ fn main() -> std::io::Result<()> {
     let mut buffer = vec![0u8; 65536];
     let mut held = 0;
     let mut out = Vec::with_capacity(1 << 18);
-    let mut replay = Replay { filter: None, outputs: 0 };
+    let mut replay = Replay { filter: Filter::Unopened, outputs: 0 };
     let mut lines = 0u64;
     loop {
         let got = input.read(&mut buffer[held..])?;

@@ -1,6 +1,6 @@
 // Numbers 70 to 72: lines of the replay program, before and after a `cic` line.
 use crate::print::row;
-use cic::state::Cic;
+use cic64::state::Cic;
 use records::session::Reply;
 use records::session::Session;
 use records::session::take_line;
@@ -9,7 +9,11 @@ use records::session::take_line;
 fn line(opened: bool, line: &[u8]) -> u32 {
     let made = Cic::new(1, 1, 1);
     let filter = made.state;
-    let session = Session { opened, filter };
+    let session = Session {
+        opened,
+        wide: false,
+        filter,
+    };
     let taken = take_line(session, line);
     let reply = taken.reply;
     match reply {

@@ -17,7 +17,7 @@ struct Pumped {
 
 // A part of at most 65,536 bytes, for which there is room.
 fn take(r: Replay, part: &[u8], out: &mut [u8]) -> Fed
-    requires { ⌜ (length (now part) ≤ 65536) × (328036 ≤ length (now out)) ⌝ }
+    requires { ⌜ (length (now part) ≤ 65536) × (459244 ≤ length (now out)) ⌝ }
     ensures { λ f. ⌜ (f .replay ≡ replayOf (fedOf (placeOf r) (now (part .entry))))
         × (f .wrote .count ≡ length (bytesOf (placeOf r) (now (part .entry)))) × (f .wrote .count ≤ length (now (out .exit))) ⌝ }
 {
@@ -26,7 +26,7 @@ fn take(r: Replay, part: &[u8], out: &mut [u8]) -> Fed
 
 // One read, and what it gives out.
 fn pump(r: Replay, buffer: &mut [u8], out: &mut [u8]) -> Pumped
-    requires { ⌜ (length (now buffer) ≤ 65536) × (328036 ≤ length (now out)) ⌝ }
+    requires { ⌜ (length (now buffer) ≤ 65536) × (459244 ≤ length (now out)) ⌝ }
 {
     let got = libc::read(0, buffer);
     if got < 0 {
@@ -68,7 +68,7 @@ fn turns_left(turns: u64, more: bool) -> u64
 // The whole input, read by read. A proved loop ends, and nothing says that the input does: the turns count down from a
 // number that no input uses up.
 fn replay_input(buffer: &mut [u8], out: &mut [u8])
-    requires { ⌜ (length (now buffer) ≤ 65536) × (328036 ≤ length (now out)) ⌝ }
+    requires { ⌜ (length (now buffer) ≤ 65536) × (459244 ≤ length (now out)) ⌝ }
 {
     let mut r = Replay::start();
     let mut over = false;
@@ -90,6 +90,6 @@ fn replay_input(buffer: &mut [u8], out: &mut [u8])
 
 fn main() {
     let mut buffer = [0u8; 65536];
-    let mut out = [0u8; 328036];
+    let mut out = [0u8; 459244];
     replay_input(&mut buffer, &mut out);
 }
