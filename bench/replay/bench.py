@@ -3,8 +3,8 @@
 
     rt check replay && python3 bench/replay/bench.py
 
-Programs are compiled for x86-64. On another processor their instructions are counted under an emulator, and the twin's rustc is the
-one that ../x86.py fetches; on x86-64 it wants rustc. The time under an emulator says nothing, so for the bytes a second the program's LLVM module is compiled for this processor by
+Programs are compiled for x86-64, and their instructions are counted under an emulator. On another processor the twin's rustc is the
+one that ../x86.py fetches; on x86-64 it wants rustc and qemu-user. The time under an emulator says nothing, so for the bytes a second the program's LLVM module is compiled for this processor by
 the toolchain's own clang at -O3, and both programs run natively: the same module and flags, another back end.
 """
 import os
@@ -132,9 +132,8 @@ def measure(name, bits, rate, work, native, counted):
     fast = [best(p, path) for p in native]
     print("%s, rate %2d, %d bytes" % (name, rate, size))
     print("  proved %.0f MB/s, Rust %.0f MB/s, time %.2f of the Rust's" % (size / fast[0] / 1e6, size / fast[1] / 1e6, fast[0] / fast[1]))
-    if counted:
-        a, b = [instructions(p, path, outputs[0]) for p in counted]
-        print("  x86-64 instructions a byte under the emulator: proved %.1f, Rust %.1f, %.2f of the Rust's" % (a / size, b / size, a / b))
+    a, b = [instructions(p, path, outputs[0]) for p in counted]
+    print("  x86-64 instructions a byte under the emulator: proved %.1f, Rust %.1f, %.2f of the Rust's" % (a / size, b / size, a / b))
     print("  peak memory of the proved program: %d KB on 2 MB, %d KB on 20 MB" % (memory(native[0], small), memory(native[0], path)))
 
 
@@ -144,7 +143,7 @@ def main():
         os.makedirs(x86.WORK, exist_ok=True)
         proved = os.path.join(ROOT, "target", "bin", "replay") if x86.NATIVE else retargeted(work)
         twin = compiled(work, "twin")
-        counted = [] if x86.NATIVE else emulated(work)
+        counted = [proved, twin] if x86.NATIVE else emulated(work)
         print("processor %s" % platform.machine())
         for name, bits in [("cic", 32), ("cic64", 64)]:
             for rate in [0, 63]:

@@ -70,14 +70,16 @@ module _ (wide : Bool) where
   sample-taken f fit i room l x h e in-word = rw (le-ltb _ _ h, e, in-word, may-take f fit i room)
 
   -- what a step's answer adds to the counts
-  after-step : (f t : Counted ℤ) (n k i : ℕ) (g : Option (Output ℤ)) → ended (between f n k) (kept wide (cicOf t) (replied wide (withNumber i g)))
+  after-step : (f t : Counted ℤ) (n k i : ℕ) (g : Option (Output ℤ))
+      → ended (between f n k) (kept wide (cicOf t) (replied wide (withNumber i g)))
       ≡ between t (countedUp n 1) (countedUp k (length (join g [])))
   after-step f t n k i (some y) = refl
   after-step f t n k i none = refl
 
   -- and to the output: what is told falls by one
   told-step : (f : State ℤ) → Fit f → (x : ℤ) (line i : ℕ) (l : List (Output ℤ))
-      → replyBytes line (replied wide (withNumber i (stepGiven wordOps f x))) ++ outputLines wide (stepState wordOps f x .unsettled) (values l)
+      → replyBytes line (replied wide (withNumber i (stepGiven wordOps f x))) ++ outputLines wide (stepState wordOps f x .unsettled)
+      (values l)
       ≡ outputLines wide (f .unsettled) (values (join (stepGiven wordOps f x) l))
   unfolding outputLines
   told-step f fit x line i l =
@@ -110,7 +112,8 @@ module _ (wide : Bool) where
         line-bytes line newline bs here line refl plain refl short refl
         ∙ ap (λ (t : Taken). replyBytes (countedUp n 1) (t .reply) ++ bytesOf (ended here (lineOf keptWords (here .session) line)) bs)
         (sample-taken f fit i room line x short reads fits)
-        ∙ ap (λ (q : Place). replyBytes (countedUp n 1) (replied wide (withNumber (suc i) (stepGiven wordOps f x))) ++ bytesOf q bs) taken-is
+        ∙ ap (λ (q : Place). replyBytes (countedUp n 1) (replied wide (withNumber (suc i)
+        (stepGiven wordOps f x))) ++ bytesOf q bs) taken-is
 
   -- where a run of sample lines leaves the replay
   abbrev pub ran : State ℤ → ℕ → List ℤ → ℕ → ℕ → Place
@@ -165,4 +168,5 @@ module _ (wide : Bool) where
       ∙ sym (append-assoc y m _)
       ∙ ap (λ (l : List ℕ). l ++ bytesOf (ran t (suc i) xs (countedUp n 1) k') rest)
       (told-step f fit x (countedUp n 1) (suc i) (outputs wordOps t xs))
-      ∙ ap (λ (q : Place). outputLines wide (f .unsettled) (values (join g (outputs wordOps t xs))) ++ bytesOf q rest) (ran-more f i x xs n k)
+      ∙ ap (λ (q : Place). outputLines wide (f .unsettled) (values (join g (outputs wordOps t xs))) ++ bytesOf q rest)
+      (ran-more f i x xs n k)

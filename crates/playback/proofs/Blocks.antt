@@ -79,11 +79,18 @@ outputs-few s (x ∷ xs) = omega (
 )
 
 place-is : (s : Session) (n k len : ℕ) (line : List ℕ) (b : Bool) → s .opened ≡ true → b ≡ true → len ≡ 0
-    → _≡_ {A = Place} (record { session = s; lines = n; outputs = k; line = take len line; going = b }) (between (s .wide) (countedOf (s .filter)) n k)
+    → _≡_ {A = Place} (record { session = s; lines = n; outputs = k; line = take len line; going = b })
+    (between (s .wide) (countedOf (s .filter)) n k)
 place-is s n k len line b o e z =
     ap (λ (x : Bool). record { session = s; lines = n; outputs = k; line = take len line; going = x }) e
     ∙ ap (λ (x : ℕ). record { session = s; lines = n; outputs = k; line = take x line; going = true }) z
-    ∙ ap (λ (x : Bool). record { session = record { opened = x; wide = s .wide; filter = s .filter }; lines = n; outputs = k; line = []; going = true }) o
+    ∙ ap (λ (x : Bool). record {
+      session = record { opened = x; wide = s .wide; filter = s .filter };
+      lines = n;
+      outputs = k;
+      line = [];
+      going = true;
+    }) o
 
 -- the count told with the first output is the one found, where there is an output
 first-lines : (wide : Bool) (ys : List (Output ℤ)) (u : ℕ) → ((d : Output ℤ) → 0 < length ys → getD ys 0 d .told ≡ u - 0)
@@ -100,8 +107,8 @@ first-most [] u m h t e = omega arith
 first-most (y ∷ ys) u m h t e = omega (arith, h y (omega arith))
 
 -- the block of the first n samples
-module _ (wide : Bool) (filter : Cic) (samples given : List ℤ) (n : ℕ) (enough : n ≤ length samples) (long8 : length (filter .integrators) ≡ 8)
-    (long64 : length (filter .combs) ≡ 64) (d : Decimated) (is : d ≡ decimatedOf filter (take n samples) given) (w : Written)
+module _ (wide : Bool) (filter : Cic) (samples given : List ℤ) (n : ℕ) (enough : n ≤ length samples)
+    (long8 : length (filter .integrators) ≡ 8) (long64 : length (filter .combs) ≡ 64) (d : Decimated) (is : d ≡ decimatedOf filter (take n samples) given) (w : Written)
     (wrote : d .wrote ≡ Wrote.Outputs w) where
   abbrev k : ℕ
   k = w .count
@@ -179,7 +186,8 @@ module _ (wide : Bool) (filter : Cic) (samples given : List ℤ) (n : ℕ) (enou
       ∙ ap (λ (x : ℕ). between wide left (countedUp a x) (countedUp b k)) m
       ∙ ap (λ (x : ℕ). between wide left (countedUp a (length (take n samples))) (countedUp b x)) count-is
 
-  module _ (r : Replay) (of : r .session .filter ≡ filter) (word : r .session .wide ≡ wide) (input o : List ℕ) (from at : ℕ) (opened : r .session .opened ≡ true)
+  module _ (r : Replay) (of : r .session .filter ≡ filter) (word : r .session .wide ≡ wide) (input o : List ℕ) (from at : ℕ)
+      (opened : r .session .opened ≡ true)
       (going : r .going ≡ true) (none : r .len ≡ 0)
       (lines : r .lines ≤ 18446744073709551615) (outs : r .outputs ≤ 18446744073709551615)
       (room : Room (placeOf r) (drop from input) o at) (next : ℕ) (g : Gathers wide input from samples n next) where
@@ -195,7 +203,8 @@ module _ (wide : Bool) (filter : Cic) (samples given : List ℤ) (n : ℕ) (enou
     turn-block t e z w o' lo wr near =
         let i : placeOf t ≡ afterBlock (between wide (countedOf filter) (r .lines) (r .outputs)) wide (d .state) n k = e
         ∙ ap (λ (p : Place). afterBlock p wide (d .state) n k) here in
-        let q : placeOf t ≡ ran wide (stateOf filter) (filter .inputs) (take n samples) (r .lines) (r .outputs) = i ∙ after-is (r .lines) (r .outputs) in
+        let q : placeOf t ≡ ran wide (stateOf filter) (filter .inputs) (take n samples) (r .lines) (r .outputs) =
+        i ∙ after-is (r .lines) (r .outputs) in
         record {
           runs = record {
             place = ap (λ (x : Place). fedOf x (drop from input)) here

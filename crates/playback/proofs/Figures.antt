@@ -1,4 +1,4 @@
--- Cases of document 01, 'The replay program', worked out by the definition.
+-- Cases of document 01, 'The replay program', and of 02, A1, worked out by the definition.
 use mathlib.Core.Path.{_≡_, refl}
 use mathlib.Core.List.{List, [], _∷_, _++_, map}
 use Prim.Native.Nat.{ℕ}
@@ -40,6 +40,15 @@ table =
       input = bytes "cic\t0\t1\t0\nx\t2147483647\nx\t-2147483648\nx\t2147483648\n";
       output = bytes "y\t2147483647\t0\ny\t-2147483648\t0\nbad\t4\t70\n";
     }
+    ∷ record {
+      input = bytes "cic64\t0\t1\t0\nx\t9223372036854775807\nx\t-9223372036854775808\nx\t9223372036854775808\n";
+      output = bytes "y\t9223372036854775807\t0\ny\t-9223372036854775808\t0\nbad\t4\t70\n";
+    }
+    ∷ record {
+      input = bytes "cic64\t1\t1\t1\nx\t9223372036854775807\nx\t9223372036854775807\nx\t9223372036854775807\n";
+      output = bytes "y\t9223372036854775807\t0\ny\t-2\t0\nend\t2\n";
+    }
+    ∷ record { input = bytes "cic64\t0\t1\t0\ncic\t0\t1\t0\n"; output = bytes "bad\t2\t71\n" }
     -- 64 bytes without a newline  give  bad 1 70/
     ∷ record { input = replicate 64 (byte "x"); output = bytes "bad\t1\t70\n" }
     -- 65 bytes, whatever follows,  give  bad 1 72/
@@ -48,6 +57,6 @@ table =
 
 pub figures : map (λ (c : Case). replay (c .input)) table ≡ map (λ (c : Case). c .output) table
 unfolding table replay replayFrom outputLine endLine badLine lineOf takeOf recordOf nameOf same parted numberOf plainOf leadingOf
-    digitsFrom spelt verdictOf newState rateState clearState takeNumberOf takeState takeGiven stepState stepGiven zeroed refusalOf view put rows putRows given
-    givenAt decimated decimatedAt differed combed less summed integrated pushed wrap word
+    digitsFrom spelt verdictOf newState rateState clearState takeNumberOf takeState takeGiven stepState stepGiven zeroed refusalOf view
+    put rows putRows given givenAt decimated decimatedAt differed combed less summed integrated pushed wrap word
 figures = refl

@@ -139,7 +139,8 @@ module _ (wide : Bool) (o : List ℕ) (at : ℕ) (ys : List ℤ) (told : ℕ) (i
       let z : told - 0 ≡ told = omega arith in
       record { small = omega arith; done = []; left = rw z refl; wrote = nothing o at; near = omega arith }
 
-  pub writing-on : (o₁ o₂ : List ℕ) (w₁ w₂ i : ℕ) (y : ℤ) → i < length ys → y ≡ wrap (widthOf wide) (getD ys i (pos 0)) → Writing wide o at ys told o₁ w₁ i
+  pub writing-on : (o₁ o₂ : List ℕ) (w₁ w₂ i : ℕ) (y : ℤ) → i < length ys → y ≡ wrap (widthOf wide) (getD ys i (pos 0))
+      → Writing wide o at ys told o₁ w₁ i
       → Wrote o₁ w₁ (outputLine y (told - i)) w₂ o₂ → w₂ ≤ w₁ + 26 → Writing wide o at ys told o₂ w₂ (i + 1)
   unfolding outputLines
   writing-on o₁ o₂ w₁ w₂ i y h e r w n =

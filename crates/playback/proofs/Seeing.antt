@@ -13,7 +13,8 @@ use Rattle.records.specs.declared.session.Reply.{Reply}
 use Rattle.records.specs.declared.session.Reply.the-variants as Reply
 use Rattle.records.specs.declared.session.Taken.{Taken}
 
-answered-same : (r : Reply) (line outputs : ℕ) (a b : ℕ → List ℕ) → ((k : ℕ) → a k ≡ b k) → answered r line outputs a ≡ answered r line outputs b
+answered-same : (r : Reply) (line outputs : ℕ) (a b : ℕ → List ℕ) → ((k : ℕ) → a k ≡ b k)
+    → answered r line outputs a ≡ answered r line outputs b
 answered-same Reply.Silent line outputs a b h = h outputs
 answered-same (Reply.Output y) line outputs a b h = ap (λ (l : List ℕ). outputLine (y .value) (y .told) ++ l) (h (suc outputs))
 answered-same (Reply.Bad number) line outputs a b h = refl
@@ -22,7 +23,8 @@ answered-same (Reply.Bad number) line outputs a b h = refl
 abbrev on : Taken → ℕ → ℕ → List (List ℕ) → List ℕ
 on t n k rest = answered (t .reply) (suc n) k (λ j. replayFrom ownWords (t .session) (suc n) j rest)
 
-pub replay-seen : (s : Session) (n k : ℕ) (lines : List (List ℕ)) → replayFrom keptWords s n k lines ≡ replayFrom ownWords (seen s) n k lines
+pub replay-seen : (s : Session) (n k : ℕ) (lines : List (List ℕ))
+    → replayFrom keptWords s n k lines ≡ replayFrom ownWords (seen s) n k lines
 unfolding replayFrom
 replay-seen s n k [] = refl
 replay-seen s n k (last ∷ []) = refl

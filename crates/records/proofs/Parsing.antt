@@ -82,7 +82,8 @@ natural-capped Wrong = refl
 pub integer-capped : (n : Number) → integerOf (capped n) ≡ integerOf n
 integer-capped (Plus v) = by (leb v 9223372036854775807) refl
   where
-    by : (t : Bool) → leb v 9223372036854775807 ≡ t → cond (leb (min v cap) 9223372036854775807) (Integer.Within (pos (min v cap))) Integer.Outside
+    by : (t : Bool) → leb v 9223372036854775807 ≡ t → cond (leb (min v cap) 9223372036854775807) (Integer.Within (pos
+        (min v cap))) Integer.Outside
         ≡ cond t (Integer.Within (pos v)) Integer.Outside
     by true e = let h = leb-true v 9223372036854775807 e in let m : min v cap ≡ v = omega arith in rw (m, e)
     by false e = let h = leb-false v 9223372036854775807 e in rw (lt-leb (min v cap) 9223372036854775807 (omega arith))

@@ -1,4 +1,5 @@
--- A map that keeps sums, differences and zero carries every call of the decimator; and reading a wider word in a narrower one is such a map.
+-- A map that keeps sums, differences and zero carries every call of the decimator; reading a wider word in a narrower one is such a
+-- map.
 use mathlib.Core.Path.{_≡_, refl, sym, ap, ap₂, _∙_}
 use mathlib.Core.Bool.{Bool, true, false, cond}
 use mathlib.Core.List.{List, [], _∷_, _++_, map, map-append}
@@ -172,7 +173,8 @@ module _ (p o : Ops ℤ) (φ : ℤ → ℤ) (m : Keeps p o φ) where
   step-to s x =
       ap (unless (refusal s) (throughState φ s))
       (ap (λ (t : Machine ℤ). put (throughState φ s) (decimatedAt o t (φ x) (t .countdown))) (view-to φ s)
-      ∙ ap (put (throughState φ s)) (decimated-to (view s) x (view s .countdown)) ∙ put-to φ s (decimatedAt p (view s) x (view s .countdown)))
+      ∙ ap (put (throughState φ s)) (decimated-to (view s) x (view s .countdown)) ∙ put-to φ s (decimatedAt p (view s) x
+      (view s .countdown)))
       ∙ under (throughState φ) (eqb (refusal s) 0) _ _
 
   gives-to : (s : State ℤ) (x : ℤ) → stepGiven o (throughState φ s) (φ x) ≡ Option·map (output φ) (stepGiven p s x)

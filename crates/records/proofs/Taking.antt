@@ -130,6 +130,7 @@ pub line-long : (s : Session) (l : List ℕ) (t : Taken) → 64 < length l → t
 unfolding lineOf
 line-long s l t h w = w ∙ sym (rw (lt-ltb _ _ h))
 
-pub line-short : (s : Session) (l : List ℕ) (r : Record) (t : Taken) → length l ≤ 64 → r ≡ recordOf l → t ≡ takeOf keptWords s r → t ≡ lineOf keptWords s l
+pub line-short : (s : Session) (l : List ℕ) (r : Record) (t : Taken) → length l ≤ 64 → r ≡ recordOf l → t ≡ takeOf keptWords s r
+    → t ≡ lineOf keptWords s l
 unfolding lineOf
 line-short s l r t h p w = w ∙ ap (takeOf keptWords s) p ∙ sym (rw (le-ltb _ _ h))

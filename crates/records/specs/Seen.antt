@@ -1,5 +1,6 @@
--- 02, A1: `cic` and `cic64` go over the same rules with words of 32 and of 64 bits. The filter that a session keeps computes with words of 64
--- bits for either. Read in the session's word it is the filter of that word: sums and differences modulo 2 ^ 64 are right modulo 2 ^ 32 too.
+-- 02, A1: `cic` and `cic64` go over the same rules with words of 32 and of 64 bits. The filter that a session keeps computes with words
+-- of 64 bits for either. Read in the session's word it is the filter of that word: sums and differences modulo 2 ^ 64 are right modulo
+-- 2 ^ 32 too.
 use mathlib.Core.Path.{_≡_}
 use mathlib.Core.List.{List, map}
 use Prim.Native.Nat.{ℕ}

@@ -10,19 +10,19 @@ use words::casts::i64_as_i32;
 ghost use mathlib.Core.Path.{_≡_};
 ghost use Rattle.words.specs.Words.{wrap};
 ghost use Rattle.records.specs.Sessions.{
-    widthOf,
-    within,
-    shown,
-    keptWords,
-    refuse,
-    kept,
-    toldBy,
-    making,
-    rating,
-    clearing,
-    stepping,
-    takeOf,
-    lineOf,
+  widthOf,
+  within,
+  shown,
+  keptWords,
+  refuse,
+  kept,
+  toldBy,
+  making,
+  rating,
+  clearing,
+  stepping,
+  takeOf,
+  lineOf,
 };
 
 // The filter, once a `cic` or `cic64` record has made it, and whether that was `cic64`. It computes with words of 64 bits

@@ -80,5 +80,6 @@ returns c =
 
 pub put-outputs-spec : {M : Type 1} → statement M
 put-outputs-spec =
-    tie.close (tie.spec Inv-loop μ-loop loop-holds mul-y shared-slice-copy-out-y (λ c κs. search needs) put-next-requires (λ c. search needs)
+    tie.close (tie.spec Inv-loop μ-loop loop-holds mul-y shared-slice-copy-out-y (λ c κs. search needs) put-next-requires
+    (λ c. search needs)
     (λ c. search needs) loop-again same-length returns)

@@ -69,9 +69,11 @@ put-outputs-requires c κs =
     let d = at-decimate-block .decimate-block in
     let at-wrote : tie.After-wrote = search in
     let w = at-wrote .wrote .given in
-    let few = block-few (a .r .session .wide) (a .r .session .filter) (g .last .1 .1 .1 .0) (a .given .now) (g .result .count) (enough m) (long8 s)
+    let few = block-few (a .r .session .wide) (a .r .session .filter) (g .last .1 .1 .1 .0) (a .given .now) (g .result .count)
+    (enough m) (long8 s)
     (long64 s) (d .result) (d .ensures .0) (w .0 .0) (w .1) in
-    let most = block-most (a .r .session .wide) (a .r .session .filter) (g .last .1 .1 .1 .0) (a .given .now) (g .result .count) (enough m) (long8 s)
+    let most = block-most (a .r .session .wide) (a .r .session .filter) (g .last .1 .1 .1 .0) (a .given .now) (g .result .count)
+    (enough m) (long8 s)
     (long64 s) (d .result) (d .ensures .0) (w .0 .0) (w .1) in
     let fits = s .pre .2 .fits (was-ready m .0) in (
       most,
@@ -96,7 +98,8 @@ returns-3 c =
     let d = at-decimate-block .decimate-block in
     let w = at-wrote .wrote .given in
     let p = at-put-outputs .put-outputs in
-    turn-block (a .r .session .wide) (a .r .session .filter) (g .last .1 .1 .1 .0) (a .given .now) (g .result .count) (enough m) (long8 s) (long64 s)
+    turn-block (a .r .session .wide) (a .r .session .filter) (g .last .1 .1 .1 .0) (a .given .now) (g .result .count) (enough m)
+    (long8 s) (long64 s)
     (d .result) (d .ensures .0) (w .0 .0) (w .1)
     (a .r) refl refl (a .input .now) (a .out .now) (a .from) (a .at) (was-ready m .1) (was-ready m .0) (was-ready m .2) (lines s)
     (outs s) (s .pre .2) (g .result .next) (g .ensures)
