@@ -9,6 +9,7 @@ use records::parse::Record;
 use records::parse::parse;
 use text::parts::part_end;
 use words::casts::i32_as_u32;
+use words::casts::i64_as_i32;
 use words::signed::mul_i32;
 use words::unsigned::add_u64;
 ghost use Prim.Native.Nat.{_≤_};
@@ -26,7 +27,7 @@ fn line_end(text: &[u8], from: usize) -> usize
     end
 }
 
-// A line's sample, if it has one and there is room, to place n of xs: how many there are then.
+// A line's sample modulo 2^32, if it has one and there is room, to place n of xs: how many there are then.
 fn take_line(line: &[u8], xs: &mut [i32], n: usize) -> usize {
     let record = parse(line);
     let Record::Sample(x) = record else {
@@ -35,7 +36,7 @@ fn take_line(line: &[u8], xs: &mut [i32], n: usize) -> usize {
     if xs.len() <= n {
         return n;
     }
-    xs[n] = x;
+    xs[n] = i64_as_i32(x);
     n + 1
 }
 
