@@ -13,6 +13,9 @@ use Rattle.cic.specs.Answers.{steppedOf}
 use Rattle.cic.specs.declared.state.Cic.{Cic}
 use Rattle.cic.specs.declared.steps.Out.{Out}
 use Rattle.cic.specs.declared.steps.Out.the-variants as Out
+use Rattle.cic64.specs.Word as Word64
+use Rattle.cic64.specs.Reading as Reading64
+use Rattle.cic64.specs.declared.state.Cic as Wide
 use Rattle.wdf.specs.declared.filter.Wdf.{Wdf}
 use Rattle.wdf.specs.Calls.{made}
 use Rattle.biquad.specs.declared.biquad.Biquad.{Biquad}
@@ -47,6 +50,9 @@ blockLeftBy k out next c s xs ys = blockLeft (k c) (out c) (next c) s xs ys
 -- Decimator and interpolator.
 abbrev pub freshCic : ℕ → ℕ → ℕ → Cic
 freshCic order delay rate = cicOf (newCounted wordOps order delay rate)
+
+abbrev pub freshCic64 : ℕ → ℕ → ℕ → Wide.Cic
+freshCic64 order delay rate = Reading64.cicOf (newCounted Word64.wordOps order delay rate)
 
 unfoldable pub givenIn : Out → ℤ
 givenIn (Out.Given y) = y .value

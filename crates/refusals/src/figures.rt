@@ -72,7 +72,7 @@ fn fit() {
     text(b", gain_log2 ");
     told(filter.gain_log2());
     text(b", fit ");
-    match filter.fit(25) {
+    match filter.fit(32, 25) {
         Fitting::Fits(yes) => answer(yes),
         Fitting::Refused(_) => text(b"refused"),
     }

@@ -10,10 +10,12 @@ mod print;
 mod sections;
 mod states;
 mod waves;
+mod wide;
 
 fn main() {
     figures::print_all();
     states::print_all();
+    wide::print_all();
     counts::print_all();
     modulator::print_all();
     fractions::print_all();

@@ -86,10 +86,10 @@ fn length(rate: u32) -> u32 {
     }
 }
 
-fn fit(b: u32) -> u32 {
+fn fit(width: u32, b: u32) -> u32 {
     let made = Cic::new(0, 1, 0);
     let filter = made.state;
-    match filter.fit(b) {
+    match filter.fit(width, b) {
         Fitting::Fits(_) => 0,
         Fitting::Refused(n) => n,
     }
@@ -152,6 +152,18 @@ pub(crate) fn print_all() {
         asked(3),
     );
     print_inputs();
-    row(b"fit of 0 bits", fit(0), b"of 1 bit", fit(1));
-    row(b"fit of 33 bits", fit(33), b"of 32 bits", fit(32));
+    row(b"fit of 0 bits in 32", fit(32, 0), b"of 1 bit", fit(32, 1));
+    row(
+        b"fit of 33 bits in 32",
+        fit(32, 33),
+        b"of 32 bits",
+        fit(32, 32),
+    );
+    row(
+        b"fit of 65 bits in 64",
+        fit(64, 65),
+        b"of 64 bits",
+        fit(64, 64),
+    );
+    row(b"fit of 1 bit in 33", fit(33, 1), b"in 64", fit(64, 1));
 }

@@ -19,6 +19,10 @@ impl Draw {
     fn ints(&mut self, n: usize) -> Vec<i32> {
         (0..n).map(|_| self.next() as i32).collect()
     }
+
+    fn longs(&mut self, n: usize) -> Vec<i64> {
+        (0..n).map(|_| (self.next() as i64) << 32 | self.next() as i64).collect()
+    }
 }
 
 /// Whether calls are counted or timed.
@@ -88,6 +92,34 @@ fn interpolators<const N: usize, const M: usize>(bench: &Bench, rate: u32, xs: &
     bench.row(&name, lent, lent, |y| proved::interpolate(N, M, rate, xs, y), |y| theirs::interpolate::<N, M>(rate, xs, y));
 }
 
+fn decimators64<const N: usize, const M: usize>(bench: &Bench, rate: u32, xs: &[i64]) {
+    let lent = xs.len() / (rate as usize + 1) + 1;
+    let name = format!("decimator on i64 ({N},{M},{rate})");
+    bench.row(&name, xs.len(), lent, |y| proved::decimate64(N, M, rate, xs, y), |y| theirs::decimate64::<N, M>(rate, xs, y));
+}
+
+fn interpolators64<const N: usize, const M: usize>(bench: &Bench, rate: u32, xs: &[i64]) {
+    let lent = xs.len();
+    let name = format!("interpolator on i64 ({N},{M},{rate})");
+    bench.row(&name, lent, lent, |y| proved::interpolate64(N, M, rate, xs, y), |y| theirs::interpolate64::<N, M>(rate, xs, y));
+}
+
+/// The rows of i32 on i64.
+fn wide(bench: &Bench, xs: &[i64]) {
+    decimators64::<3, 1>(bench, 63, xs);
+    decimators64::<3, 1>(bench, 4, xs);
+    decimators64::<5, 2>(bench, 15, xs);
+    decimators64::<1, 1>(bench, 1023, xs);
+    decimators64::<8, 8>(bench, 0, xs);
+    decimators64::<3, 1>(bench, 63, &xs[..256]);
+    interpolators64::<3, 1>(bench, 63, xs);
+    interpolators64::<3, 1>(bench, 4, xs);
+    interpolators64::<5, 2>(bench, 15, xs);
+    interpolators64::<1, 1>(bench, 1023, xs);
+    interpolators64::<8, 8>(bench, 0, xs);
+    interpolators64::<3, 1>(bench, 63, &xs[..256]);
+}
+
 fn main() {
     let bench = Bench { count: std::env::args().any(|a| a == "--count") };
     let mut draw = Draw(1);
@@ -113,6 +145,7 @@ fn main() {
     bench.row("plain engine (3,1,63)", 256, 4, |y| proved::fir(&xs[..256], y), |y| {
         theirs::fir(&xs[..256], y);
     });
+    wide(&bench, &draw.longs(BLOCK));
     others(&bench, &xs);
     if std::env::args().any(|a| a == "--sizes") {
         let long = draw.ints(1 << 24);

@@ -4,6 +4,8 @@ extern "C" {
     fn bench_fir(x: *const i32, n: usize, y: *mut i32, m: usize);
     fn bench_interpolate(order: usize, delay: usize, rate: u32, x: *const i32, n: usize, y: *mut i32, m: usize);
     fn bench_steps(order: usize, delay: usize, rate: u32, x: *const i32, n: usize, y: *mut i32, m: usize);
+    fn bench_decimate64(order: usize, delay: usize, rate: u32, x: *const i64, n: usize, y: *mut i64, m: usize);
+    fn bench_interpolate64(order: usize, delay: usize, rate: u32, x: *const i64, n: usize, y: *mut i64, m: usize);
     fn bench_dsm(order: usize, x: *const u32, n: usize, y: *mut i16, m: usize);
     fn bench_wdf(sections: usize, architecture: u32, a: i32, x: *const i32, n: usize, y: *mut i32, m: usize);
     fn bench_df1(b0: f64, b1: f64, b2: f64, a1: f64, a2: f64, x: *const f64, n: usize, y: *mut f64, m: usize);
@@ -35,6 +37,12 @@ pub fn fir(x: &[i32], y: &mut [i32]) {
 }
 pub fn interpolate(order: usize, delay: usize, rate: u32, x: &[i32], y: &mut [i32]) {
     call!(bench_interpolate(order, delay, rate), x, y)
+}
+pub fn decimate64(order: usize, delay: usize, rate: u32, x: &[i64], y: &mut [i64]) {
+    call!(bench_decimate64(order, delay, rate), x, y)
+}
+pub fn interpolate64(order: usize, delay: usize, rate: u32, x: &[i64], y: &mut [i64]) {
+    call!(bench_interpolate64(order, delay, rate), x, y)
 }
 pub fn dsm(order: usize, x: &[u32], y: &mut [i16]) {
     call!(bench_dsm(order), x, y)

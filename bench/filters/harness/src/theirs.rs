@@ -6,17 +6,40 @@ use idsp::iir::wdf::{Wdf, WdfState};
 use idsp::iir::{Biquad, BiquadClamp, DirectForm1, DirectForm1Dither, DirectForm1Wide, DirectForm2Transposed};
 use idsp::{Cic, ClampWrap, Dsm, PLLState, RPLLConfig, Unwrapper, PLL, RPLL};
 
-#[inline(never)]
-pub fn decimate<const N: usize, const M: usize>(rate: u32, x: &[i32], y: &mut [i32]) {
-    let mut filter = Cic::<i32, N, M>::new(rate);
-    let mut k = 0;
-    for x in x {
-        if let Some(given) = filter.process(*x) {
-            y[k] = given;
-            k += 1;
+/// The decimator's and the interpolator's block on a word.
+macro_rules! on_word {
+    ($word:ident, $decimate:ident, $interpolate:ident) => {
+        #[inline(never)]
+        pub fn $decimate<const N: usize, const M: usize>(rate: u32, x: &[$word], y: &mut [$word]) {
+            let mut filter = Cic::<$word, N, M>::new(rate);
+            let mut k = 0;
+            for x in x {
+                if let Some(given) = filter.process(*x) {
+                    y[k] = given;
+                    k += 1;
+                }
+            }
         }
-    }
+
+        #[inline(never)]
+        pub fn $interpolate<const N: usize, const M: usize>(rate: u32, x: &[$word], y: &mut [$word]) {
+            let mut filter = Cic::<$word, N, M>::new(rate);
+            let mut k = 0;
+            for y in y {
+                let sample = if filter.tick() {
+                    k += 1;
+                    Some(x[k - 1])
+                } else {
+                    None
+                };
+                *y = filter.process(sample);
+            }
+        }
+    };
 }
+
+on_word!(i32, decimate, interpolate);
+on_word!(i64, decimate64, interpolate64);
 
 /// Entry n: the number of ways to write n as a sum of three numbers from 0 to 63.
 static TAPS: [i32; 190] = taps();
@@ -45,21 +68,6 @@ pub fn fir(x: &[i32], y: &mut [i32]) -> [i32; 190] {
         *cell = *x;
     }
     kept
-}
-
-#[inline(never)]
-pub fn interpolate<const N: usize, const M: usize>(rate: u32, x: &[i32], y: &mut [i32]) {
-    let mut filter = Cic::<i32, N, M>::new(rate);
-    let mut k = 0;
-    for y in y {
-        let sample = if filter.tick() {
-            k += 1;
-            Some(x[k - 1])
-        } else {
-            None
-        };
-        *y = filter.process(sample);
-    }
 }
 
 /// The steps of a one-to-one block.
