@@ -104,8 +104,9 @@ impl Cic {
         )
     }
 
-    // Whether b + gain_log2 is at most the width: then inputs of b signed bits make no output of so wide words wrap.
-    // The width, 32 or 64, need not be the word's own. Refused with 17 for b outside 1..width and for another width.
+    // Whether the gain is at most 2^(width - b): then inputs of b signed bits make no output of so wide words wrap, and
+    // otherwise some do. The width, 32 or 64, need not be the word's own. Refused with 17 for b outside 1..width and for
+    // another width; no gain is too large to ask.
     pub fn fit(self, width: u32, b: u32) -> Fitting
         ensures { λ r. ⌜ r ≡ fittingOf (fitNumber (stateOf self) width b) (fits (stateOf self) width b) ⌝ }
     {

@@ -3,22 +3,23 @@ use crate::numbers::span;
 ghost use mathlib.Core.Path.{_≡_};
 ghost use Prim.Native.Nat.{suc, min, _*_, _-_, _^_, _≤_};
 ghost use Rattle.sums.specs.Calls.{bitLength};
+ghost use Rattle.shape.specs.Powers.{powerCap};
 
-// a·b, or 2^63 where it is more.
+// a·b, or 2^63 + 1 where it is more.
 fn capped(a: u64, b: u64) -> u64
     requires { ⌜ 1 ≤ b ⌝ }
-    ensures { λ r. ⌜ r ≡ min (a * b) (2 ^ 63) ⌝ }
+    ensures { λ r. ⌜ r ≡ min (a * b) powerCap ⌝ }
 {
-    if 9223372036854775808 / b < a {
-        return 9223372036854775808;
+    if 9223372036854775809 / b < a {
+        return 9223372036854775809;
     }
     a * b
 }
 
-// base^n, or 2^63 where it is more.
+// base^n, or 2^63 + 1 where it is more: no power is compared with more than 2^63.
 pub(crate) fn power(base: u64, n: usize) -> u64
     requires { ⌜ 1 ≤ base ⌝ }
-    ensures { λ r. ⌜ r ≡ min (base ^ n) (2 ^ 63) ⌝ }
+    ensures { λ r. ⌜ r ≡ min (base ^ n) powerCap ⌝ }
 {
     let mut r: u64 = 1;
     let mut i: usize = 0;
@@ -27,6 +28,14 @@ pub(crate) fn power(base: u64, n: usize) -> u64
         i += 1;
     }
     r
+}
+
+// 2^n.
+pub(crate) fn power_of_two(n: u32) -> u64
+    requires { ⌜ n ≤ 63 ⌝ }
+    ensures { λ r. ⌜ r ≡ 2 ^ n ⌝ }
+{
+    1u64 << n
 }
 
 // The number of bits of n.

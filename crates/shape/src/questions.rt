@@ -2,6 +2,7 @@
 use crate::numbers::refusal_of;
 use crate::numbers::span;
 use crate::powers::power;
+use crate::powers::power_of_two;
 use crate::powers::shift;
 use crate::runs::low_rate;
 ghost use mathlib.Core.Path.{_≡_};
@@ -97,8 +98,9 @@ fn is_width(width: u32) -> bool
     width == 32 || width == 64
 }
 
-// Whether b + gain_log2 is at most the width: then inputs of b signed bits make no output of so wide words wrap.
-// Refused with 17 for b outside 1..width, and for a width that isn't 32 or 64.
+// Whether the gain is at most 2^(width - b): then inputs of b signed bits make no output of so wide words wrap, and
+// otherwise some do. Refused with 17 for b outside 1..width, and for a width that isn't 32 or 64; no gain is too large
+// to ask.
 pub fn fit(
     order: usize,
     delay: usize,
@@ -109,7 +111,7 @@ pub fn fit(
     b: u32,
 ) -> Fitting
     ensures { λ r. ⌜ r ≡ fittingOf (fitNumberOf (refusalOf order delay rate countdown unsettled) width b)
-        (fitsOf (gainLog2Of order delay rate) width b) ⌝ }
+        (fitsOf (gainOf order delay rate) width b) ⌝ }
 {
     let number = refusal_of(order, delay, rate, countdown, unsettled);
     if number != 0 {
@@ -124,6 +126,6 @@ pub fn fit(
     if !is_width(width) {
         return Fitting::Refused(17);
     }
-    let bits = b as u64 + shift(order, delay, rate);
-    Fitting::Fits(bits <= width as u64)
+    let gain = power(span(rate, delay as u32), order);
+    Fitting::Fits(gain <= power_of_two(width - b))
 }

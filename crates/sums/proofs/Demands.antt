@@ -1,16 +1,16 @@
 -- The statements of specs/Demands, each from the room that proves it.
 use mathlib.Core.Path.{_≡_, refl}
 use mathlib.Core.List.{List}
-use Prim.Native.Nat.{ℕ, zero, suc, _*_, _^_, _≤_}
+use Prim.Native.Nat.{ℕ, zero, suc, _*_, _≤_}
 use native.Mathlib.Omega.{arith}
 use lib.IntN.{ℤ}
-use mir.Syntax.{Width, w32}
+use mir.Syntax.{Width}
+use mir.Val.{bits}
 use Rattle.sums.specs.Signed.{signedOps}
-use Rattle.sums.specs.State.{State, refusalOf, zeroed}
-use Rattle.sums.specs.Calls.{newState, bitLength, gainLog2, gainLog2Of, fits, fitsOf}
+use Rattle.sums.specs.State.{State, zeroed}
 use Rattle.sums.specs.Counted.{Counted, blockNumber}
 use Rattle.sums.specs.Demands.{Contents, Decimator, Interpolator, Demand2, Demand2Cleared, Demand3, Demand3Rate, Demand3Tight}
-use Rattle.sums.specs.Demands.{Between, ToldInBlock, SettledPart, GainBound, FitSound, FitNotExact, Settled}
+use Rattle.sums.specs.Demands.{Between, ToldInBlock, SettledPart, GainBound, FitSound, FitTight, Settled}
 use Rattle.sums.proofs.Refusals.{Sound, sound, Good, good}
 use Rattle.sums.proofs.Steps.{packed, Fit}
 use Rattle.sums.proofs.Makers.{new-is, clear-is, resume-is, rate-is, settle-is, resume-sound, rate-sound, zero-sound, zeroed-fit}
@@ -23,7 +23,8 @@ use Rattle.sums.proofs.Tight.{misleads}
 use Rattle.sums.proofs.Numbering.{block-accepts}
 use Rattle.sums.proofs.Believed.{settled-part, in-block}
 use Rattle.sums.proofs.Mixed.{mixed}
-use Rattle.sums.proofs.Sizes.{gain-bound, exact, fit-sound}
+use Rattle.sums.proofs.Sizes.{gain-bound, Asked, fit-asked, whole, whole-risen}
+use Rattle.sums.proofs.Wrapping.{wraps}
 
 -- from zero
 from-zero : (w : Width) (N M r : ℕ) → Sound N M r 0 0
@@ -82,11 +83,16 @@ pub gain-bounded : GainBound
 gain-bounded s e = gain-bound s (good s e)
 
 pub fit-is-sound : FitSound
-fit-is-sound w s b e y x h t = fit-sound w s b e y x h t
+fit-is-sound w c b e y =
+    let s = c .state in let from = demand2-cleared w c (fit-asked s (bits w) b e .accepted) in (
+      λ calls h. whole w s b e y (from .0 calls .1) h,
+      λ calls h. whole-risen w s b e y (from .1 calls .1) h,
+      λ countdown n is ks hold f g calls h.
+          whole w s b e y (demand3 w (s .order) (s .delay) (s .rate) countdown n is ks hold f g calls .1) h,
+    )
 
-pub fit-is-not-exact : FitNotExact
-unfolding newState zeroed refusalOf fitsOf gainLog2Of bitLength
-fit-is-not-exact = (refl, λ x h t. exact w32 3 3 (2 ^ 26) x (omega arith) h (omega arith) t)
+pub fit-is-tight : FitTight
+fit-is-tight w c b e n = wraps w c b e n
 
 pub between : Between
 between = mixed

@@ -32,5 +32,6 @@ pub mod Constant
 pub mod Tight
 pub mod Believed
 pub mod Sizes
+pub mod Wrapping
 pub mod Mixed
 pub mod Demands

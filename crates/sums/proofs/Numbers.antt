@@ -1,15 +1,18 @@
 -- The numbers that questions ask for: powers that stop at a cap, lengths in bits, and that they fit.
-use mathlib.Core.Path.{_≡_, refl, sym, _∙_}
-use mathlib.Core.Logic.{_⊎_, ⊎-elim}
+use mathlib.Core.Path.{_≡_, refl, sym, ap, _∙_}
+use mathlib.Core.Bool.{Bool, true, false, _||_}
+use mathlib.Core.Logic.{_⊎_, inl, inr, ⊎-elim}
 use Prim.Native.Nat.{ℕ, zero, suc, min, _+_, _-_, _*_, _/_, _^_, _≤_, _<_}
 use native.Mathlib.Nat.{pow-suc, min-eq-left, min-eq-right, min-le-left, mul-le-mul, mul-le-mul-left, mul-le-mul-right, div-lt-iff-lt-mul}
 use native.Mathlib.Nat.{div-mul-le-self, eq-zero-or-pos}
 use native.Mathlib.Numerals.{add-one}
 use native.Mathlib.Omega.{arith}
 use lib.Count.{leadingZeros}
+use lib.Dec.{leb, eqb}
+use borrow.Author.Tests.{lt-leb, eqb-true}
 use mir.Syntax.{w64}
 use mir.Val.{Fits}
-use Rattle.sums.specs.Calls.{bitLength}
+use Rattle.sums.specs.Calls.{bitLength, isWidth}
 
 -- a product that would pass the cap, and one that does not
 pub past : (a b cap : ℕ) → 1 ≤ b → cap / b < a → cap ≡ min (a * b) cap
@@ -58,14 +61,28 @@ span-some rate delay h = omega (arith, mul-le-mul {n₁ = 1} {m₁ = 1} {n₂ = 
 pub product-fits : (a b m n : ℕ) → a ≤ m → b ≤ n → m * n < 2 ^ 64 → Fits w64 (a * b)
 product-fits a b m n h k small = record { fits = omega (arith, mul-le-mul h k) }
 
--- what stopped at the cap says whether the number is above it, and what the number is where it isn't
-module _ (g p : ℕ) (e : p ≡ min g (2 ^ 63)) where
-  pub capped-over : 2 ^ 63 - 1 < p → 2 ^ 63 - 1 < g
-  capped-over h = omega (arith, min-le-left g (2 ^ 63))
+-- below the cap, what stopped there compares as the number does, and is it
+module _ (g p cap m : ℕ) (e : p ≡ min g cap) (under : m < cap) where
+  pub capped-over : m < p → m < g
+  capped-over h = omega (arith, min-le-left g cap)
 
-  pub capped-is : p ≤ 2 ^ 63 - 1 → p ≡ g
-  capped-is h = ⊎-elim (λ z. e ∙ min-eq-left {n = g} {m = 2 ^ 63} (omega arith))
-      (λ z. absurd (omega (arith, min-eq-right {n = 2 ^ 63} {m = g} (omega arith)))) (eq-zero-or-pos (g - 2 ^ 63))
+  pub capped-is : p ≤ m → p ≡ g
+  capped-is h = ⊎-elim (λ z. e ∙ min-eq-left {n = g} {m = cap} (omega arith))
+      (λ z. absurd (omega (arith, min-eq-right {n = cap} {m = g} (omega arith)))) (eq-zero-or-pos (g - cap))
+
+  pub capped-leb : leb p m ≡ leb g m
+  capped-leb = ⊎-elim (λ z. ap (λ n. leb n m) (capped-is (omega arith)))
+      (λ z. lt-leb p m (omega arith) ∙ sym (lt-leb g m (capped-over (omega arith)))) (eq-zero-or-pos (p - m))
 
 pub small : (a b : ℕ) → a ≤ 8 → b ≤ 8 → Fits w64 (a * b)
 small a b h k = product-fits a b 8 8 h k (omega arith)
+
+-- a width is at most 64
+either : (a b : Bool) → a || b ≡ true → (a ≡ true) ⊎ (b ≡ true)
+either true b e = inl refl
+either false b e = inr e
+
+pub width-most : (width : ℕ) → isWidth width ≡ true → width ≤ 64
+unfolding isWidth
+width-most width e =
+    ⊎-elim (λ h. omega (arith, eqb-true width 32 h)) (λ h. omega (arith, eqb-true width 64 h)) (either (eqb width 32) (eqb width 64) e)

@@ -37,7 +37,7 @@ pub first : (a b : Bool) → a || b ≡ false → a ≡ false
 first true b e = e
 first false b e = refl
 
-second : (a b : Bool) → a || b ≡ false → b ≡ false
+pub second : (a b : Bool) → a || b ≡ false → b ≡ false
 second true true e = e
 second true false e = refl
 second false b e = e

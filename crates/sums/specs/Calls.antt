@@ -144,9 +144,9 @@ isWidth width = eqb width 32 || eqb width 64
 unfoldable pub fitNumberOf : ℕ → ℕ → ℕ → ℕ
 fitNumberOf k width b = unless k k (cond (eqb b 0 || ltb width b) 17 (cond (isWidth width) 0 17))
 
--- Yes exactly when b + gain_log2 is at most the width.
+-- 02, A5: yes exactly when the gain is at most 2 ^ (width - b).
 unfoldable pub fitsOf : ℕ → ℕ → ℕ → Bool
-fitsOf log width b = leb (b + log) width
+fitsOf gain width b = leb gain (2 ^ (width - b))
 
 -- The same, asked of a state.
 module _ {A : Type 0} where
@@ -163,4 +163,4 @@ module _ {A : Type 0} where
   fitNumber s width b = fitNumberOf (refusal s) width b
 
   abbrev pub fits : State A → ℕ → ℕ → Bool
-  fits s width b = fitsOf (gainLog2 s) width b
+  fits s width b = fitsOf (gain s) width b

@@ -207,20 +207,49 @@ Between =
 abbrev pub GainBound : Type 0
 GainBound = (s : State ℤ) → refusal s ≡ 0 → gain s ≤ 2 ^ gainLog2 s
 
--- Where the fit answer for b is yes, no output from zero wraps for inputs of b signed bits, - 2 ^ (b - 1) .. 2 ^ (b - 1) - 1: the moving
--- sum is its own word. The held input of the interpolator is such an input, too.
+-- 02, A5: fit, both ways. Inputs of b signed bits are - 2 ^ (b - 1) .. 2 ^ (b - 1) - 1.
+abbrev pub InBits : ℕ → List ℤ → Type 0
+InBits b xs = (t : ℕ) → mag (input xs t) < 2 ^ (b - 1)
+
+-- Decimator calls from the state s on, whose first output is due after c inputs: an output that is told 0 is the moving sum itself.
+abbrev pub Whole : (w : Width) (N M rate c b : ℕ) → Counted ℤ → Type 0
+Whole w N M rate c b s =
+    (calls : List Call) → let xs = along (leaves (signedOps w)) reads s calls in InBits b xs
+    → (k : ℕ) (y : Numbered ℤ) → getElem? (along (leaves (signedOps w)) (gives (signedOps w)) s calls) k ≡ some y → y .told ≡ 0
+    → y .value ≡ moving exactOps (suc rate * M) N (input xs) (c + k * suc rate)
+
+-- Interpolator calls from the state s on: every output is the moving sum of the held input itself.
+abbrev pub WholeRisen : (w : Width) (N M rate b : ℕ) → State ℤ → Type 0
+WholeRisen w N M rate b s =
+    (calls : List Raise) → let xs = along (lifts (signedOps w)) samples s calls in InBits b xs
+    → (t : ℕ) (y : ℤ) → getElem? (along (lifts (signedOps w)) (yields (signedOps w)) s calls) t ≡ some y
+    → y ≡ moving exactOps (suc rate * M) N (held (suc rate) (input xs)) t
+
+-- Where the answer for b is yes, no output wraps: none from zero, where each is told 0 (Demand2Cleared), and none that has settled after a
+-- resume from any contents.
 abbrev pub FitSound : Type 0
 FitSound =
-    (w : Width) (s : State ℤ) (b : ℕ) → fitNumber s (bits w) b ≡ 0 → fits s (bits w) b ≡ true
-    → (x : ℕ → ℤ) → ((t : ℕ) → mag (x t) < 2 ^ (b - 1))
-    → (t : ℕ) → wrap w (moving exactOps (suc (s .rate) * s .delay) (s .order) x t)
-    ≡ moving exactOps (suc (s .rate) * s .delay) (s .order) x t
+    (w : Width) (c : Counted ℤ) (b : ℕ) → let s = c .state in fitNumber s (bits w) b ≡ 0 → fits s (bits w) b ≡ true
+    → Whole w (s .order) (s .delay) (s .rate) 0 b (clearCounted (signedOps w) c)
+    × WholeRisen w (s .order) (s .delay) (s .rate) b (clearState (signedOps w) s)
+    × ((countdown inputs : ℕ) (integrators combs : List ℤ) (hold : ℤ)
+    → resumeNumber (s .order) (s .delay) (s .rate) countdown ≡ 0 → Contents integrators combs
+    → Whole w (s .order) (s .delay) (s .rate) countdown b
+    (resumeCounted (signedOps w) (s .order) (s .delay) (s .rate) integrators combs hold countdown inputs))
 
--- The answer no doesn't say that some input wraps: N 3, M 1, rate 2, so R · M = 3, and b = 27.
-abbrev pub FitNotExact : Type 0
-FitNotExact =
-    (fits (newState (signedOps w32) 3 1 2) 32 27 ≡ false)
-    × ((x : ℕ → ℤ) → ((t : ℕ) → mag (x t) < 2 ^ 26) → (t : ℕ) → wrap w32 (moving exactOps 3 3 x t) ≡ moving exactOps 3 3 x t)
+-- Where it is no, there are inputs of b signed bits and an output from zero that isn't the moving sum: it wraps.
+pub record Wraps (w : Width) (c : Counted ℤ) (b : ℕ) : Type 0 where
+  pub inputs : List ℤ
+  pub inputs-in : InBits b inputs
+  pub number : ℕ
+  pub given : Numbered ℤ
+  pub is-given : getElem? (takenOutputs (signedOps w) (clearCounted (signedOps w) c) inputs) number ≡ some given
+  pub differs : let s = c .state in given .value
+      ≡ moving exactOps (suc (s .rate) * s .delay) (s .order) (input inputs) (number * suc (s .rate)) → ⊥
+
+abbrev pub FitTight : Type 0
+FitTight =
+    (w : Width) (c : Counted ℤ) (b : ℕ) → let s = c .state in fitNumber s (bits w) b ≡ 0 → fits s (bits w) b ≡ false → Wraps w c b
 
 -- After settle_interpolate on x, interpolator calls whose samples are all x give x times gain, modulo 2 ^ w, at every step.
 abbrev pub Stream : Width → State ℤ → ℤ → ℤ → Type 0

@@ -5,11 +5,12 @@ use Prim.Native.Nat.{_-_, _^_, _≤_, min}
 use native.Mathlib.Nat.{pow-zero}
 use native.Mathlib.Omega.{arith}
 use Rattle.sums.proofs.Numbers.{power-turn}
+use Rattle.shape.specs.Powers.{powerCap}
 use Rattle.shape.proofs.powers.power.Statement.{statement}
 use Rattle.shape.proofs.powers.power.Tie as tie
 
 abbrev Inv-loop : tie.InvT-loop
-Inv-loop base n r₀ i₀ r i = (i ≤ n) × (r ≡ min (base ^ i) (2 ^ 63))
+Inv-loop base n r₀ i₀ r i = (i ≤ n) × (r ≡ min (base ^ i) powerCap)
 
 abbrev μ-loop : tie.MeasureT-loop
 μ-loop base n r₀ i₀ r i = n - i
@@ -23,7 +24,7 @@ capped-requires c κs = c .before .before .pre
 loop-again : tie.Need-loop-again Inv-loop μ-loop
 loop-again c =
     let l = c .before .before .loop in let p = c .before .before .before in
-    (omega arith, c .capped .ensures ∙ power-turn (2 ^ 63) (p .args .base) (l .i) (l .r) (p .pre) (l .inv .1))
+    (omega arith, c .capped .ensures ∙ power-turn powerCap (p .args .base) (l .i) (l .r) (p .pre) (l .inv .1))
 
 returns : tie.Need-returns Inv-loop μ-loop
 returns c = let l = c .before .loop in let e : l .i ≡ c .before .before .args .n = omega arith in rw e at (l .inv .1)

@@ -1,14 +1,15 @@
--- Each test is the definition's own, in its order.
+-- Each test is the definition's own, in its order. The room is below the power's cap, so that the capped power compares with it as the gain.
 use borrow.Author.Needs.{needs}
 use mathlib.Core.Path.{_≡_, sym, _∙_}
-use Prim.Native.Nat.{suc, _-_, _*_, _≤_}
-use native.Mathlib.Nat.{mul-le-mul}
+use Prim.Native.Nat.{suc, _-_, _*_, _^_, _≤_}
 use native.Mathlib.Omega.{arith}
+use lib.Pow.{pow-mono}
 use borrow.Author.Tests.{lt-ltb, le-ltb, eq-eqb, ne-eqb, not-true, not-false}
 use Rattle.sums.specs.State.{refusalOf}
-use Rattle.sums.specs.Calls.{fitNumberOf, fitsOf, gainLog2Of}
-use Rattle.sums.proofs.Numbers.{length-most}
+use Rattle.sums.specs.Calls.{fitNumberOf, fitsOf, gainOf}
+use Rattle.sums.proofs.Numbers.{span-some, width-most, capped-leb}
 use Rattle.sums.proofs.Refusals.{Sound, sound}
+use Rattle.shape.specs.Powers.{powerCap}
 use Rattle.shape.proofs.Ways.{unfit, fitted}
 use Rattle.shape.proofs.questions.fit.Statement.{statement}
 use Rattle.shape.proofs.questions.fit.Tie as tie
@@ -51,32 +52,35 @@ returns-4 c =
       not-true (w .is-width .result) (c .if4 .taken),
     )) (λ z. omega arith)
 
-shift-requires : tie.Need-shift-requires
-shift-requires c κs =
-    let e1 : tie.Else1 = search in
-    let ok = fine e1 in
-    (ok .few, ok .some, ok .short, ok .slow)
+cast-span : tie.Need-cast-span
+cast-span c = let e1 : tie.Else1 = search in record { fits = omega (arith, fine e1 .short) }
 
-add-bits : tie.Need-add-bits
-add-bits c =
+power-requires : tie.Need-power-requires
+power-requires c κs =
     let e1 : tie.Else1 = search in
-    let start = e1 .before .before in
-    let s = start .args in
-    let most : c .shift .result ≤ 512 =
-    rw (c .shift .ensures) (omega (
-      arith,
-      mul-le-mul {n₁ = s .order} {n₂ = 8} (fine e1 .few) (length-most 64 (suc (s .rate) * s .delay - 1)),
-    )) in
-    record { fits = omega (arith, most, start .fits .b .fits) }
+    let a = e1 .before .before .args in
+    rw (c .span .ensures) (span-some (a .rate) (a .delay) (fine e1 .some))
+
+-- the room's exponent
+room : (c : tie.Else4) → let a = c .before .before .before .before .before .before .args in a .width - a .b ≤ 63
+room c =
+    let e2 : tie.Else2 = search in
+    let nz = e2 .if2 .left in
+    omega (arith, width-most _ (sym (c .before .is-width .ensures) ∙ not-false (c .before .is-width .result) (c .if4 .left)))
+
+power-of-two-requires : tie.Need-power-of-two-requires
+power-of-two-requires c κs = room search
 
 returns-5 : tie.Need-returns-5
-unfolding fitNumberOf fitsOf gainLog2Of
+unfolding fitNumberOf fitsOf gainOf
 returns-5 c =
     let e1 : tie.Else1 = search in
     let e2 : tie.Else2 = search in
     let e3 : tie.Else3 = search in
     let e4 : tie.Else4 = search in
     let w : tie.After-is-width = search in
+    let p : tie.After-power = search in
+    let a = e1 .before .before .args in
     fitted _ _ _ (rw (
       none e1,
       ne-eqb _ _ (e2 .if2 .left),
@@ -84,9 +88,13 @@ returns-5 c =
       ← w .is-width .ensures,
       not-false (w .is-width .result) (e4 .if4 .left),
     ))
-    (rw (c .shift .ensures))
+    (rw (c .power-of-two .ensures)
+    (capped-leb (gainOf (a .order) (a .delay) (a .rate)) (p .power .result) powerCap (2 ^ (a .width - a .b))
+    (rw (p .before .span .ensures) at (p .power .ensures))
+    (omega (arith, pow-mono {i = a .width - a .b} {j = 63} (room e4)))))
 
 pub fit-spec : {M : Type 1} → statement M
 fit-spec =
     tie.close
-    (tie.spec (λ c κs. search needs) returns returns-2 returns-3 (λ c κs. search needs) returns-4 shift-requires add-bits returns-5)
+    (tie.spec (λ c κs. search needs) returns returns-2 returns-3 (λ c κs. search needs) returns-4 cast-span (λ c κs. search needs) power-requires
+    power-of-two-requires returns-5)

@@ -8,6 +8,7 @@ use Rattle.sums.specs.State.{refusalOf}
 use Rattle.sums.specs.Calls.{gainOf, gainNumberOf}
 use Rattle.sums.proofs.Numbers.{span-some, capped-over, capped-is}
 use Rattle.sums.proofs.Refusals.{Sound, sound}
+use Rattle.shape.specs.Powers.{powerCap}
 use Rattle.shape.proofs.Ways.{untold, tells}
 use Rattle.shape.proofs.questions.gain.Statement.{statement}
 use Rattle.shape.proofs.questions.gain.Tie as tie
@@ -24,7 +25,7 @@ begin c = let e1 = c .before .before in e1 .before .before
 abbrev whole : tie.After-power → ℕ
 whole c = let a = begin c .args in gainOf (a .order) (a .delay) (a .rate)
 
-made : (c : tie.After-power) → c .power .result ≡ min (whole c) (2 ^ 63)
+made : (c : tie.After-power) → c .power .result ≡ min (whole c) powerCap
 unfolding gainOf
 made c = rw (c .before .span .ensures) at (c .power .ensures)
 
@@ -34,7 +35,7 @@ low : (c : tie.Else2) → let a = begin (c .before) .args in
 unfolding gainNumberOf
 low c =
     let k = c .before in let g = whole k in
-    let e = capped-is g (k .power .result) (made k) (omega (arith, c .if2 .left)) in
+    let e = capped-is g (k .power .result) powerCap (2 ^ 63 - 1) (made k) (omega arith) (omega (arith, c .if2 .left)) in
     rw (none (k .before .before), le-ltb (2 ^ 63 - 1) g (omega (arith, e, c .if2 .left)))
 
 returns : tie.Need-returns
@@ -54,7 +55,7 @@ returns-2 : tie.Need-returns-2
 unfolding gainNumberOf
 returns-2 c =
     let k = c .before in let g = whole k in
-    let over = capped-over g (k .power .result) (made k) (c .if2 .taken) in
+    let over = capped-over g (k .power .result) powerCap (2 ^ 63 - 1) (made k) (omega arith) (c .if2 .taken) in
     untold 14 _ _ (rw (none (k .before .before), lt-ltb (2 ^ 63 - 1) g over)) (λ z. omega arith)
 
 returns-3 : tie.Need-returns-3
@@ -65,7 +66,7 @@ returns-4 : tie.Need-returns-4
 returns-4 c =
     let k = c .before .before in let w = k .before in
     tells _ (w .power .result) _ (low k ∙ sym (c .before .refusal-of2 .ensures) ∙ c .if3 .left)
-    (capped-is (whole w) (w .power .result) (made w) (omega (arith, k .if2 .left)))
+    (capped-is (whole w) (w .power .result) powerCap (2 ^ 63 - 1) (made w) (omega arith) (omega (arith, k .if2 .left)))
 
 pub gain-spec : {M : Type 1} → statement M
 gain-spec =
