@@ -214,16 +214,16 @@ InBits b xs = (t : ℕ) → mag (input xs t) < 2 ^ (b - 1)
 -- Decimator calls from the state s on, whose first output is due after c inputs: an output that is told 0 is the moving sum itself.
 abbrev pub Whole : (w : Width) (N M rate c b : ℕ) → Counted ℤ → Type 0
 Whole w N M rate c b s =
-    (calls : List Call) → let xs = along (leaves (signedOps w)) reads s calls in InBits b xs
+    (calls : List Call) → let read = along (leaves (signedOps w)) reads s calls in InBits b read
     → (k : ℕ) (y : Numbered ℤ) → getElem? (along (leaves (signedOps w)) (gives (signedOps w)) s calls) k ≡ some y → y .told ≡ 0
-    → y .value ≡ moving exactOps (suc rate * M) N (input xs) (c + k * suc rate)
+    → y .value ≡ moving exactOps (suc rate * M) N (input read) (c + k * suc rate)
 
 -- Interpolator calls from the state s on: every output is the moving sum of the held input itself.
 abbrev pub WholeRisen : (w : Width) (N M rate b : ℕ) → State ℤ → Type 0
 WholeRisen w N M rate b s =
-    (calls : List Raise) → let xs = along (lifts (signedOps w)) samples s calls in InBits b xs
+    (calls : List Raise) → let read = along (lifts (signedOps w)) samples s calls in InBits b read
     → (t : ℕ) (y : ℤ) → getElem? (along (lifts (signedOps w)) (yields (signedOps w)) s calls) t ≡ some y
-    → y ≡ moving exactOps (suc rate * M) N (held (suc rate) (input xs)) t
+    → y ≡ moving exactOps (suc rate * M) N (held (suc rate) (input read)) t
 
 -- Where the answer for b is yes, no output wraps: none from zero, where each is told 0 (Demand2Cleared), and none that has settled after a
 -- resume from any contents.
