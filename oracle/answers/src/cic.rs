@@ -27,6 +27,7 @@ pub fn write(root: &str) {
     short_runs(&mut out, &mut draw);
     block_runs(&mut out, &mut Draw::new(moved(4)));
     questions(&mut out, &mut draw);
+    fits(&mut out, &mut Draw::new(moved(5)));
     out.write(root, NAME);
 }
 
@@ -133,6 +134,27 @@ fn questions(out: &mut Answers, draw: &mut Draw) {
             out.line(7, &[&line(&case), &0u64, &of_filter(&case, 7)]);
         }
     });
+}
+
+/// 8: the most bits whose inputs fit 32 bits, and 64, by document 02's rule in whole numbers (0: none). The crate has no
+/// such question; its bound is `gain_log2`. Each order at a gain of no power of two, at powers of two, and drawn.
+fn fits(out: &mut Answers, draw: &mut Draw) {
+    for order in 0..=8 {
+        fit(out, order, 1, 4);
+        fit(out, order, 8, 63);
+        fit(out, order, 1 + draw.below(8), draw.below(1024));
+    }
+    for order in [2, 3, 4, 8] {
+        fit(out, order, 1, 65535);
+    }
+}
+
+fn fit(out: &mut Answers, order: u32, delay: u32, rate: u32) {
+    let case = Case { order, delay, rate, countdown: 0, seed: 0, steps: 0, later: 0, sample: 0 };
+    let gain = ((rate as u128 + 1) * delay as u128).saturating_pow(order);
+    let most = |width: u32| (1..=width).rev().find(|b| gain <= 1 << (width - b)).unwrap_or(0);
+    let (_, _, [log2, _]) = asked_filter(&case);
+    out.line(8, &[&[order, delay, rate, 0, 0], &[most(32), most(64)], &log2]);
 }
 
 /// The filter of a case. The cells are drawn as eight integrators, eight rows of eight comb cells, and the
