@@ -30,7 +30,7 @@ use words::casts::u64_as_u32;
 use words::unsigned::add_u64;
 ghost use Prim.Native.Nat.{_≤_};
 
-const LINES: u32 = 1820;
+const LINES: u32 = 1850;
 
 const WIDTH: u32 = 15;
 // The most inputs of a decimator's block, or outputs of an interpolator's.
@@ -414,30 +414,45 @@ fn clear(w: [u32; 40]) -> u64 {
     unlike_double(digest_state(0, state), double(w[8], w[9]))
 }
 
-// 1 where the line differs from what the proved functions give.
+// Fit's answers that aren't yes exactly up to this many bits.
+fn fits_at(s: Cic, width: u32, most: u32) -> u64 {
+    let mut n: u64 = 0;
+    for i in 0..width {
+        let yes = if i < most { 1 } else { 0 };
+        n = add_u64(n, unlike(fitted(s.fit(width, i + 1)), yes));
+    }
+    n
+}
+
+fn fits(w: [u32; 40]) -> u64 {
+    let r = started(w);
+    let s = r.state;
+    add_u64(fits_at(s, 32, w[6]), fits_at(s, 64, w[7]))
+}
+
+// How many of a line's cases differ from what the proved functions give.
 fn differs(w: [u32; 40]) -> u64 {
     match w[0] {
         1 | 2 | 3 | 4 => whole_run(w),
         5 => questions(w),
         6 => settle(w),
-        _ => clear(w),
+        7 => clear(w),
+        _ => fits(w),
     }
 }
 
-// How many cases a line stands for: the steps of a run, else one.
+// How many cases a line stands for: the steps of a run, the bits of fit's two widths, else one.
 fn weight(w: [u32; 40]) -> u64 {
     match w[0] {
         1 | 2 => double(0, w[6]),
         3 | 4 => double(0, w[10]),
+        8 => 96,
         _ => 1,
     }
 }
 
-// 1 where the gain is asked and refused: the Rust's is then not compared.
+// 1 where the gain is refused: the Rust's is then not compared.
 fn past_the_cap(w: [u32; 40]) -> u64 {
-    if w[0] != 5 {
-        return 0;
-    }
     let r = started(w);
     let s = r.state;
     match s.gain() {
@@ -446,15 +461,41 @@ fn past_the_cap(w: [u32; 40]) -> u64 {
     }
 }
 
-fn tell(past: u64) {
-    if past == 0 {
+// How many of the bits that fit are above the crate's bound, the width less gain_log2.
+fn above_the_bound(width: u32, log2: u32, most: u32) -> u64 {
+    let bound = if log2 < width { width - log2 } else { 0 };
+    if bound < most {
+        double(0, most - bound)
+    } else {
+        0
+    }
+}
+
+// How many of a line's cases the crate answers otherwise, by a difference that is known.
+fn otherwise(w: [u32; 40]) -> u64 {
+    match w[0] {
+        5 => past_the_cap(w),
+        8 => add_u64(
+            above_the_bound(32, w[8], w[6]),
+            above_the_bound(64, w[8], w[7]),
+        ),
+        _ => 0,
+    }
+}
+
+fn tell(code: u32, n: u64) {
+    if n == 0 {
         return;
     }
-    io::write_all(
-        1,
-        b"  of which a gain refused with 14, that the crate wraps: ",
-    );
-    io::print_decimal(1, past);
+    if code == 5 {
+        io::write_all(
+            1,
+            b"  of which a gain refused with 14, that the crate wraps: ",
+        );
+    } else {
+        io::write_all(1, b"  of which yes, where the crate's bound says no: ");
+    }
+    io::print_decimal(1, n);
     io::write_all(1, b"\n");
 }
 
@@ -462,17 +503,17 @@ fn tell(past: u64) {
 fn compare(text: &[u8], code: u32, name: &[u8]) {
     let mut cases: u64 = 0;
     let mut differ: u64 = 0;
-    let mut past: u64 = 0;
+    let mut other: u64 = 0;
     for i in 0..LINES {
         let w = line(text, i * WIDTH);
         if w[0] == code {
             cases = add_u64(cases, weight(w));
             differ = add_u64(differ, differs(w));
-            past = add_u64(past, past_the_cap(w));
+            other = add_u64(other, otherwise(w));
         }
     }
     report(name, cases, differ);
-    tell(past);
+    tell(code, other);
 }
 
 // ---- refusals: each number at its boundary, and a neighbour that is accepted
@@ -578,9 +619,12 @@ fn asked() -> u64 {
     n = tally(n, fitted(state(1, 1, 0, 0, 0).fit(64, 65)), 17);
     n = tally(n, fitted(state(1, 1, 0, 0, 0).fit(33, 1)), 17);
     n = tally(n, fitted(state(1, 1, 0, 0, 0).fit(63, 1)), 17);
-    n = tally(n, fitted(state(3, 1, 4, 0, 0).fit(32, 25)), 0);
-    n = tally(n, fitted(state(3, 1, 4, 0, 0).fit(64, 55)), 1);
-    n = tally(n, fitted(state(3, 1, 4, 0, 0).fit(64, 56)), 0);
+    n = tally(n, fitted(state(3, 1, 4, 0, 0).fit(32, 25)), 1);
+    n = tally(n, fitted(state(3, 1, 4, 0, 0).fit(32, 26)), 0);
+    n = tally(n, fitted(state(3, 1, 4, 0, 0).fit(64, 57)), 1);
+    n = tally(n, fitted(state(3, 1, 4, 0, 0).fit(64, 58)), 0);
+    n = tally(n, fitted(state(7, 1, 511, 0, 0).fit(64, 1)), 1);
+    n = tally(n, fitted(state(4, 1, 65535, 0, 0).fit(64, 1)), 0);
     n
 }
 
@@ -668,9 +712,14 @@ fn main() {
     compare(text, 5, b"tick, outputs, gain, gain_log2, response_length");
     compare(text, 6, b"settle_interpolate");
     compare(text, 7, b"clear");
+    compare(
+        text,
+        8,
+        b"fit, every b at widths 32 and 64, by whole numbers",
+    );
     report(b"refusals of the makers", 9, makers());
     report(b"refusals of state calls", 8, state_calls());
-    report(b"refusals of questions", 15, asked());
+    report(b"refusals of questions", 18, asked());
     report(b"refusals of steps", 6, single_steps());
     report(
         b"refusals of blocks and of the settled part",

@@ -5,10 +5,10 @@ use Rattle.compare_cic64.proofs.compare.Statement.{statement}
 use Rattle.compare_cic64.proofs.compare.Tie as tie
 
 abbrev Inv-loop : tie.InvT-loop
-Inv-loop text code name cases₀ differ₀ past₀ i₀ cases differ past i = i ≤ 1820
+Inv-loop text code name cases₀ differ₀ other₀ i₀ cases differ other i = i ≤ 1850
 
 abbrev μ-loop : tie.MeasureT-loop
-μ-loop text code name cases₀ differ₀ past₀ i₀ cases differ past i = 1820 - i
+μ-loop text code name cases₀ differ₀ other₀ i₀ cases differ other i = 1850 - i
 
 pub compare-spec : {M : Type 1} → statement M
 compare-spec =
