@@ -23,7 +23,7 @@ use Rattle.sums.proofs.Tight.{misleads}
 use Rattle.sums.proofs.Numbering.{block-accepts}
 use Rattle.sums.proofs.Believed.{settled-part, in-block}
 use Rattle.sums.proofs.Mixed.{mixed}
-use Rattle.sums.proofs.Sizes.{gain-bound, Asked, fit-asked, whole, whole-risen}
+use Rattle.sums.proofs.Sizes.{gain-bound, fit-asked, whole, whole-risen}
 use Rattle.sums.proofs.Wrapping.{wraps}
 
 -- from zero

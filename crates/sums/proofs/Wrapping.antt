@@ -1,12 +1,13 @@
 -- Inputs that are all the least number of b bits add up to the gain times it, so that where the gain is above 2 ^ (w - b) an output wraps:
 -- output number N · M, which falls on input number N · M · R, both from 0.
 use mathlib.Core.Path.{_≡_, refl, sym, ap, ap₂, subst, _∙_}
-use mathlib.Core.Bool.{Bool, true, false}
+use mathlib.Core.Bool.{false}
 use mathlib.Core.List.{List, [], _∷_}
 use mathlib.Core.Option.{some}
 use Prim.Native.Nat.{ℕ, zero, suc, _+_, _*_, _-_, _^_, _≤_, _<_}
 use native.Mathlib.Omega.{arith}
-use native.Mathlib.Nat.{pow-zero, pow-suc, mul-lt-mul-of-pos-right, mul-le-mul, mul-le-mul-right, mul-comm, mul-assoc, zero-add, one-mul, suc-mul, mul-suc}
+use native.Mathlib.Nat.{pow-zero, pow-suc, mul-lt-mul-of-pos-right, mul-le-mul, mul-le-mul-right, mul-comm, mul-assoc, zero-add}
+use native.Mathlib.Nat.{one-mul, suc-mul, mul-suc}
 use lib.IntN.{ℤ, pos, negsuc, negℤ, _+ℤ_, +ℤ-idl, negℤ-+ℤ}
 use lib.Pow.{pow-pos}
 use lib.Signed.{mag}
@@ -21,8 +22,8 @@ use Rattle.sums.specs.Moving.{last, moving}
 use Rattle.sums.specs.State.{State, zeroed}
 use Rattle.sums.specs.Calls.{gain, gainOf, fitNumber, fits, fitsOf}
 use Rattle.sums.specs.Counted.{Counted, Numbered, mostInputs, takenOutputs}
-use Rattle.sums.specs.Demands.{input, modulo, InBits, Decimates, Wraps}
-use Rattle.sums.proofs.Refusals.{Sound, Good, good}
+use Rattle.sums.specs.Demands.{input, modulo, Decimates, Wraps}
+use Rattle.sums.proofs.Refusals.{Sound, good}
 use Rattle.sums.proofs.Numbering.{numbering, taken-numbering}
 use Rattle.sums.proofs.Makers.{clear-is, zero-sound, zeroed-fit, decimates-zero}
 use Rattle.sums.proofs.Sizes.{Asked, fit-asked, limit-times, length-pos}
