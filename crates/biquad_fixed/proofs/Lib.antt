@@ -2,6 +2,5 @@ pub mod Wraps
 pub mod Halves
 pub mod Numbers
 pub mod Shifts
-pub mod Keeping
 pub mod Opening
 pub mod Figures

@@ -5,10 +5,4 @@ pub mod Shapes
 pub mod Refusals
 pub mod Running
 pub mod Ways
-pub mod Balance
-pub mod Totals
-pub mod Ends
-pub mod Stages
-pub mod Tracking
-pub mod Shaping
 pub mod Settled

@@ -1,8 +1,5 @@
--- What a reader must believe: the step, every call, what a run takes in and gives out, both ends of the range, the noise.
+-- What a reader must believe: the step, and every call. What a run of them does: crate shaping.
 pub mod Modulator
 pub mod Calls
-pub mod Totals
-pub mod Ends
-pub mod Shaping
 -- For private functions alone: the step's halves on lent cells, and the block's loop.
 pub mod Cells

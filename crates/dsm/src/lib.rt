@@ -1,8 +1,7 @@
 // The delta-sigma modulator (01, 'The modulator'): of order K, 0 to 8, with outputs that average to the input / 2^32.
 // Port of the crate's dsm.rs, with outputs and retained values in i16, which holds the output 128 of K = 8.
-// Callers cite specs/Modulator (a step), specs/Calls (every call by its number, state and answer), specs/Totals
-// (what a run takes in and gives out, proved in proofs/Totals), specs/Ends (both ends of the range are reached) and
-// specs/Shaping (02, A14: the noise as an equation, and how far an output lies from its input).
+// Callers cite specs/Modulator (a step) and specs/Calls (every call by its number, state and answer). What a run of calls
+// takes in and gives out stands in crate shaping.
 use blocks::Verdict;
 ghost use mathlib.Core.Path.{_≡_};
 ghost use mathlib.Core.Bool.{true};

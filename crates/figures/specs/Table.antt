@@ -14,7 +14,7 @@ use Rattle.sums.specs.Calls.{newState, resumeState}
 use Rattle.sums.specs.Runs.{outputs, risings}
 use Rattle.text.specs.Letters.{bytes}
 use Rattle.playback.specs.Replays.{replay}
-use Rattle.dsm.specs.Totals as Modulator
+use Rattle.shaping.specs.Totals as Modulator
 use Rattle.unwrap.specs.declared.unwrapper.Unwrapper.{Unwrapper}
 use Rattle.unwrap.specs.Phases.{differenceOf, signOf, grown, turnsOf}
 

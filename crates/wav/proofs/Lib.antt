@@ -1,3 +1,2 @@
 pub mod Headers
 pub mod Parts
-pub mod Files

@@ -8,11 +8,11 @@ use lib.IntN.{ℤ, pos, _+ℤ_, _-ℤ_}
 use lib.ListN.{length, take, drop, getD, replicate, length-append}
 use lib.Seq.{take-at, length-take-le}
 use Rattle.blocks.specs.Scan.{scan, ends}
 use Rattle.dsm.specs.declared.Dsm.{Dsm}
 use Rattle.dsm.specs.Modulator.{accumulated, carries, combined, retaining, output, keeping, modulatorOut, nextOf}
 use Rattle.dsm.specs.Calls.{zerosOf}
 use Rattle.dsm.proofs.Shapes.{length-accumulated, length-carries}
-use Rattle.dsm.proofs.Stages.{pre, post, carry, was, outs}
+use Rattle.shaping.proofs.Stages.{pre, post, carry, was, outs}
 
 -- ---- the cells before input number t
 

@@ -8,8 +8,8 @@ use native.Mathlib.Nat.{div-add-mod'}
 use native.Mathlib.Omega.{arith}
 use lib.IntN.{ℤ, pos, _+ℤ_, _-ℤ_, _*ℤ_}
 use lib.ListN.{replicate}
-use Rattle.dsm.specs.Shaping.{backward, backwards}
-use Rattle.dsm.proofs.Balance.{above, below, balanced, of-add, of-minus, of-times}
+use Rattle.shaping.specs.Shaping.{backward, backwards}
+use Rattle.shaping.proofs.Balance.{above, below, balanced, of-add, of-minus, of-times}
 
 -- an accumulator that held a at first, on the sequence f: before input number t, and after it
 unfoldable pub pre : ℕ → (ℕ → ℕ) → ℕ → ℕ

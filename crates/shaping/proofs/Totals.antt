@@ -8,12 +8,12 @@ use native.Mathlib.Omega.{arith}
 use lib.IntN.{ℤ, pos, _+ℤ_, _-ℤ_, _*ℤ_}
 use lib.ListN.{length, take, drop, getD, getD-replicate}
 use Rattle.blocks.specs.Scan.{scan, ends}
 use Rattle.dsm.specs.declared.Dsm.{Dsm}
 use Rattle.dsm.specs.Modulator.{accumulated, carries, combined, retaining, output, keeping, modulatorOut, nextOf}
 use Rattle.dsm.specs.Calls.{zerosOf}
-use Rattle.dsm.specs.Totals.{totalIn, totalOut, lastOf, lastUsed, firstAccumulator, Totals}
-use Rattle.dsm.proofs.Balance.{above, below, balanced, of-add, of-minus, of-times}
+use Rattle.shaping.specs.Totals.{totalIn, totalOut, lastOf, lastUsed, firstAccumulator, Totals}
+use Rattle.shaping.proofs.Balance.{above, below, balanced, of-add, of-minus, of-times}
 use Rattle.dsm.proofs.Shapes.{length-keeping, whole, used}
 
 -- one carry more at the end meets one cell more
 pub combined-more : (y : ℤ) (cs : List ℕ) (c : ℕ) (l : List ℤ) → length cs < length l

@@ -1,13 +1,13 @@
--- 02, A9: what is read and written again is the same bytes, in any even parts. The statements; proofs/Files proves them.
+-- 02, A9: what is read and written again is the same bytes, in any even parts.
 use mathlib.Core.Path.{_≡_}
 use mathlib.Core.Bool.{true}
 use mathlib.Core.List.{List, [], _∷_, _++_}
 use Prim.Native.Nat.{ℕ, _+_, _%_}
 use lib.IntN.{ℤ}
 use lib.ListN.{length, drop}
 use Rattle.wav.specs.Bytes.{Bytes}
 use Rattle.wav.specs.Header.{headerOf, mayBe, headOf, tells}
 use Rattle.wav.specs.Samples.{dataOf, samplesOf, allInI16}
 
 -- Writing what was read gives the same bytes: a file whose header is not refused is that header and the bytes of its samples.
 abbrev pub SameBytes : Type 0

@@ -17,20 +17,20 @@ use Rattle.blocks.specs.declared.Verdict.{Verdict}
 use Rattle.blocks.specs.Verdicts.{verdictOf}
 use Rattle.blocks.specs.Blocks.{unless}
 use Rattle.blocks.specs.Scan.{scan, ends}
 use Rattle.dsm.specs.declared.Dsm.{Dsm}
 use Rattle.dsm.specs.declared.Stepped.{Stepped}
 use Rattle.dsm.specs.declared.Output.{Output}
 use Rattle.dsm.specs.declared.Output.the-variants as Output
 use Rattle.dsm.specs.Modulator.{modulatorOut, nextOf, inside, insideFrom}
 use Rattle.dsm.specs.Calls.{zerosOf, modulatorOf, stateNumber, runNumber, outputAt, modulatorStep}
-use Rattle.dsm.specs.Totals.{modulated, modulatorAfter}
-use Rattle.dsm.specs.Shaping.{tookIn, gaveOut, whenDone, Called, OneList}
-use Rattle.dsm.specs.Shaping.{lastAccumulator, accumulatorAt, backwards, NoiseShaped, NearInput}
-use Rattle.dsm.proofs.Balance.{above, below, of-minus}
+use Rattle.shaping.specs.Totals.{modulated, modulatorAfter}
+use Rattle.shaping.specs.Shaping.{tookIn, gaveOut, whenDone, Called, OneList}
+use Rattle.shaping.specs.Shaping.{lastAccumulator, accumulatorAt, backwards, NoiseShaped, NearInput}
+use Rattle.shaping.proofs.Balance.{above, below, of-minus}
 use Rattle.dsm.proofs.Ranges.{Near, near-inside, all}
 use Rattle.dsm.proofs.Refusals as Refusals
-use Rattle.dsm.proofs.Stages.{pre, post, outs, lasts, shaped}
-use Rattle.dsm.proofs.Tracking.{accs, At, at-zero, Follows, outs-along, ends-along}
+use Rattle.shaping.proofs.Stages.{pre, post, outs, lasts, shaped}
+use Rattle.shaping.proofs.Tracking.{accs, At, at-zero, Follows, outs-along, ends-along}
 
 -- ---- the calls are one list of steps
 

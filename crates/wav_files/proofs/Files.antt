@@ -14,13 +14,13 @@ use Rattle.words.specs.Words.{word, wrap}
 use Rattle.words.proofs.Reading.{word-is, word-fits, word-wrap, wrap-word, wrap-is}
 use Rattle.text.specs.Same.{same}
 use Rattle.text.proofs.Sameness.{same-eq, same-self}
 use Rattle.wav.specs.Bytes.{little, littleIn, Bytes, more}
 use Rattle.wav.specs.Header.{headerOf, mayBe, rateIn, sizeIn, isHeader, tells, headOf}
 use Rattle.wav.specs.Samples.{dataOf, sampleIn, samplesOf, inI16, allInI16}
-use Rattle.wav.specs.Files.{SameBytes, SameHeader, SameSamples, EvenCuts, AnyCuts, no-part, part, again, SameParts}
+use Rattle.wav_files.specs.Files.{SameBytes, SameHeader, SameSamples, EvenCuts, AnyCuts, no-part, part, again, SameParts}
 use Rattle.wav.specs.declared.header.Head.{Head}
 use Rattle.wav.specs.declared.header.Head.the-variants as Head
 use Rattle.wav.proofs.Headers.{ranges}
 
 -- the bytes of two bytes' sample are these
 pair : (lo hi : ℕ) → lo < 256 → hi < 256 → little 2 (word w16 (sampleIn lo hi)) ≡ lo ∷ hi ∷ []

@@ -11,14 +11,14 @@ use Rattle.words.specs.Words.{modℤ, word, wrap, floorDiv}
 use Rattle.words.proofs.Remainders.{is, rep-mod, rep-to, rep-add, rep-scaled}
 use Rattle.words.proofs.Floors.{floor-rest}
 use Rattle.words.proofs.Reading.{mod-below, word-wrap}
 use Rattle.biquad_fixed.specs.declared.coefficients.Biquad.{Biquad}
 use Rattle.biquad_fixed.specs.declared.coefficients.BiquadClamp.{BiquadClamp}
 use Rattle.biquad_fixed.specs.declared.wide.DirectForm1Wide.{DirectForm1Wide}
 use Rattle.biquad_fixed.specs.Forms.{wideSum, wideOut, wideNext, wideHeld, wideOnward, ditherSum, ditherNext, ditherOnward}
 use Rattle.biquad_fixed.specs.Answers.{fractionNumber}
-use Rattle.biquad_fixed.specs.Keeping.{DitherKept, ClampKept, BlockBelow, ClampBlockBelow}
+use Rattle.dither_error.specs.Keeping.{DitherKept, ClampKept, BlockBelow, ClampBlockBelow}
 use Rattle.biquad_fixed.proofs.Halves.{high-is, low-stays}
 use Rattle.biquad_fixed.proofs.Shifts.{output, rest, error}
 
 -- k turns of 2 ^ f and r, k counted modulo 2 ^ 32
 turned : (f r : ℕ) (k : ℤ) → (word w32 k * 2 ^ f + r) % (2 ^ 32 * 2 ^ f) ≡ modℤ (k *ℤ pos (2 ^ f) +ℤ pos r) (2 ^ 32 * 2 ^ f)

@@ -5,10 +5,10 @@ use Prim.Native.Nat.{ℕ, zero, suc, _≤_}
 use mathlib.Core.Logic.{⊎-elim}
 use native.Mathlib.Nat.{eq-or-lt-of-le}
 use native.Mathlib.Omega.{arith}
 use Rattle.dsm.specs.Modulator.{accumulated, carries, combined, retaining, output, keeping, modulatorOut, nextOf, least, greatest}
-use Rattle.dsm.specs.Totals.{modulated}
-use Rattle.dsm.specs.Ends.{among, swing, EndsReached}
+use Rattle.shaping.specs.Totals.{modulated}
+use Rattle.shaping.specs.Ends.{among, swing, EndsReached}
 use Rattle.dsm.proofs.Ranges.{both}
 
 -- a test that each number of 1 .. n passes
 passes : (ℕ → Bool) → ℕ → Bool

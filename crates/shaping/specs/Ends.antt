@@ -5,8 +5,8 @@ use mathlib.Core.List.{List, [], _∷_}
 use Prim.Native.Nat.{ℕ, zero, suc, _+_, _-_, _%_, _^_, _≤_}
 use lib.IntN.{ℤ}
 use lib.Signed.{leZ}
 use Rattle.dsm.specs.Modulator.{least, greatest}
-use Rattle.dsm.specs.Totals.{modulated}
+use Rattle.shaping.specs.Totals.{modulated}
 
 -- whether y is among the numbers
 abbrev pub among : ℤ → List ℤ → Bool

@@ -6,13 +6,13 @@ use lib.IntN.{ℤ, pos, natAbs, _-ℤ_, _*ℤ_}
 use lib.ListN.{length, take, getD}
 use Rattle.blocks.specs.declared.Verdict.{Verdict}
 use Rattle.blocks.specs.declared.Verdict.the-variants.{Done, Refused}
 use Rattle.dsm.specs.declared.Dsm.{Dsm}
 use Rattle.dsm.specs.declared.Made.{Made}
 use Rattle.dsm.specs.declared.Stepped.{Stepped}
 use Rattle.dsm.specs.declared.Output.{Output}
 use Rattle.dsm.specs.declared.Output.the-variants as Output
 use Rattle.dsm.specs.Calls.{modulatorOf, Steps, Runs}
-use Rattle.dsm.specs.Totals.{modulated, modulatorAfter}
+use Rattle.shaping.specs.Totals.{modulated, modulatorAfter}
 
 -- What a call took in and gave out, by its answer: a refused one nothing.
 abbrev pub tookIn : Output → ℕ → List ℕ
