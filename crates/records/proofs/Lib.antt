@@ -1,3 +1,4 @@
 pub mod Parsing
 pub mod Taking
+pub mod Holding
 pub mod Seeing

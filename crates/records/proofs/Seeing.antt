@@ -10,7 +10,6 @@ use lib.IntN.{ℤ, pos, _+ℤ_, _-ℤ_}
 use lib.ListN.{length, getD, List·getD-map, take, drop, replicate}
 use mir.Syntax.{Width, w32, w64}
 use mir.Val.{bits, toZ, SFits}
-use borrow.Author.Tests.{ltb-true}
 use Rattle.words.specs.Words.{word, wrap}
 use Rattle.words.proofs.Reading.{wrap-is, wrap-wrap, word-wrap, word-narrow}
 use Rattle.words.proofs.Sums.{wrap-add, wrap-sub}
@@ -41,10 +40,11 @@ use Rattle.sums.proofs.Carried.{nil-in}
 use Rattle.cic64.specs.Word.{wordOps}
 use Rattle.cic64.specs.Reading.{cicOf, countedOf}
 use Rattle.records.specs.Lines.{recordOf}
-use Rattle.records.specs.Sessions.{widthOf, within, ownWords, keptWords, refuse, toldBy, ordered, sampled, stepping, takeOf, lineOf}
+use Rattle.records.specs.Sessions.{widthOf, ownWords, keptWords, refuse, toldBy, ordered, sampled, stepping, takeOf, lineOf}
+use Rattle.records.proofs.Holding.{Holds, line-holds}
 use Rattle.records.specs.Seen.{throughState, through, seen, seenTaken, InItsWord}
 use Rattle.records.specs.declared.parse.Record.{Record}
-use Rattle.records.specs.declared.parse.Record.the-variants.{Open, Rate, Sample, Clear, Malformed}
+use Rattle.records.specs.declared.parse.Record.the-variants.{Open, Rate, Sample, Clear, Bad}
 use Rattle.records.specs.declared.session.Session.{Session}
 use Rattle.records.specs.declared.session.Taken.{Taken}
 
@@ -256,16 +256,13 @@ sampled-seen s zero t (some y) = rw (wrap-wrap (widthOf (s .wide)) (y .value)) r
 sampled-seen s zero t none = refl
 sampled-seen s (suc k) t g = refl
 
--- v within the word is read as itself
-within-is : (wide : Bool) (v : ℤ) → within wide v ≡ true → reads wide v ≡ v
-within-is wide v h = wrap-is (widthOf wide) v (record { sfits = ltb-true _ _ h })
-
-stepping-seen : (s : Session) (v : ℤ) → within (s .wide) v ≡ true → stepping ownWords (seen s) v ≡ seenTaken (stepping keptWords s v)
+-- a line's sample lies within the word, and so is read as itself
+stepping-seen : (s : Session) (v : ℤ) → SFits (widthOf (s .wide)) v → stepping ownWords (seen s) v ≡ seenTaken (stepping keptWords s v)
 stepping-seen s v h =
     let c = countedOf (s .filter) in
     let o = ownWords (s .wide) in
     let φ = reads (s .wide) in
-    let e = within-is (s .wide) v h in
+    let e = wrap-is (widthOf (s .wide)) v h in
     ap (λ (z : ℤ). sampled (seen s) (takeNumber c 1) (takeState o (through φ c) z) (takeGiven o (through φ c) z)) (sym e)
     ∙ ap₂ (sampled (seen s) (takeNumber c 1)) (take-to wordOps o φ (keeps (s .wide)) c v) (taken-to wordOps o φ (keeps (s .wide)) c v)
     ∙ sampled-seen s (takeNumber c 1) (takeState wordOps c v) (takeGiven wordOps c v)
@@ -275,27 +272,22 @@ either : (b : Bool) (x y : Taken) (u v : Taken) → u ≡ seenTaken x → v ≡ 
 either true x y u v e f = e
 either false x y u v e f = f
 
-fitting : (b : Bool) (x y : Taken) (u v : Taken) → (b ≡ true → u ≡ seenTaken x) → v ≡ seenTaken y → cond b u v ≡ seenTaken (cond b x y)
-fitting true x y u v e f = e refl
-fitting false x y u v e f = f
-
-take-seen : (s : Session) (r : Record) → takeOf ownWords (seen s) r ≡ seenTaken (takeOf keptWords s r)
+take-seen : (s : Session) (r : Record) → Holds (s .wide) r → takeOf ownWords (seen s) r ≡ seenTaken (takeOf keptWords s r)
 unfolding takeOf
-take-seen s (Open wide n m rate) =
+take-seen s (Open wide n m rate) h =
     either (s .opened) _ _ _ _ refl (ordered-seen s wide (newNumber n m rate) (newCounted wordOps n m rate) _
     (new-to wordOps (ownWords wide) (reads wide) (keeps wide) n m rate))
-take-seen s (Rate rate) =
+take-seen s (Rate rate) h =
     let c = countedOf (s .filter) in
     either (s .opened) _ _ _ _ (ordered-seen s (s .wide) (rateNumber (c .state) rate) (rateCounted wordOps c rate) _
     (rate-to wordOps (ownWords (s .wide)) (reads (s .wide)) (keeps (s .wide)) c rate)) refl
-take-seen s (Sample v) =
-    fitting (within (s .wide) v) _ _ _ _ (λ h. either (s .opened) _ _ _ _ (stepping-seen s v h) refl) refl
-take-seen s Clear =
+take-seen s (Sample v) h = either (s .opened) _ _ _ _ (stepping-seen s v h) refl
+take-seen s Clear h =
     let c = countedOf (s .filter) in
     either (s .opened) _ _ _ _ (ordered-seen s (s .wide) (refusal (c .state)) (clearCounted wordOps c) _
     (clear-to wordOps (ownWords (s .wide)) (reads (s .wide)) (keeps (s .wide)) c)) refl
-take-seen s Malformed = refl
+take-seen s (Bad f) h = refl
 
 pub in-its-word : InItsWord
 unfolding lineOf
-in-its-word s line = either (ltb 64 (length line)) _ _ _ _ refl (take-seen s (recordOf line))
+in-its-word s line = either (ltb 64 (length line)) _ _ _ _ refl (take-seen s (recordOf (s .wide) line) (line-holds (s .wide) line))

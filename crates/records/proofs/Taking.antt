@@ -3,14 +3,12 @@ use mathlib.Core.Path.{_≡_, refl, sym, ap, _∙_}
 use mathlib.Core.Bool.{Bool, true, false, cond}
 use mathlib.Core.List.{List}
 use mathlib.Core.Option.{Option, none, some}
-use native.Mathlib.Omega.{arith}
 use Prim.Native.Nat.{ℕ, zero, suc, _≤_, _<_}
-use lib.IntN.{ℤ, pos, negsuc}
-use lib.Signed.{ltZ}
+use lib.IntN.{ℤ}
 use lib.ListN.{length}
 use mir.Syntax.{w32, w64}
 use mir.Val.{SFits}
-use borrow.Author.Tests.{lt-ltb, le-ltb, ltb-true}
+use borrow.Author.Tests.{lt-ltb, le-ltb}
 use Rattle.words.specs.Words.{wrap}
 use Rattle.words.proofs.Reading.{wrap-is}
 use Rattle.blocks.specs.declared.Verdict.{Verdict}
@@ -27,7 +25,6 @@ use Rattle.cic64.specs.declared.steps.Stepped.{Stepped}
 use Rattle.records.specs.Lines.{recordOf}
 use Rattle.records.specs.Sessions.{
   widthOf,
-  within,
   shown,
   keptWords,
   refuse,
@@ -44,21 +41,7 @@ use Rattle.records.specs.declared.session.Reply.{Reply}
 use Rattle.records.specs.declared.session.Reply.the-variants as Reply
 use Rattle.records.specs.declared.session.Taken.{Taken}
 
--- the tests of the code, and what it reads
-pub within-wide : (wide : Bool) (v : ℤ) → wide ≡ true → SFits w64 v → true ≡ within wide v
-within-wide true v e h = sym (lt-ltb _ _ (h .sfits))
-within-wide false v e h = cc
-
-pub within-low : (wide : Bool) (v : ℤ) → wide ≡ false → ltZ v (pos 0) ≡ true → ltZ (negsuc 2147483648) v ≡ within wide v
-within-low true v e h = cc
-within-low false (pos n) e h = absurd (let k = ltb-true n 0 h in omega arith)
-within-low false (negsuc n) e h = refl
-
-pub within-high : (wide : Bool) (v : ℤ) → wide ≡ false → ltZ v (pos 0) ≡ false → ltZ v (pos 2147483648) ≡ within wide v
-within-high true v e h = cc
-within-high false (pos n) e h = refl
-within-high false (negsuc n) e h = cc
-
+-- what the code reads
 pub read-wide : (wide : Bool) (v : ℤ) → wide ≡ true → SFits w64 v → v ≡ wrap (widthOf wide) v
 read-wide true v e h = sym (wrap-is w64 v h)
 read-wide false v e h = cc
@@ -130,7 +113,7 @@ pub line-long : (s : Session) (l : List ℕ) (t : Taken) → 64 < length l → t
 unfolding lineOf
 line-long s l t h w = w ∙ sym (rw (lt-ltb _ _ h))
 
-pub line-short : (s : Session) (l : List ℕ) (r : Record) (t : Taken) → length l ≤ 64 → r ≡ recordOf l → t ≡ takeOf keptWords s r
+pub line-short : (s : Session) (l : List ℕ) (r : Record) (t : Taken) → length l ≤ 64 → r ≡ recordOf (s .wide) l → t ≡ takeOf keptWords s r
     → t ≡ lineOf keptWords s l
 unfolding lineOf
 line-short s l r t h p w = w ∙ ap (takeOf keptWords s) p ∙ sym (rw (le-ltb _ _ h))

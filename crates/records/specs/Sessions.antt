@@ -1,15 +1,13 @@
--- 01, 'The replay program', and 02, A1: what a line does and what it is answered. A line is tested for 72, 70, 71, and then the filter
--- tests.
+-- 01, 'The replay program', and 02, A1: what a line does and what it is answered. 02, A2: a line is tested for 72, for
+-- 73 to 76 (specs/Lines), for 71, and then the filter tests.
 use mathlib.Core.Bool.{Bool, true, false, cond}
 use mathlib.Core.List.{List}
 use mathlib.Core.Option.{Option, none, some}
-use Prim.Native.Nat.{ℕ, zero, suc, _^_}
+use Prim.Native.Nat.{ℕ, zero, suc}
 use lib.Dec.{ltb}
 use lib.IntN.{ℤ}
 use lib.ListN.{length}
-use lib.Signed.{mag}
 use mir.Syntax.{Width, w32, w64}
-use mir.Val.{hbits}
 use Rattle.words.specs.Words.{wrap}
 use Rattle.sums.specs.Ops.{Ops}
 use Rattle.sums.specs.Signed.{signedOps}
@@ -24,9 +22,10 @@ use Rattle.cic64.specs.Reading.{countedOf, cicOf}
 use Rattle.cic64.specs.Answers.{answerOutput}
 use Rattle.cic64.specs.declared.state.Cic.{Cic}
 use Rattle.cic64.specs.declared.steps.Output as answer
-use Rattle.records.specs.Lines.{recordOf}
+use Rattle.records.specs.Lines.{faultAt, recordOf}
+use Rattle.records.specs.declared.parse.Fault.{Fault}
 use Rattle.records.specs.declared.parse.Record.{Record}
-use Rattle.records.specs.declared.parse.Record.the-variants.{Open, Rate, Sample, Clear, Malformed}
+use Rattle.records.specs.declared.parse.Record.the-variants.{Open, Rate, Sample, Clear, Bad}
 use Rattle.records.specs.declared.session.Session.{Session}
 use Rattle.records.specs.declared.session.Reply.{Reply}
 use Rattle.records.specs.declared.session.Reply.the-variants as Reply
@@ -37,10 +36,6 @@ abbrev pub widthOf : Bool → Width
 widthOf true = w64
 widthOf false = w32
 
--- v lies within the word, from - 2 ^ (w - 1) to 2 ^ (w - 1) - 1
-abbrev pub within : Bool → ℤ → Bool
-within wide v = ltb (mag v) (2 ^ hbits (widthOf wide))
-
 -- The rules go over the word of the record that opened the replay. The filter that is kept computes with words of 64 bits for either:
 -- specs/Seen says why that is the same.
 abbrev pub ownWords : Bool → Ops ℤ
@@ -49,9 +44,12 @@ ownWords wide = signedOps (widthOf wide)
 abbrev pub keptWords : Bool → Ops ℤ
 keptWords wide = wordOps
 
--- a refused line leaves the session as it was
+-- a refused line leaves the session as it was; a number that is about no field has the place 0
+abbrev pub refuseAt : Session → Fault → Taken
+refuseAt s f = record { session = s; reply = Reply.Bad f }
+
 abbrev pub refuse : Session → ℕ → Taken
-refuse s number = record { session = s; reply = Reply.Bad number }
+refuse s number = refuseAt s (faultAt number 0)
 
 -- the filter is there, and is now f
 abbrev pub kept : Bool → Cic → Reply → Taken
@@ -97,14 +95,14 @@ module _ (words : Bool → Ops ℤ) where
   stepping s v =
       sampled s (takeNumber (filterOf s) 1) (takeState (words (s .wide)) (filterOf s) v) (takeGiven (words (s .wide)) (filterOf s) v)
 
-  -- 70: malformed line, or v outside the word; 71: no `cic` or `cic64` line yet, or a second one; then the filter's own numbers
+  -- what is wrong with the line; 71: no `cic` or `cic64` line yet, or a second one; then the filter's own numbers
   unfoldable pub takeOf : Session → Record → Taken
-  takeOf s Malformed = refuse s 70
+  takeOf s (Bad f) = refuseAt s f
   takeOf s (Open wide n m rate) = cond (s .opened) (refuse s 71) (making s wide n m rate)
   takeOf s (Rate rate) = cond (s .opened) (rating s rate) (refuse s 71)
-  takeOf s (Sample v) = cond (within (s .wide) v) (cond (s .opened) (stepping s v) (refuse s 71)) (refuse s 70)
+  takeOf s (Sample v) = cond (s .opened) (stepping s v) (refuse s 71)
   takeOf s Clear = cond (s .opened) (clearing s) (refuse s 71)
 
   -- a line that its newline ends. 72: line over 64 bytes before its newline
   unfoldable pub lineOf : Session → List ℕ → Taken
-  lineOf s line = cond (ltb 64 (length line)) (refuse s 72) (takeOf s (recordOf line))
+  lineOf s line = cond (ltb 64 (length line)) (refuse s 72) (takeOf s (recordOf (s .wide) line))

@@ -10,16 +10,23 @@ ghost use Prim.Native.Nat.{_≤_};
 ghost use lib.ListN.{length, drop};
 ghost use Rattle.text.specs.Letters.{tab};
 ghost use Rattle.text.specs.Parts.{behind};
-ghost use Rattle.records.specs.Lines.{nameOf, wantedOf, naturalOf, integerOf, openingRecord, withNatural, namedRecord, recordOf};
-ghost use Rattle.records.specs.Inner.Fields.{Reads};
+ghost use Rattle.records.specs.Lines.{nameOf, isKnown, wantedOf, wordRange, fieldAt, faultAt, heldRecord, recordOf};
+ghost use Rattle.records.specs.Inner.Fields.{Reads, naturalOf, integerOf, openingOf, openingFields, rateOf, sampleOf};
 
-// A line's record, or that it is none (01, refusal 70). A filter is opened with words of 64 bits (`cic64`) or of 32 (`cic`).
+// What is wrong with a line: its refusal number, and the place of the field that it is about (the name's is 1), or 0.
+pub struct Fault {
+    pub number: u32,
+    pub place: u8,
+}
+
+// A line's record, or what is wrong with it (02, A2: 73 to 76). A filter is opened with words of 64 bits (`cic64`) or of
+// 32 (`cic`).
 pub enum Record {
     Open(bool, u32, u32, u32),
     Rate(u32),
     Sample(i64),
     Clear,
-    Malformed,
+    Bad(Fault),
 }
 
 // The name in a line's first field.
@@ -32,16 +39,16 @@ pub enum Name {
     Unknown,
 }
 
-// A number within u32.
-pub enum Natural {
-    Within(u32),
-    Outside,
+// A number of u32: its refusal number, 75 or 76, or 0 and its value.
+pub struct Natural {
+    pub number: u32,
+    pub value: u32,
 }
 
-// A number within i64.
-pub enum Integer {
-    Within(i64),
-    Outside,
+// The same of the session's word.
+pub struct Integer {
+    pub number: u32,
+    pub value: i64,
 }
 
 // The number in a field, and where the field ends.
@@ -71,6 +78,19 @@ fn named(name: &[u8]) -> Name
     Name::Unknown
 }
 
+fn known(name: Name) -> bool
+    ensures { λ r. ⌜ r ≡ isKnown name ⌝ }
+{
+    match name {
+        Name::Cic => true,
+        Name::Cic64 => true,
+        Name::Rate => true,
+        Name::X => true,
+        Name::Clear => true,
+        Name::Unknown => false,
+    }
+}
+
 // How many fields follow the name.
 fn wanted(name: Name) -> usize
     ensures { λ r. ⌜ r ≡ wantedOf name ⌝ }
@@ -85,46 +105,73 @@ fn wanted(name: Name) -> usize
     }
 }
 
-// A number within u32.
+// N, M or rate. Refused with 75 where it is no well-formed number, with 76 outside u32.
 fn natural_of(n: Number) -> Natural
     ensures { λ r. ⌜ r ≡ naturalOf n ⌝ }
 {
     match n {
         Number::Plus(v) => {
             if v <= 4294967295 {
-                Natural::Within(v as u32)
+                Natural {
+                    number: 0,
+                    value: v as u32,
+                }
             } else {
-                Natural::Outside
-            }
-        }
-        Number::Minus(_) => Natural::Outside,
-        Number::Wrong => Natural::Outside,
-    }
-}
-
-// A number within i64.
-pub fn integer_of(n: Number) -> Integer
-    ensures { λ r. ⌜ r ≡ integerOf n ⌝ }
-{
-    match n {
-        Number::Plus(v) => {
-            if v <= 9223372036854775807 {
-                Integer::Within(u64_as_i64(v))
-            } else {
-                Integer::Outside
+                Natural { number: 76, value: 0 }
             }
         }
         Number::Minus(v) => {
             if v == 0 {
-                return Integer::Outside;
-            }
-            if v <= 9223372036854775808 {
-                Integer::Within(u64_as_i64(18446744073709551615 - (v - 1)))
+                Natural { number: 75, value: 0 }
             } else {
-                Integer::Outside
+                Natural { number: 76, value: 0 }
             }
         }
-        Number::Wrong => Integer::Outside,
+        Number::Wrong => Natural { number: 75, value: 0 },
+    }
+}
+
+// The size of the word's least number, of i64 or of i32.
+fn least_size(wide: bool) -> u64
+    ensures { λ r. ⌜ r ≡ wordRange wide .least ⌝ }
+{
+    if wide {
+        9223372036854775808
+    } else {
+        2147483648
+    }
+}
+
+// A sample. Refused with 75 where it is no well-formed number, with 76 outside the word, i64 or i32.
+pub fn integer_of(wide: bool, n: Number) -> Integer
+    ensures { λ r. ⌜ r ≡ integerOf wide n ⌝ }
+{
+    let least = least_size(wide);
+    match n {
+        Number::Plus(v) => {
+            if v < least {
+                Integer {
+                    number: 0,
+                    value: u64_as_i64(v),
+                }
+            } else {
+                Integer { number: 76, value: 0 }
+            }
+        }
+        Number::Minus(v) => {
+            if v == 0 {
+                return Integer { number: 75, value: 0 };
+            }
+            if v <= least {
+                Integer {
+                    number: 0,
+                    value: u64_as_i64(18446744073709551615 - (v - 1)),
+                }
+            } else {
+                Integer { number: 76, value: 0 }
+            }
+        }
+        Number::Wrong => Integer { number: 75, value: 0 },
     }
 }
 
@@ -139,24 +186,30 @@ fn field(line: &[u8], e: usize) -> Cell
     Cell { value, end }
 }
 
-fn opening(wide: bool, a: Natural, b: Natural, c: Natural) -> Record
-    ensures { λ r. ⌜ r ≡ withNatural a (λ n. withNatural b (λ m. withNatural c (λ rate. Record.Open wide n m rate))) ⌝ }
+fn bad_field(number: u32, place: u8) -> Record
+    ensures { λ r. ⌜ r ≡ Record.Bad (faultAt number place) ⌝ }
 {
-    let Natural::Within(n) = a else {
-        return Record::Malformed;
-    };
-    let Natural::Within(m) = b else {
-        return Record::Malformed;
-    };
-    let Natural::Within(rate) = c else {
-        return Record::Malformed;
-    };
-    Record::Open(wide, n, m, rate)
+    Record::Bad(Fault { number, place })
+}
+
+fn opening(wide: bool, a: Natural, b: Natural, c: Natural) -> Record
+    ensures { λ r. ⌜ r ≡ openingOf wide a b c ⌝ }
+{
+    if a.number != 0 {
+        return bad_field(a.number, 2);
+    }
+    if b.number != 0 {
+        return bad_field(b.number, 3);
+    }
+    if c.number != 0 {
+        return bad_field(c.number, 4);
+    }
+    Record::Open(wide, a.value, b.value, c.value)
 }
 
 fn opening_record(wide: bool, line: &[u8], e: usize) -> Record
     requires { ⌜ length (behind tab (drop e (now line))) ≡ 3 ⌝ }
-    ensures { λ r. ⌜ r ≡ openingRecord wide (behind tab (drop e (now (line .entry)))) ⌝ }
+    ensures { λ r. ⌜ r ≡ openingFields wide (behind tab (drop e (now (line .entry)))) ⌝ }
 {
     let a = field(line, e);
     let i = a.end;
@@ -171,53 +224,57 @@ fn opening_record(wide: bool, line: &[u8], e: usize) -> Record
 
 fn rate_record(line: &[u8], e: usize) -> Record
     requires { ⌜ length (behind tab (drop e (now line))) ≡ 1 ⌝ }
-    ensures { λ r. ⌜ r ≡ namedRecord Name.Rate (behind tab (drop e (now (line .entry)))) ⌝ }
+    ensures { λ r. ⌜ r ≡ rateOf (naturalOf (fieldAt (behind tab (drop e (now (line .entry)))) 0)) ⌝ }
 {
     let a = field(line, e);
     let v = a.value;
     let n = natural_of(v);
-    let Natural::Within(rate) = n else {
-        return Record::Malformed;
-    };
-    Record::Rate(rate)
+    if n.number != 0 {
+        return bad_field(n.number, 2);
+    }
+    Record::Rate(n.value)
 }
 
-fn sample_record(line: &[u8], e: usize) -> Record
+fn sample_record(wide: bool, line: &[u8], e: usize) -> Record
     requires { ⌜ length (behind tab (drop e (now line))) ≡ 1 ⌝ }
-    ensures { λ r. ⌜ r ≡ namedRecord Name.X (behind tab (drop e (now (line .entry)))) ⌝ }
+    ensures { λ r. ⌜ r ≡ sampleOf (integerOf wide (fieldAt (behind tab (drop e (now (line .entry)))) 0)) ⌝ }
 {
     let a = field(line, e);
     let v = a.value;
-    let n = integer_of(v);
-    let Integer::Within(x) = n else {
-        return Record::Malformed;
-    };
-    Record::Sample(x)
+    let n = integer_of(wide, v);
+    if n.number != 0 {
+        return bad_field(n.number, 2);
+    }
+    Record::Sample(n.value)
 }
 
-// The record of a name, whose fields follow the tab at e, as many as it wants.
-fn named_record(name: Name, line: &[u8], e: usize) -> Record
+// The record of a known name, whose fields follow the tab at e, as many as it wants.
+fn named_record(wide: bool, name: Name, line: &[u8], e: usize) -> Record
     requires { ⌜ length (behind tab (drop e (now line))) ≡ wantedOf name ⌝ }
-    ensures { λ r. ⌜ r ≡ namedRecord name (behind tab (drop e (now (line .entry)))) ⌝ }
+    ensures { λ r. ⌜ r ≡ heldRecord wide name (behind tab (drop e (now (line .entry)))) ⌝ }
 {
     match name {
         Name::Cic => opening_record(false, line, e),
         Name::Cic64 => opening_record(true, line, e),
         Name::Rate => rate_record(line, e),
-        Name::X => sample_record(line, e),
+        Name::X => sample_record(wide, line, e),
         Name::Clear => Record::Clear,
-        Name::Unknown => Record::Malformed,
+        Name::Unknown => bad_field(73, 0),
     }
 }
 
-// A line, without its newline, read as a record.
-pub fn parse(line: &[u8]) -> Record
-    ensures { λ r. ⌜ r ≡ recordOf (now (line .entry)) ⌝ }
+// A line, without its newline, read as a record of a session with words of 64 bits or of 32. Bad with 73 where the name
+// is unknown, then with 74 where the fields are too few or too many, then with the first bad field's number and place.
+pub fn parse(wide: bool, line: &[u8]) -> Record
+    ensures { λ r. ⌜ r ≡ recordOf wide (now (line .entry)) ⌝ }
 {
     let e = part_end(line, 0, b'\t');
     let name = named(&line[..e]);
-    if separators(line, b'\t') != wanted(name) {
-        return Record::Malformed;
+    if !known(name) {
+        return bad_field(73, 0);
     }
-    named_record(name, line, e)
+    if separators(line, b'\t') != wanted(name) {
+        return bad_field(74, 0);
+    }
+    named_record(wide, name, line, e)
 }

@@ -1,4 +1,5 @@
 // What a line does to the filter, and what it is answered.
+use crate::parse::Fault;
 use crate::parse::Record;
 use crate::parse::parse;
 use blocks::Verdict;
@@ -11,10 +12,10 @@ ghost use mathlib.Core.Path.{_≡_};
 ghost use Rattle.words.specs.Words.{wrap};
 ghost use Rattle.records.specs.Sessions.{
   widthOf,
-  within,
   shown,
   keptWords,
   refuse,
+  refuseAt,
   kept,
   toldBy,
   making,
@@ -33,30 +34,17 @@ pub struct Session {
     pub filter: Cic,
 }
 
-// What a line is answered: nothing, an output with the count that it tells, or the number of its refusal.
+// What a line is answered: nothing, an output with the count that it tells, or what is wrong with it.
 pub enum Reply {
     Silent,
     Output(Output),
-    Bad(u32),
+    Bad(Fault),
 }
 
 // The session after a line, and the line's answer.
 pub struct Taken {
     pub session: Session,
     pub reply: Reply,
-}
-
-// Whether v lies within the word, i64 or i32.
-pub fn fits_in(wide: bool, v: i64) -> bool
-    ensures { λ r. ⌜ r ≡ within wide v ⌝ }
-{
-    if wide {
-        return true;
-    }
-    if v < 0 {
-        return -2147483649 < v;
-    }
-    v < 2147483648
 }
 
 // A value of the filter's read in the word, i64 or i32.
@@ -80,13 +68,19 @@ fn output_in(wide: bool, y: Output) -> Output
     }
 }
 
-fn refused(s: Session, number: u32) -> Taken
-    ensures { λ r. ⌜ r ≡ refuse s number ⌝ }
+fn refused_at(s: Session, fault: Fault) -> Taken
+    ensures { λ r. ⌜ r ≡ refuseAt s fault ⌝ }
 {
     Taken {
         session: s,
-        reply: Reply::Bad(number),
+        reply: Reply::Bad(fault),
     }
+}
+
+fn refused(s: Session, number: u32) -> Taken
+    ensures { λ r. ⌜ r ≡ refuse s number ⌝ }
+{
+    refused_at(s, Fault { number, place: 0 })
 }
 
 fn with_filter(wide: bool, filter: Cic, reply: Reply) -> Taken
@@ -154,9 +148,9 @@ fn take_sample(s: Session, x: i64) -> Taken
     }
 }
 
-// A record. Refused with 70 where it is none or its sample lies outside the session's word, with 71 before a `cic` or
-// `cic64` record or for a second one of either, then with the filter's own number; a refused record changes nothing.
-pub fn take_record(s: Session, r: Record) -> Taken
+// A record of a session's line. Refused as it is bad, with 71 before a `cic` or `cic64` record or for a second one of
+// either, then with the filter's own number; a refused record changes nothing.
+fn take_record(s: Session, r: Record) -> Taken
     ensures { λ t. ⌜ t ≡ takeOf keptWords s r ⌝ }
 {
     let opened = s.opened;
@@ -176,14 +170,10 @@ pub fn take_record(s: Session, r: Record) -> Taken
             }
         }
         Record::Sample(x) => {
-            if fits_in(s.wide, x) {
-                if opened {
-                    take_sample(s, x)
-                } else {
-                    refused(s, 71)
-                }
+            if opened {
+                take_sample(s, x)
             } else {
-                refused(s, 70)
+                refused(s, 71)
             }
         }
         Record::Clear => {
@@ -193,7 +183,7 @@ pub fn take_record(s: Session, r: Record) -> Taken
                 refused(s, 71)
             }
         }
-        Record::Malformed => refused(s, 70),
+        Record::Bad(fault) => refused_at(s, fault),
     }
 }
 
@@ -205,5 +195,5 @@ pub fn take_line(s: Session, line: &[u8]) -> Taken
     if 64 < line.len() {
         return refused(s, 72);
     }
-    take_record(s, parse(line))
+    take_record(s, parse(s.wide, line))
 }

@@ -1,4 +1,4 @@
--- By the record, whether the sample lies within the word, and whether the filter is there.
+-- By the record, and whether the filter is there.
 use mathlib.Core.Path.{sym, _∙_}
 use mir.Syntax.{w64}
 use mir.ValLaws.{toZ-ofZ}
@@ -36,71 +36,51 @@ returns-4 c =
     let a = begin .args in takes (a .s) (a .r) _ (c .refused2 .result) (c .before .before .before .r2 .given .1)
     (c .refused2 .ensures ∙ is-false _ _ _ (c .before .if2 .left))
 
--- the sample of the arm, read back from its bits, and whether it lies within the word
+-- the sample of the arm, read back from its bits
 returns-5 : tie.Need-returns-5
 unfolding takeOf
 returns-5 c =
     let begin : tie.Start = search in
     let at-r3 : tie.After-r3 = search in
     let at-told : tie.After-known-told3 = search in
-    let at-fits : tie.After-fits-in = search in
-    let then3 : tie.Then3 = search in
     let a = begin .args in
     let e = toZ-ofZ w64 (at-r3 .r3 .given .0 .0) (record { sfits = at-told .known-told3 .given .0 .1 }) in
-    let f = sym (rw e at (at-fits .fits-in .ensures)) in
     takes (a .s) (a .r) _ (c .take-sample .result) (at-r3 .r3 .given .1)
-    ((rw e at (c .take-sample .ensures)) ∙ is-true _ _ _ (c .before .if4 .taken) ∙ is-true _ _ _ (f ∙ then3 .if3 .taken))
+    ((rw e at (c .take-sample .ensures)) ∙ is-true _ _ _ (c .before .if3 .taken))
 
 returns-6 : tie.Need-returns-6
 unfolding takeOf
 returns-6 c =
     let begin : tie.Start = search in
     let at-r3 : tie.After-r3 = search in
-    let at-told : tie.After-known-told3 = search in
-    let at-fits : tie.After-fits-in = search in
-    let then3 : tie.Then3 = search in
     let a = begin .args in
-    let e = toZ-ofZ w64 (at-r3 .r3 .given .0 .0) (record { sfits = at-told .known-told3 .given .0 .1 }) in
-    let f = sym (rw e at (at-fits .fits-in .ensures)) in
     takes (a .s) (a .r) _ (c .refused3 .result) (at-r3 .r3 .given .1)
-    (c .refused3 .ensures ∙ is-false _ _ _ (c .before .if4 .left) ∙ is-true _ _ _ (f ∙ then3 .if3 .taken))
+    (c .refused3 .ensures ∙ is-false _ _ _ (c .before .if3 .left))
 
 returns-7 : tie.Need-returns-7
 unfolding takeOf
 returns-7 c =
     let begin : tie.Start = search in
-    let at-r3 : tie.After-r3 = search in
-    let at-told : tie.After-known-told3 = search in
-    let at-fits : tie.After-fits-in = search in
-    let a = begin .args in
-    let e = toZ-ofZ w64 (at-r3 .r3 .given .0 .0) (record { sfits = at-told .known-told3 .given .0 .1 }) in
-    let f = sym (rw e at (at-fits .fits-in .ensures)) in
-    takes (a .s) (a .r) _ (c .refused4 .result) (at-r3 .r3 .given .1)
-    (c .refused4 .ensures ∙ is-false _ _ _ (f ∙ c .before .if3 .left))
+    let a = begin .args in takes (a .s) (a .r) _ (c .clear-filter .result) (c .before .before .enum-told .given .1)
+    (c .clear-filter .ensures ∙ is-true _ _ _ (c .before .if4 .taken))
 
 returns-8 : tie.Need-returns-8
 unfolding takeOf
 returns-8 c =
     let begin : tie.Start = search in
-    let a = begin .args in takes (a .s) (a .r) _ (c .clear-filter .result) (c .before .before .enum-told .given .1)
-    (c .clear-filter .ensures ∙ is-true _ _ _ (c .before .if5 .taken))
+    let a = begin .args in takes (a .s) (a .r) _ (c .refused4 .result) (c .before .before .enum-told .given .1)
+    (c .refused4 .ensures ∙ is-false _ _ _ (c .before .if4 .left))
 
 returns-9 : tie.Need-returns-9
 unfolding takeOf
 returns-9 c =
     let begin : tie.Start = search in
-    let a = begin .args in takes (a .s) (a .r) _ (c .refused5 .result) (c .before .before .enum-told .given .1)
-    (c .refused5 .ensures ∙ is-false _ _ _ (c .before .if5 .left))
-
-returns-10 : tie.Need-returns-10
-unfolding takeOf
-returns-10 c = let a = c .before .before .before .args in takes (a .s) (a .r) _ (c .refused6 .result)
-    (c .before .enum-told2 .given .1) (c .refused6 .ensures)
+    let at-r4 : tie.After-r4 = search in
+    let a = begin .args in takes (a .s) (a .r) _ (c .refused-at .result) (at-r4 .r4 .given .1) (c .refused-at .ensures)
 
 pub take-record-spec : {M : Type 1} → statement M
 take-record-spec =
-    tie.close (tie.spec (λ c. search needs) (λ c κs. search needs) (λ c κs. search needs) (λ c. search needs)
-    (λ c κs. search needs) (λ c κs. search needs) (λ c. search needs) (λ c κs. search needs) (λ c κs. search needs)
-    (λ c κs. search needs) (λ c κs. search needs) (λ c. search needs) (λ c κs. search needs) (λ c κs. search needs)
-    (λ c. search needs) (λ c κs. search needs) returns returns-2 returns-3 returns-4 returns-5 returns-6 returns-7
-    returns-8 returns-9 returns-10)
+    tie.close (tie.spec (λ c. search needs) (λ c κs. search needs) (λ c κs. search needs) (λ c. search needs) (λ c κs. search needs)
+    (λ c κs. search needs) (λ c. search needs) (λ c κs. search needs) (λ c κs. search needs) (λ c. search needs)
+    (λ c κs. search needs) (λ c κs. search needs) (λ c. search needs) (λ c κs. search needs) returns returns-2 returns-3
+    returns-4 returns-5 returns-6 returns-7 returns-8 returns-9)
