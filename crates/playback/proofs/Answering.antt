@@ -12,7 +12,7 @@ use Rattle.text.specs.Letters.{bytes, tab, newline}
 use Rattle.text.specs.Numbers.{spelt, decimalOf, signedOf}
 use Rattle.text.specs.Writing.{overlaid, Wrote, Puts}
 use Rattle.text.proofs.Putting.{written, then, then-puts}
-use Rattle.text.proofs.Spelling.{spelt-short, decimal-most, signed-most64}
+use Rattle.text.proofs.Spelling.{spelt-short, spelt-most, decimal-most, signed-most64}
 use Rattle.playback.specs.Replays.{lastField, outputLine, endLine, badLine}
 use Rattle.playback.specs.Places as Places
 use Rattle.playback.specs.Places.{frontWritten, answerNumber}
@@ -22,6 +22,10 @@ use Rattle.blocks.specs.declared.Verdict.the-variants.{Done, Refused}
 
 pub short : (n : ℕ) → length (decimalOf n) ≤ 20
 short n = spelt-short 20 n
+
+-- a place is a byte, of at most 3 digits
+pub place-most : (n : ℕ) → n < 256 → length (decimalOf n) ≤ 3
+place-most n h = spelt-most 2 20 n (omega arith)
 
 module _ (o : List ℕ) (at : ℕ) where
   -- an output that tells 0, and one that tells more
@@ -84,19 +88,42 @@ module _ (o : List ℕ) (at : ℕ) where
       let w₃ : Wrote o at (bytes "end\t" ++ (decimalOf n ++ (newline ∷ []))) r o₃ = then-puts (omega arith) w₂ z in
       (w₃, omega (arith, w₃ .next, length-append (decimalOf n) (newline ∷ [])))
 
-  pub bad-wrote : (line number a b r : ℕ) (o₁ o₂ o₃ : List ℕ) → number < 2 ^ 32 → at + 36 ≤ length o
-      → Puts o at (bytes "bad\t") a o₁ → Puts o₁ a (decimalOf line) b o₂ → Wrote o₂ b (lastField number) r o₃
-      → Wrote o at (badLine line number) r o₃ × (r ≤ at + 36)
+  -- a refusal: its line, then its number and place
+  pub number-wrote : (number place a b r : ℕ) (o₁ o₂ o₃ : List ℕ) → number < 2 ^ 32 → place < 256 → at + 16 ≤ length o
+      → Puts o at (tab ∷ []) a o₁ → Puts o₁ a (decimalOf number) b o₂ → Wrote o₂ b (lastField place) r o₃
+      → Wrote o at (tab ∷ (decimalOf number ++ lastField place)) r o₃
+  number-wrote number place a b r o₁ o₂ o₃ f g h x y z =
+      let k = decimal-most number f in
+      let l = place-most place g in
+      let w₁ : Wrote o at (tab ∷ []) a o₁ = written o at (tab ∷ []) a o₁ (omega arith) x in
+      let w₂ : Wrote o at ((tab ∷ []) ++ decimalOf number) b o₂ = then-puts (omega arith) w₁ y in
+      then (omega arith) w₂ z
+
+  pub number-place : (number a b : ℕ) (o₁ o₂ : List ℕ) → number < 2 ^ 32 → at + 16 ≤ length o → Puts o at (tab ∷ []) a o₁
+      → Puts o₁ a (decimalOf number) b o₂ → b ≤ at + 11
+  number-place number a b o₁ o₂ f h x y =
+      let k = decimal-most number f in
+      let w₁ : Wrote o at (tab ∷ []) a o₁ = written o at (tab ∷ []) a o₁ (omega arith) x in
+      let w₂ : Wrote o at ((tab ∷ []) ++ decimalOf number) b o₂ = then-puts (omega arith) w₁ y in
+      omega (arith, w₂ .next)
+
+  pub bad-wrote : (line number place a b r : ℕ) (o₁ o₂ o₃ : List ℕ) → number < 2 ^ 32 → place < 256 → at + 40 ≤ length o
+      → Puts o at (bytes "bad\t") a o₁ → Puts o₁ a (decimalOf line) b o₂ → Wrote o₂ b (tab ∷ (decimalOf number ++ lastField place)) r o₃
+      → Wrote o at (badLine line number place) r o₃ × (r ≤ at + 40)
   unfolding badLine
-  bad-wrote line number a b r o₁ o₂ o₃ f h x y z =
+  bad-wrote line number place a b r o₁ o₂ o₃ f g h x y z =
       let k = short line in
       let l = decimal-most number f in
+      let m = place-most place g in
+      let t : List ℕ = tab ∷ (decimalOf number ++ lastField place) in
+      let n : length t ≡ 1 + (length (decimalOf number) + (1 + (length (decimalOf place) + 1))) = omega
+      (arith, length-append (decimalOf number) (lastField place), length-append (decimalOf place) (newline ∷ [])) in
       let w₁ : Wrote o at (bytes "bad\t") a o₁ = written o at (bytes "bad\t") a o₁ (omega arith) x in
       let w₂ : Wrote o at (bytes "bad\t" ++ decimalOf line) b o₂ = then-puts (omega arith) w₁ y in
-      let w₃ : Wrote o at (bytes "bad\t" ++ (decimalOf line ++ lastField number)) r o₃ = then (omega arith) w₂ z in
-      (w₃, omega (arith, w₃ .next, length-append (decimalOf line) (lastField number), length-append (decimalOf number) (newline ∷ [])))
+      let w₃ : Wrote o at (bytes "bad\t" ++ (decimalOf line ++ t)) r o₃ = then (omega arith) w₂ z in
+      (w₃, omega (arith, w₃ .next, n, length-append (decimalOf line) t))
 
-  pub bad-place : (line a b : ℕ) (o₁ o₂ : List ℕ) → at + 36 ≤ length o → Puts o at (bytes "bad\t") a o₁ → Puts o₁ a (decimalOf line) b o₂
+  pub bad-place : (line a b : ℕ) (o₁ o₂ : List ℕ) → at + 40 ≤ length o → Puts o at (bytes "bad\t") a o₁ → Puts o₁ a (decimalOf line) b o₂
       → b ≤ at + 24
   bad-place line a b o₁ o₂ h x y =
       let k = short line in

@@ -21,7 +21,7 @@ use Rattle.sums.proofs.Steps.{Fit, accepted, down, step-waits, given-waits, ste
 use Rattle.cic64.specs.Word.{wordOps}
 use Rattle.cic64.specs.Reading.{cicOf}
 use Rattle.records.specs.Lines.{recordOf}
-use Rattle.records.specs.Sessions.{within, keptWords, kept, replied, takeOf, lineOf}
+use Rattle.records.specs.Sessions.{keptWords, kept, replied, takeOf, lineOf}
 use Rattle.playback.specs.Places.{Place, countedUp, replyBytes, ended, fedOf, bytesOf}
 use Rattle.playback.specs.Inner.Advances as Advances
 use Rattle.playback.specs.Inner.Advances.{Sampled, outputLines}
@@ -63,11 +63,11 @@ module _ (wide : Bool) where
     going = true;
   }
 
-  sample-taken : (f : State ℤ) → Fit f → (i : ℕ) → i < mostInputs → (l : List ℕ) (x : ℤ) → length l ≤ 64 → recordOf l ≡ Sample x
-      → within wide x ≡ true → lineOf keptWords (record { opened = true; wide = wide; filter = cicOf (filterAt f i) }) l
+  sample-taken : (f : State ℤ) → Fit f → (i : ℕ) → i < mostInputs → (l : List ℕ) (x : ℤ) → length l ≤ 64 → recordOf wide l ≡ Sample x
+      → lineOf keptWords (record { opened = true; wide = wide; filter = cicOf (filterAt f i) }) l
       ≡ kept wide (cicOf (filterAt (stepState wordOps f x) (suc i))) (replied wide (withNumber (suc i) (stepGiven wordOps f x)))
   unfolding lineOf takeOf takeState takeGiven
-  sample-taken f fit i room l x h e in-word = rw (le-ltb _ _ h, e, in-word, may-take f fit i room)
+  sample-taken f fit i room l x h e = rw (le-ltb _ _ h, e, may-take f fit i room)
 
   -- what a step's answer adds to the counts
   after-step : (f t : Counted ℤ) (n k i : ℕ) (g : Option (Output ℤ))
@@ -92,7 +92,7 @@ module _ (wide : Bool) where
 
   -- one sample line
   module _ (f : State ℤ) (fit : Fit f) (i : ℕ) (room : i < mostInputs) (n k : ℕ) (line bs : List ℕ) (x : ℤ)
-      (plain : count newline line ≡ 0) (short : length line ≤ 64) (reads : recordOf line ≡ Sample x) (fits : within wide x ≡ true) where
+      (plain : count newline line ≡ 0) (short : length line ≤ 64) (reads : recordOf wide line ≡ Sample x) where
     abbrev here : Place
     here = between (filterAt f i) n k
 
@@ -100,7 +100,7 @@ module _ (wide : Bool) where
     next = between (filterAt (stepState wordOps f x) (suc i)) (countedUp n 1) (countedUp k (length (join (stepGiven wordOps f x) [])))
 
     taken-is : ended here (lineOf keptWords (here .session) line) ≡ next
-    taken-is = ap (ended here) (sample-taken f fit i room line x short reads fits)
+    taken-is = ap (ended here) (sample-taken f fit i room line x short reads)
         ∙ after-step (filterAt f i) (filterAt (stepState wordOps f x) (suc i)) n k (suc i) (stepGiven wordOps f x)
 
     one-place : fedOf here (line ++ (newline ∷ bs)) ≡ fedOf next bs
@@ -111,7 +111,7 @@ module _ (wide : Bool) where
     one-bytes =
         line-bytes line newline bs here line refl plain refl short refl
         ∙ ap (λ (t : Taken). replyBytes (countedUp n 1) (t .reply) ++ bytesOf (ended here (lineOf keptWords (here .session) line)) bs)
-        (sample-taken f fit i room line x short reads fits)
+        (sample-taken f fit i room line x short reads)
         ∙ ap (λ (q : Place). replyBytes (countedUp n 1) (replied wide (withNumber (suc i)
         (stepGiven wordOps f x))) ++ bytesOf q bs) taken-is
 
@@ -143,9 +143,9 @@ module _ (wide : Bool) where
       → fedOf (between (filterAt f i) n k) bs ≡ fedOf (ran f i xs n k) rest
   unfolding after outputs
   batch-place Advances.none f fit i n k hi hn hk = rw (add-zero i, raised-none n hn, raised-none k hk)
-  batch-place {xs = x ∷ xs} (Advances.more line {bs} {rest} plain short reads fits s) f fit i n k hi hn hk =
+  batch-place {xs = x ∷ xs} (Advances.more line {bs} {rest} plain short reads s) f fit i n k hi hn hk =
       let g = stepGiven wordOps f x in
-      one-place f fit i (omega arith) n k line bs x plain short reads fits
+      one-place f fit i (omega arith) n k line bs x plain short reads
       ∙ batch-place s (stepState wordOps f x) (step-fit wordOps f fit x) (suc i) (countedUp n 1) (countedUp k (length (join g [])))
       (omega arith) (raised-small n 1) (raised-small k (length (join g [])))
       ∙ ap (λ (q : Place). fedOf q rest) (ran-more f i x xs n k)
@@ -156,13 +156,13 @@ module _ (wide : Bool) where
       ≡ outputLines wide (f .unsettled) (values (outputs wordOps f xs)) ++ bytesOf (ran f i xs n k) rest
   unfolding after outputs outputLines
   batch-bytes Advances.none f fit i n k hi hn hk = rw (add-zero i, raised-none n hn, raised-none k hk)
-  batch-bytes {xs = x ∷ xs} (Advances.more line {bs} {rest} plain short reads fits s) f fit i n k hi hn hk =
+  batch-bytes {xs = x ∷ xs} (Advances.more line {bs} {rest} plain short reads s) f fit i n k hi hn hk =
       let t = stepState wordOps f x in
       let g = stepGiven wordOps f x in
       let k' = countedUp k (length (join g [])) in
       let y = replyBytes (countedUp n 1) (replied wide (withNumber (suc i) g)) in
       let m = outputLines wide (t .unsettled) (values (outputs wordOps t xs)) in
-      one-bytes f fit i (omega arith) n k line bs x plain short reads fits
+      one-bytes f fit i (omega arith) n k line bs x plain short reads
       ∙ ap (λ (l : List ℕ). y ++ l) (batch-bytes s t (step-fit wordOps f fit x) (suc i) (countedUp n 1) k' (omega arith)
       (raised-small n 1) (raised-small k (length (join g []))))
       ∙ sym (append-assoc y m _)

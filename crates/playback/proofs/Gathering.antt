@@ -20,53 +20,59 @@ use Rattle.text.proofs.Putting.{nothing, then, wrote-same as rewritten}
 use Rattle.text.specs.declared.numbers.Number.the-variants.{Wrong}
 use Rattle.text.specs.Same.{same}
 use Rattle.words.specs.Words.{wrap}
-use Rattle.records.specs.Lines.{nameOf, integerOf, recordOf}
-use Rattle.records.specs.Sessions.{widthOf, within}
+use Rattle.records.specs.Lines.{nameOf, wordRange, numberNumber, valueOf, recordOf}
+use Rattle.records.specs.Inner.Fields.{integerOf}
+use Rattle.records.specs.Sessions.{widthOf}
 use Rattle.playback.specs.Replays.{outputLine}
 use Rattle.playback.specs.Inner.Advances as Advances
 use Rattle.playback.specs.Inner.Advances.{SampleLine, finds, Sampled, Gathers, outputLines}
 use Rattle.playback.specs.declared.samples.Found.{Found}
 use Rattle.playback.specs.declared.samples.Found.the-variants as Found
 use Rattle.records.specs.declared.parse.Integer.{Integer}
-use Rattle.records.specs.declared.parse.Integer.the-variants as Integer
 use Rattle.records.specs.declared.parse.Record.the-variants.{Sample}
 use Rattle.records.proofs.Parsing.{integer-capped}
 
 -- a line more at the end
 pub sampled-more : {wide : Bool} {bs mid : List ℕ} {xs : List ℤ} → Sampled wide bs xs mid → (line rest : List ℕ) (x : ℤ)
-    → mid ≡ line ++ (newline ∷ rest) → count newline line ≡ 0 → length line ≤ 64 → recordOf line ≡ Sample x → within wide x ≡ true
+    → mid ≡ line ++ (newline ∷ rest) → count newline line ≡ 0 → length line ≤ 64 → recordOf wide line ≡ Sample x
     → Sampled wide bs (xs ++ (x ∷ [])) rest
-sampled-more Advances.none line rest x e plain short reads fits = rw e (Advances.more line plain short reads fits Advances.none)
-sampled-more (Advances.more l p s r f on) line rest x e plain short reads fits = Advances.more l p s r f
-    (sampled-more on line rest x e plain short reads fits)
+sampled-more Advances.none line rest x e plain short reads = rw e (Advances.more line plain short reads Advances.none)
+sampled-more (Advances.more l p s r on) line rest x e plain short reads = Advances.more l p s r
+    (sampled-more on line rest x e plain short reads)
 
--- `x`, a second and a field that is a number
-number-some : (field : List ℕ) (x : ℤ) → integerOf (numberOf field) ≡ Integer.Within x → numberOf field ≡ Wrong → ⊥
-number-some field x e w = let z : _≡_ {A = Integer} Integer.Outside (Integer.Within x) = sym (ap integerOf w)
-    ∙ e in let k : _≡_ {A = ℕ} 0 1 = cc in omega arith
+-- `x`, a tab and a field that is a number of the word
+number-some : (wide : Bool) (field : List ℕ) → numberNumber (wordRange wide) (numberOf field) ≡ 0 → numberOf field ≡ Wrong → ⊥
+number-some wide field e w = let k : _≡_ {A = ℕ} 75 0 = sym (ap (numberNumber (wordRange wide)) w) ∙ e in omega arith
 
-field-some : (field : List ℕ) (x : ℤ) → integerOf (numberOf field) ≡ Integer.Within x → 1 ≤ length field
+field-some : (wide : Bool) (field : List ℕ) → numberNumber (wordRange wide) (numberOf field) ≡ 0 → 1 ≤ length field
 unfolding numberOf
-field-some [] x e = let k : _≡_ {A = ℕ} 0 1 = cc in absurd (omega arith)
-field-some (b ∷ l) x e = omega arith
+field-some wide [] e = absurd (omega arith)
+field-some wide (b ∷ l) e = omega arith
 
-x-record : (field : List ℕ) (x : ℤ) → integerOf (numberOf field) ≡ Integer.Within x → recordOf (byte "x" ∷ tab ∷ field) ≡ Sample x
+x-record : (wide : Bool) (field : List ℕ) → numberNumber (wordRange wide) (numberOf field) ≡ 0
+    → recordOf wide (byte "x" ∷ tab ∷ field) ≡ Sample (valueOf (numberOf field))
 unfolding recordOf parted nameOf same
-x-record field x e =
+x-record wide field e =
     let p : parted tab field ≡ field ∷ [] = parted-plain tab field (number-count tab refl (λ z. omega arith) field
-    (number-some field x e)) in
+    (number-some wide field e)) in
     rw (p, e)
 
-module _ (wide : Bool) (l : List ℕ) (at end : ℕ) (x : ℤ) (long : at + 4 ≤ length l) (first : getD l at 0 ≡ byte "x")
+module _ (wide : Bool) (l : List ℕ) (at end : ℕ) (long : at + 4 ≤ length l) (first : getD l at 0 ≡ byte "x")
     (second : getD l (at + 1) 0 ≡ tab) (ends : end ≡ endOf newline l (at + 2)) (more : end < length l) (near : end - (at + 2) ≤ 62)
-    (v : Integer) (reads : v ≡ integerOf (capped (numberOf (take (end - (at + 2)) (drop (at + 2) l)))))
-    (is : v ≡ Integer.Within x) (fits : within wide x ≡ true) where
+    (v : Integer) (reads : v ≡ integerOf wide (capped (numberOf (take (end - (at + 2)) (drop (at + 2) l)))))
+    (good : v .number ≡ 0) where
   field : List ℕ
   field = take (end - (at + 2)) (drop (at + 2) l)
 
-  field-reads : integerOf (numberOf field) ≡ Integer.Within x
+  is : v ≡ integerOf wide (numberOf field)
   unfolding field
-  field-reads = sym (integer-capped (numberOf (take (end - (at + 2)) (drop (at + 2) l)))) ∙ sym reads ∙ is
+  is = reads ∙ integer-capped wide (numberOf (take (end - (at + 2)) (drop (at + 2) l)))
+
+  field-good : numberNumber (wordRange wide) (numberOf field) ≡ 0
+  field-good = sym (ap (λ (i : Integer). i .number) is) ∙ good
+
+  field-value : valueOf (numberOf field) ≡ v .value
+  field-value = sym (ap (λ (i : Integer). i .value) is ∙ rw field-good)
 
   field-plain : count newline field ≡ 0
   unfolding field
@@ -96,16 +102,15 @@ module _ (wide : Bool) (l : List ℕ) (at end : ℕ) (x : ℤ) (long : at + 4 �
       ∙ ap (λ (j : ℕ). getD l j 0 ∷ drop (suc (suc at)) l) f ∙ ap (λ (b : ℕ). b ∷ drop (suc (suc at)) l) second
       ∙ ap (λ (j : ℕ). tab ∷ drop j l) e)
 
-  pub sample-found : SampleLine wide l at x (end + 1)
+  pub sample-found : SampleLine wide l at (v .value) (end + 1)
   unfolding count
   sample-found = record {
     line = byte "x" ∷ tab ∷ field;
     here = two ∙ ap (λ (k : List ℕ). byte "x" ∷ tab ∷ k) behind-field;
     plain = field-plain;
     short = omega (arith, length-field);
-    reads = x-record field x field-reads;
-    fits = fits;
-    far = omega (arith, length-field, field-some field x field-reads);
+    reads = x-record wide field field-good ∙ ap Sample field-value;
+    far = omega (arith, length-field, field-some wide field field-good);
     inside = omega arith;
   }
 
@@ -122,7 +127,7 @@ module _ (wide : Bool) (l : List ℕ) (from : ℕ) where
         few = omega arith;
         far = omega (arith, g .far, s .far);
         inside = s .inside;
-        lines = rw e (sampled-more (g .lines) (s .line) (drop next l) x (s .here) (s .plain) (s .short) (s .reads) (s .fits));
+        lines = rw e (sampled-more (g .lines) (s .line) (drop next l) x (s .here) (s .plain) (s .short) (s .reads));
       }
 
 -- the loop that writes: what is done and what is left

@@ -28,16 +28,26 @@ use Rattle.cic64.specs.Word.{wordOps}
 use Rattle.cic64.specs.Reading.{stateOf, countedOf, cicOf}
 use Rattle.blocks.specs.Verdicts.{verdictOf}
 use Rattle.text.specs.Same.{same}
-use Rattle.records.specs.Lines.{nameOf, naturalOf, withNatural, fieldAt, wantedOf, namedRecord, shapedOf, fieldsRecord, recordOf}
-use Rattle.records.specs.Sessions.{within, keptWords, refuse, toldBy, ordered, sampled, takeOf, lineOf}
+use Rattle.records.specs.Lines.{
+  nameOf,
+  isKnown,
+  kindsOf,
+  wantedOf,
+  faultAt,
+  fieldsFault,
+  namedRecord,
+  heldRecord,
+  shapedOf,
+  fieldsRecord,
+  recordOf,
+}
+use Rattle.records.specs.Sessions.{keptWords, refuse, toldBy, ordered, sampled, takeOf, lineOf}
 use Rattle.playback.specs.Places.{endTaken}
 use Rattle.playback.specs.Inner.Advances.{lineRoom}
 use Rattle.records.specs.declared.parse.Name.{Name}
 use Rattle.records.specs.declared.parse.Name.the-variants as Name
-use Rattle.records.specs.declared.parse.Natural.{Natural}
-use Rattle.records.specs.declared.parse.Natural.the-variants as Natural
 use Rattle.records.specs.declared.parse.Record.{Record}
-use Rattle.records.specs.declared.parse.Record.the-variants.{Open, Rate, Sample, Clear, Malformed}
+use Rattle.records.specs.declared.parse.Record.the-variants.{Open, Rate, Sample, Clear, Bad}
 use Rattle.records.specs.declared.session.Session.{Session}
 use Rattle.records.specs.declared.session.Taken.{Taken}
 use Rattle.records.specs.declared.session.Reply.{Reply}
@@ -48,7 +58,7 @@ isSample (Sample v) = true
 isSample (Open wide n m rate) = false
 isSample (Rate rate) = false
 isSample Clear = false
-isSample Malformed = false
+isSample (Bad f) = false
 
 -- only a sample gives an output
 told-none : (s : Session) (wide : Bool) (f : Cic) (v : Verdict) → lineRoom (toldBy s wide f v .reply) ≡ 0
@@ -76,7 +86,7 @@ take-none s Clear e =
     let f = countedOf (s .filter) in
     either (s .opened) (ordered s (s .wide) (refusal (f .state)) (clearCounted wordOps f)) (refuse s 71)
     (ordered-none s (s .wide) (refusal (f .state)) (clearCounted wordOps f)) refl
-take-none s Malformed e = refl
+take-none s (Bad f) e = refl
 
 -- and its line has at most 26 bytes
 sampled-most : (s : Session) (k : ℕ) (t : Counted ℤ) (g : Option (Numbered ℤ)) → ((y : Numbered ℤ) → g ≡ some y → y .told ≤ 64)
@@ -115,75 +125,68 @@ take-most s (Rate rate) = omega (arith, take-none s (Rate rate) refl)
 take-most s (Sample v) =
     let f = countedOf (s .filter) in
     let step = sampled s (takeNumber f 1) (takeState wordOps f v) (takeGiven wordOps f v) in
-    either-most (within (s .wide) v) (cond (s .opened) step (refuse s 71)) (refuse s 70)
-    (either-most (s .opened) step (refuse s 71)
-    (sampled-most s (takeNumber f 1) (takeState wordOps f v) (takeGiven wordOps f v) (taken-most f v)) (omega arith))
-    (omega arith)
+    either-most (s .opened) step (refuse s 71)
+    (sampled-most s (takeNumber f 1) (takeState wordOps f v) (takeGiven wordOps f v) (taken-most f v)) (omega arith)
 take-most s Clear = omega (arith, take-none s Clear refl)
-take-most s Malformed = omega arith
+take-most s (Bad f) = omega arith
 
 -- which line is a sample
-open-none : (wide : Bool) (a b c : Natural)
-    → isSample (withNatural a (λ n. withNatural b (λ m. withNatural c (λ rate. Open wide n m rate)))) ≡ false
-open-none wide (Natural.Within n) (Natural.Within m) (Natural.Within r) = refl
-open-none wide (Natural.Within n) (Natural.Within m) Natural.Outside = refl
-open-none wide (Natural.Within n) Natural.Outside c = refl
-open-none wide Natural.Outside b c = refl
-
-rate-none : (a : Natural) → isSample (withNatural a (λ rate. Rate rate)) ≡ false
-rate-none (Natural.Within n) = refl
-rate-none Natural.Outside = refl
-
-tested : (b : Bool) (r : Record) → isSample r ≡ false → isSample (cond b r Malformed) ≡ false
-tested true r h = h
-tested false r h = refl
+tested : (b : Bool) (r q : Record) → isSample r ≡ false → isSample q ≡ false → isSample (cond b r q) ≡ false
+tested true r q h k = h
+tested false r q h k = k
 
 never : {A : Type 0} → true ≡ false → A
 never e = let z : _≡_ {A = ℕ} 0 1 = cc in absurd (omega arith)
 
-x-field : (name : List ℕ) (fs : List (List ℕ)) → nameOf name ≡ Name.X → isSample (shapedOf Name.X fs) ≡ true → 4 ≤ total tab (name ∷ fs)
-unfolding total nameOf same numberOf
-x-field [] fs n e = let z : _≡_ {A = Name} Name.Unknown Name.X = n in let k : _≡_ {A = ℕ} 0 1 = cc in absurd (omega arith)
-x-field (a ∷ name) [] n e = never (sym e)
-x-field (a ∷ name) ([] ∷ []) n e = never (sym e)
-x-field (a ∷ name) ((b ∷ f) ∷ []) n e = omega arith
-x-field (a ∷ name) (f ∷ g ∷ gs) n e =
-    let m : isSample (shapedOf Name.X (f ∷ g ∷ gs)) ≡ false = rw (ne-eqb (length (f ∷ g ∷ gs)) 1 (λ z. omega arith)) in
-    never (sym e ∙ m)
+module _ (wide : Bool) where
+  x-field : (name : List ℕ) (fs : List (List ℕ)) → nameOf name ≡ Name.X → isSample (shapedOf wide Name.X fs) ≡ true
+      → 4 ≤ total tab (name ∷ fs)
+  unfolding total nameOf same numberOf
+  x-field [] fs n e = let z : _≡_ {A = Name} Name.Unknown Name.X = n in let k : _≡_ {A = ℕ} 0 1 = cc in absurd (omega arith)
+  x-field (a ∷ name) [] n e = never (sym e)
+  x-field (a ∷ name) ([] ∷ []) n e = never (sym e)
+  x-field (a ∷ name) ((b ∷ f) ∷ []) n e = omega arith
+  x-field (a ∷ name) (f ∷ g ∷ gs) n e =
+      let m : isSample (shapedOf wide Name.X (f ∷ g ∷ gs)) ≡ false = rw (ne-eqb (length (f ∷ g ∷ gs)) 1 (λ z. omega arith)) in
+      never (sym e ∙ m)
 
-other-name : (k : Name) (fs : List (List ℕ)) → isSample (namedRecord k fs) ≡ false → isSample (shapedOf k fs) ≡ false
-other-name k fs h = tested (eqb (length fs) (wantedOf k)) (namedRecord k fs) h
+  other-name : (k : Name) (fs : List (List ℕ)) → isSample (namedRecord k fs) ≡ false → isSample (shapedOf wide k fs) ≡ false
+  other-name k fs h =
+      let fault = fieldsFault wide 2 (kindsOf k) fs in
+      let some = eqb (length fs) (wantedOf k) in
+      tested (isKnown k) (cond some (heldRecord wide k fs) (Bad (faultAt 74 0))) (Bad (faultAt 73 0))
+      (tested some (heldRecord wide k fs) (Bad (faultAt 74 0))
+      (tested (eqb (fault .number) 0) (namedRecord k fs) (Bad fault) h refl) refl) refl
 
-shaped-long : (k : Name) (name : List ℕ) (fs : List (List ℕ)) → nameOf name ≡ k → isSample (shapedOf k fs) ≡ true
-    → 4 ≤ total tab (name ∷ fs)
-shaped-long Name.Cic name fs n e = never (sym e ∙ other-name Name.Cic fs
-    (open-none false (naturalOf (fieldAt fs 0)) (naturalOf (fieldAt fs 1)) (naturalOf (fieldAt fs 2))))
-shaped-long Name.Cic64 name fs n e = never (sym e ∙ other-name Name.Cic64 fs
-    (open-none true (naturalOf (fieldAt fs 0)) (naturalOf (fieldAt fs 1)) (naturalOf (fieldAt fs 2))))
-shaped-long Name.Rate name fs n e = never (sym e ∙ other-name Name.Rate fs (rate-none (naturalOf (fieldAt fs 0))))
-shaped-long Name.X name fs n e = x-field name fs n e
-shaped-long Name.Clear name fs n e = never (sym e ∙ other-name Name.Clear fs refl)
-shaped-long Name.Unknown name fs n e = never (sym e ∙ other-name Name.Unknown fs refl)
+  shaped-long : (k : Name) (name : List ℕ) (fs : List (List ℕ)) → nameOf name ≡ k → isSample (shapedOf wide k fs) ≡ true
+      → 4 ≤ total tab (name ∷ fs)
+  shaped-long Name.Cic name fs n e = never (sym e ∙ other-name Name.Cic fs refl)
+  shaped-long Name.Cic64 name fs n e = never (sym e ∙ other-name Name.Cic64 fs refl)
+  shaped-long Name.Rate name fs n e = never (sym e ∙ other-name Name.Rate fs refl)
+  shaped-long Name.X name fs n e = x-field name fs n e
+  shaped-long Name.Clear name fs n e = never (sym e ∙ other-name Name.Clear fs refl)
+  shaped-long Name.Unknown name fs n e = never (sym e ∙ other-name Name.Unknown fs refl)
 
-fields-long : (ps : List (List ℕ)) → isSample (fieldsRecord ps) ≡ true → 4 ≤ total tab ps
-fields-long [] e = never (sym e)
-fields-long (name ∷ fs) e = shaped-long (nameOf name) name fs refl e
+  fields-long : (ps : List (List ℕ)) → isSample (fieldsRecord wide ps) ≡ true → 4 ≤ total tab ps
+  fields-long [] e = never (sym e)
+  fields-long (name ∷ fs) e = shaped-long (nameOf name) name fs refl e
 
-sample-long : (l : List ℕ) → isSample (recordOf l) ≡ true → 3 ≤ length l
-unfolding recordOf
-sample-long l e = omega (arith, fields-long (parted tab l) e, parted-total tab l)
+  sample-long : (l : List ℕ) → isSample (recordOf wide l) ≡ true → 3 ≤ length l
+  unfolding recordOf
+  sample-long l e = omega (arith, fields-long (parted tab l) e, parted-total tab l)
 
 line-given : (s : Session) (l : List ℕ) → lineRoom (lineOf keptWords s l .reply) ≤ 7 * (length l + 1)
 unfolding lineOf
 line-given s l = by (ltb 64 (length l))
   where
-    record-given : (b : Bool) → isSample (recordOf l) ≡ b → lineRoom (takeOf keptWords s (recordOf l) .reply) ≤ 7 * (length l + 1)
-    record-given true e = omega (arith, sample-long l e, take-most s (recordOf l))
-    record-given false e = omega (arith, take-none s (recordOf l) e)
+    record-given : (b : Bool) → isSample (recordOf (s .wide) l) ≡ b
+        → lineRoom (takeOf keptWords s (recordOf (s .wide) l) .reply) ≤ 7 * (length l + 1)
+    record-given true e = omega (arith, sample-long (s .wide) l e, take-most s (recordOf (s .wide) l))
+    record-given false e = omega (arith, take-none s (recordOf (s .wide) l) e)
 
-    by : (t : Bool) → lineRoom (cond t (refuse s 72) (takeOf keptWords s (recordOf l)) .reply) ≤ 7 * (length l + 1)
+    by : (t : Bool) → lineRoom (cond t (refuse s 72) (takeOf keptWords s (recordOf (s .wide) l)) .reply) ≤ 7 * (length l + 1)
     by true = omega arith
-    by false = record-given (isSample (recordOf l)) refl
+    by false = record-given (isSample (recordOf (s .wide) l)) refl
 
 pub end-given : (s : Session) (l : List ℕ) (b : ℕ) → lineRoom (endTaken s l b .reply) ≤ 7 * (length l + 1)
 end-given s l b = by (eqb b newline)

@@ -17,7 +17,7 @@ answered-same : (r : Reply) (line outputs : ℕ) (a b : ℕ → List ℕ) → ((
     → answered r line outputs a ≡ answered r line outputs b
 answered-same Reply.Silent line outputs a b h = h outputs
 answered-same (Reply.Output y) line outputs a b h = ap (λ (l : List ℕ). outputLine (y .value) (y .told) ++ l) (h (suc outputs))
-answered-same (Reply.Bad number) line outputs a b h = refl
+answered-same (Reply.Bad f) line outputs a b h = refl
 
 -- a line's answer, and what follows it
 abbrev on : Taken → ℕ → ℕ → List (List ℕ) → List ℕ

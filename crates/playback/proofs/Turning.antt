@@ -319,22 +319,22 @@ module _ (r : Replay) where
   pub finish-end : r .going ≡ true → r .len ≡ 0 → endLine (r .outputs) ≡ finishBytes (placeOf r)
   unfolding finishBytes
   finish-end g e = inner ∙ chosen (r .going) (cond (eqb (length (take (r .len) (r .line))) 0) (endLine (r .outputs))
-      (badLine (countedUp (r .lines) 1) 70)) [] true g
+      (badLine (countedUp (r .lines) 1) 77 0)) [] true g
     where
       inner : endLine (r .outputs) ≡ cond (eqb (length (take (r .len) (r .line))) 0) (endLine (r .outputs))
-          (badLine (countedUp (r .lines) 1) 70)
-      inner = chosen (eqb (length (take (r .len) (r .line))) 0) (endLine (r .outputs)) (badLine (countedUp (r .lines) 1) 70) true
+          (badLine (countedUp (r .lines) 1) 77 0)
+      inner = chosen (eqb (length (take (r .len) (r .line))) 0) (endLine (r .outputs)) (badLine (countedUp (r .lines) 1) 77 0) true
           (ap (λ (n : ℕ). eqb (length (take n (r .line))) 0) e)
 
-  pub finish-bad : (n : ℕ) → r .going ≡ true → length (r .line) ≡ 64 → (r .len ≡ 0 → ⊥) → n ≡ countedUp (r .lines) 1 → badLine n 70
+  pub finish-bad : (n : ℕ) → r .going ≡ true → length (r .line) ≡ 64 → (r .len ≡ 0 → ⊥) → n ≡ countedUp (r .lines) 1 → badLine n 77 0
       ≡ finishBytes (placeOf r)
   unfolding finishBytes
   finish-bad n g w e l =
-      ap (λ (k : ℕ). badLine k 70) l
-      ∙ chosen (eqb (length (take (r .len) (r .line))) 0) (endLine (r .outputs)) (badLine (countedUp (r .lines) 1) 70) false
+      ap (λ (k : ℕ). badLine k 77 0) l
+      ∙ chosen (eqb (length (take (r .len) (r .line))) 0) (endLine (r .outputs)) (badLine (countedUp (r .lines) 1) 77 0) false
       (ne-eqb _ _ (λ z. e (empty z)))
       ∙ chosen (r .going) (cond (eqb (length (take (r .len) (r .line))) 0) (endLine (r .outputs))
-      (badLine (countedUp (r .lines) 1) 70)) [] true g
+      (badLine (countedUp (r .lines) 1) 77 0)) [] true g
     where
       empty : length (take (r .len) (r .line)) ≡ 0 → r .len ≡ 0
       empty z = omega (arith, length-take (r .len) (r .line))

@@ -65,8 +65,8 @@ closes : (s : Session) (n k : ℕ) (l : List ℕ) → length l ≤ 64 → n + le
 unfolding finishBytes
 closes s n k l h c = by (eqb (length l) 0) refl
   where
-    by : (t : Bool) → eqb (length l) 0 ≡ t → cond t (endLine k) (badLine (countedUp n 1) 70)
-        ≡ cond t (endLine k) (badLine (suc n) (cond (ltb 64 (length l)) 72 70))
+    by : (t : Bool) → eqb (length l) 0 ≡ t → cond t (endLine k) (badLine (countedUp n 1) 77 0)
+        ≡ cond t (endLine k) (badLine (suc n) (cond (ltb 64 (length l)) 72 77) 0)
     by true e = refl
     by false e =
         let z = eqb-false (length l) 0 e in
@@ -79,7 +79,7 @@ unfolding finishBytes
 stopped p bs h = rw (stopped-bytes p h bs, stopped-place p h bs) (last (p .going) h)
   where
     last : (g : Bool) → g ≡ false → cond g (cond (eqb (length (p .line)) 0) (endLine (p .outputs))
-        (badLine (countedUp (p .lines) 1) 70)) [] ≡ []
+        (badLine (countedUp (p .lines) 1) 77 0)) [] ≡ []
     last g e = rw e
 
 wholly-step : (p : Place) (b : ℕ) (bs : List ℕ) → wholly p (b ∷ bs) ≡ stepBytes p b ++ wholly (stepPlace p b) bs
@@ -108,13 +108,14 @@ module _ (s : Session) (n k : ℕ) (l : List ℕ) (bs : List ℕ) (room : suc n 
       by Reply.Silent = rw (lines, same-k) (on k (omega arith))
       by (Reply.Output y) = rw (lines, more-k) (ap (λ (x : List ℕ). replyBytes (suc n) (Reply.Output y) ++ x)
           (on (suc k) (omega arith)))
-      by (Reply.Bad number) =
-          ap (λ (x : List ℕ). badLine (countedUp n 1) number ++ x) (stopped _ bs refl) ∙ append-nil (badLine (countedUp n 1) number)
-          ∙ ap (λ (j : ℕ). badLine j number) lines
+      by (Reply.Bad f) =
+          ap (λ (x : List ℕ). badLine (countedUp n 1) (f .number) (f .place) ++ x) (stopped _ bs refl)
+          ∙ append-nil (badLine (countedUp n 1) (f .number) (f .place))
+          ∙ ap (λ (j : ℕ). badLine j (f .number) (f .place)) lines
 
 -- a line over 64 bytes
 long-line : (s : Session) (n k : ℕ) (line : List ℕ) (ps : List (List ℕ)) → 64 < length line → replayFrom keptWords s n k (line ∷ ps)
-    ≡ badLine (suc n) 72
+    ≡ badLine (suc n) 72 0
 unfolding replayFrom lineOf
 long-line s n k line [] h = rw (ne-eqb (length line) 0 (λ z. omega arith), lt-ltb 64 (length line) h)
 long-line s n k line (p ∷ ps) h = rw (lt-ltb 64 (length line) h)
@@ -167,11 +168,11 @@ module _ (b : ℕ) (bs : List ℕ) (s : Session) (n k : ℕ) (l : List ℕ) (h :
   at-65th e g =
       let m : countedUp n 1 ≡ suc n = omega arith in
       line-ended (rw (e, le-ltb (length l) 64 g)) (refuse s 72) (rw e)
-      ∙ ap (λ (x : List ℕ). badLine (countedUp n 1) 72 ++ x) (stopped (ended (at s n k l) (refuse s 72)) bs refl)
-      ∙ append-nil (badLine (countedUp n 1) 72) ∙ ap (λ (j : ℕ). badLine j 72) m
+      ∙ ap (λ (x : List ℕ). badLine (countedUp n 1) 72 0 ++ x) (stopped (ended (at s n k l) (refuse s 72)) bs refl)
+      ∙ append-nil (badLine (countedUp n 1) 72 0) ∙ ap (λ (j : ℕ). badLine j 72 0) m
       ∙ sym (long (parted newline bs))
     where
-      long : (ps : List (List ℕ)) → replayFrom keptWords s n k (prefixed l (onto b ps)) ≡ badLine (suc n) 72
+      long : (ps : List (List ℕ)) → replayFrom keptWords s n k (prefixed l (onto b ps)) ≡ badLine (suc n) 72 0
       long [] = long-line s n k (l ++ (b ∷ [])) [] (omega (arith, length-append l (b ∷ [])))
       long (p ∷ ps) = long-line s n k (l ++ (b ∷ p)) ps (omega (arith, length-append l (b ∷ p)))
 

@@ -34,17 +34,17 @@ countedUp n by = min (n + by) 18446744073709551615
 abbrev pub replyBytes : ℕ → Reply → List ℕ
 replyBytes line Reply.Silent = []
 replyBytes line (Reply.Output y) = outputLine (y .value) (y .told)
-replyBytes line (Reply.Bad number) = badLine line number
+replyBytes line (Reply.Bad f) = badLine line (f .number) (f .place)
 
 abbrev pub givenBy : Reply → ℕ
 givenBy Reply.Silent = 0
 givenBy (Reply.Output y) = 1
-givenBy (Reply.Bad number) = 0
+givenBy (Reply.Bad f) = 0
 
 abbrev pub goesOn : Reply → Bool
 goesOn Reply.Silent = true
 goesOn (Reply.Output y) = true
-goesOn (Reply.Bad number) = false
+goesOn (Reply.Bad f) = false
 
 -- A newline ends the line. Any other byte makes it longer, but where it has 64 bytes already: a line over 64 bytes is refused at its 65th.
 abbrev pub lineEnds : List ℕ → ℕ → Bool
@@ -84,7 +84,7 @@ bytesOf p (b ∷ bs) = stepBytes p b ++ bytesOf (stepPlace p b) bs
 
 -- the end of the input
 unfoldable pub finishBytes : Place → List ℕ
-finishBytes p = cond (p .going) (cond (eqb (length (p .line)) 0) (endLine (p .outputs)) (badLine (countedUp (p .lines) 1) 70)) []
+finishBytes p = cond (p .going) (cond (eqb (length (p .line)) 0) (endLine (p .outputs)) (badLine (countedUp (p .lines) 1) 77 0)) []
 
 -- before the first byte
 abbrev pub start : Place
@@ -106,7 +106,7 @@ replayOf p = record {
 
 -- 20: the output slice is shorter than an answer may need, 44 bytes, or than a part may. A line gives at most 7 bytes out for
 -- each of its own (`x`, a tab, a digit and the newline: 26 bytes, since no output tells more than 64), of which 64 may have come before
--- the part, and a refusal at most 36.
+-- the part, and a refusal at most 40.
 abbrev pub answerNumber : List ℕ → ℕ
 answerNumber out = cond (ltb (length out) 44) 20 0
 

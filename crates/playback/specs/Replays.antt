@@ -30,20 +30,20 @@ outputLine value told = bytes "y\t" ++ (signedOf value ++ lastField told)
 unfoldable pub endLine : ℕ → List ℕ
 endLine outputs = bytes "end\t" ++ (decimalOf outputs ++ (newline ∷ []))
 
--- At a refusal: `bad`, line number from 1, refusal number,
-unfoldable pub badLine : ℕ → ℕ → List ℕ
-badLine line number = bytes "bad\t" ++ (decimalOf line ++ lastField number)
+-- At a refusal: `bad`, line number from 1, refusal number, and (02, A2) the bad field's place in the line, 0 where no field is meant,
+unfoldable pub badLine : ℕ → ℕ → ℕ → List ℕ
+badLine line number place = bytes "bad\t" ++ (decimalOf line ++ (tab ∷ (decimalOf number ++ lastField place)))
 
 -- and it stops without `end`. Else the rest follows, told how many outputs there were.
 abbrev pub answered : Reply → ℕ → ℕ → (ℕ → List ℕ) → List ℕ
 answered Reply.Silent line outputs rest = rest outputs
 answered (Reply.Output y) line outputs rest = outputLine (y .value) (y .told) ++ rest (suc outputs)
-answered (Reply.Bad number) line outputs rest = badLine line number
+answered (Reply.Bad f) line outputs rest = badLine line (f .number) (f .place)
 
 -- Each line is ended by a newline: what follows the last one is an unterminated line, unless it is empty.
--- That is 72 over 64 bytes, else 70.
+-- That is 72 over 64 bytes, else 77.
 abbrev pub closing : ℕ → ℕ → List ℕ → List ℕ
-closing lines outputs last = cond (eqb (length last) 0) (endLine outputs) (badLine (suc lines) (cond (ltb 64 (length last)) 72 70))
+closing lines outputs last = cond (eqb (length last) 0) (endLine outputs) (badLine (suc lines) (cond (ltb 64 (length last)) 72 77) 0)
 
 -- what comes after so many lines and outputs
 unfoldable pub replayFrom : (Bool → Ops ℤ) → Session → ℕ → ℕ → List (List ℕ) → List ℕ

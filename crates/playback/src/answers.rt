@@ -55,14 +55,16 @@ pub(crate) fn put_settled(out: &mut [u8], at: usize, value: i64) -> usize
     put_bytes(out, b, b"\t0\n")
 }
 
-// `bad`, line number from 1, refusal number.
-pub(crate) fn put_bad(out: &mut [u8], at: usize, line: u64, number: u32) -> usize
-    requires { ⌜ at + 36 ≤ length (now out) ⌝ }
-    ensures { λ r. ⌜ Wrote (now (out .entry)) at (badLine line number) r (now (out .exit)) × (r ≤ at + 36) ⌝ }
+// `bad`, line number from 1, refusal number, the bad field's place or 0.
+pub(crate) fn put_bad(out: &mut [u8], at: usize, line: u64, number: u32, place: u8) -> usize
+    requires { ⌜ at + 40 ≤ length (now out) ⌝ }
+    ensures { λ r. ⌜ Wrote (now (out .entry)) at (badLine line number place) r (now (out .exit)) × (r ≤ at + 40) ⌝ }
 {
     let a = put_bytes(out, at, b"bad\t");
     let b = put_decimal(out, a, line);
-    put_last(out, b, number as u64)
+    let c = put_byte(out, b, b'\t');
+    let d = put_decimal(out, c, number as u64);
+    put_last(out, d, place as u64)
 }
 
 // `end` and the count of outputs.
@@ -84,7 +86,7 @@ pub(crate) fn put_reply(out: &mut [u8], at: usize, line: u64, reply: Reply) -> u
     match reply {
         Reply::Silent => at,
         Reply::Output(y) => put_output(out, at, y.value, y.told),
-        Reply::Bad(number) => put_bad(out, at, line, number),
+        Reply::Bad(fault) => put_bad(out, at, line, fault.number, fault.place),
     }
 }
 

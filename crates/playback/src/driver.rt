@@ -60,7 +60,7 @@ fn short_of(len: usize, n: usize) -> bool
 
 // What the end of the input gives out.
 fn put_finish(r: Replay, out: &mut [u8], at: usize) -> usize
-    requires { ⌜ (r .going ≡ true → at + 36 ≤ length (now out)) ⌝ }
+    requires { ⌜ (r .going ≡ true → at + 40 ≤ length (now out)) ⌝ }
     ensures { λ n. ⌜ Wrote (now (out .entry)) at (finishBytes (placeOf r)) n (now (out .exit)) ⌝ }
 {
     let going = r.going;
@@ -70,7 +70,7 @@ fn put_finish(r: Replay, out: &mut [u8], at: usize) -> usize
     if r.len == 0 {
         return put_end(out, at, r.outputs);
     }
-    put_bad(out, at, count_up(r.lines, 1), 70)
+    put_bad(out, at, count_up(r.lines, 1), 77, 0)
 }
 
 impl Replay {

@@ -1,9 +1,7 @@
 // Runs of `x` lines: their samples gathered for one block of the filter, and the block's outputs written.
 use crate::answers::put_output;
 use crate::answers::put_settled;
-use records::parse::Integer;
 use records::parse::integer_of;
-use records::session::fits_in;
 use records::session::read_in;
 use text::numbers::parsed;
 use text::parts::part_end;
@@ -47,14 +45,11 @@ fn sample_at(wide: bool, input: &[u8], at: usize) -> Found
     if 62 < end - from {
         return Found::Other;
     }
-    let v = integer_of(parsed(&input[from..end]));
-    let Integer::Within(x) = v else {
-        return Found::Other;
-    };
-    if !fits_in(wide, x) {
+    let v = integer_of(wide, parsed(&input[from..end]));
+    if v.number != 0 {
         return Found::Other;
     }
-    Found::Sample(x, end + 1)
+    Found::Sample(v.value, end + 1)
 }
 
 // Whole lines that are samples within the word, from a line's start on, as many as there are or as samples has room for.

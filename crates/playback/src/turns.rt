@@ -4,6 +4,7 @@ use crate::driver::Replay;
 use crate::samples::gather;
 use crate::samples::put_outputs;
 use cic64::state::Cic;
+use records::parse::Fault;
 use records::session::Reply;
 use records::session::Session;
 use records::session::Taken;
@@ -99,7 +100,10 @@ fn end_line(s: Session, line: &[u8], b: u8) -> Taken
     }
     Taken {
         session: s,
-        reply: Reply::Bad(72),
+        reply: Reply::Bad(Fault {
+            number: 72,
+            place: 0,
+        }),
     }
 }
 

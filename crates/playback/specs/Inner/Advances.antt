@@ -11,7 +11,7 @@ use Rattle.text.specs.Parts.{count}
 use Rattle.text.specs.Writing.{Wrote}
 use Rattle.words.specs.Words.{wrap}
 use Rattle.records.specs.Lines.{recordOf}
-use Rattle.records.specs.Sessions.{widthOf, within}
+use Rattle.records.specs.Sessions.{widthOf}
 use Rattle.playback.specs.Replays.{outputLine}
 use Rattle.playback.specs.Places.{Place, countedUp, replyBytes, goesOn, lineEnds, ended, fedOf, bytesOf, placeOf}
 use Rattle.records.specs.declared.parse.Record.the-variants.{Sample}
@@ -29,8 +29,7 @@ pub record SampleLine (wide : Bool) (l : List ℕ) (at : ℕ) (x : ℤ) (next : 
   pub here : drop at l ≡ line ++ (newline ∷ drop next l)
   pub plain : count newline line ≡ 0
   pub short : length line ≤ 64
-  pub reads : recordOf line ≡ Sample x
-  pub fits : within wide x ≡ true
+  pub reads : recordOf wide line ≡ Sample x
   pub far : at + 4 ≤ next
   pub inside : next ≤ length l
 
@@ -42,7 +41,7 @@ finds wide l at Found.Other = Unit
 pub data Sampled : Bool → List ℕ → List ℤ → List ℕ → Type 0 where
   none : {wide : Bool} {bs : List ℕ} → Sampled wide bs [] bs
   more : (line : List ℕ) {bs rest : List ℕ} {wide : Bool} {x : ℤ} {xs : List ℤ} → count newline line ≡ 0 → length line ≤ 64
-      → recordOf line ≡ Sample x → within wide x ≡ true → Sampled wide bs xs rest → Sampled wide (line ++ (newline ∷ bs)) (x ∷ xs) rest
+      → recordOf wide line ≡ Sample x → Sampled wide bs xs rest → Sampled wide (line ++ (newline ∷ bs)) (x ∷ xs) rest
 
 -- The lines of l from one place to the next are the first n samples.
 pub record Gathers (wide : Bool) (l : List ℕ) (from : ℕ) (samples : List ℤ) (n next : ℕ) : Type 0 where
@@ -60,7 +59,7 @@ outputLines wide told (y ∷ ys) = outputLine (wrap (widthOf wide) y) told ++ ou
 abbrev pub lineRoom : Reply → ℕ
 lineRoom Reply.Silent = 0
 lineRoom (Reply.Output y) = 24 + length (decimalOf (y .told))
-lineRoom (Reply.Bad number) = 0
+lineRoom (Reply.Bad f) = 0
 
 -- a place after a block of `x` lines: its filter, and so many lines and outputs more
 abbrev pub afterBlock : Place → Bool → Cic → ℕ → ℕ → Place
