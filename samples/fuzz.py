@@ -119,7 +119,7 @@ def live(program):
     run.stdin.write(b"\t6\n")
     assert run.stdout.readline() == b"y\t6\t0\n"
     run.stdin.write(b"a" * 65)
-    assert run.stdout.readline() == b"bad\t4\t72\n" and run.wait() == 0
+    assert run.stdout.readline() == b"bad\t4\t72\t0\n" and run.wait() == 0
     run.stdin.close()
     run.stdout.close()
 

@@ -11,7 +11,10 @@ def signed(n, word):
 
 
 class Refused(Exception):
-    pass
+    """A number, and the bad field's place in the line, or 0."""
+
+    def __init__(self, number, place=0):
+        self.number, self.place = number, place
 
 
 class Cic:
@@ -53,31 +56,28 @@ class Cic:
         return x, told
 
 
-def number(field, low, high):
-    """Decimal, no plus, no leading zero, no -0, within low..high; else 70."""
+def number(field, place, low, high):
+    """Decimal, no plus, no leading zero, no -0, else 75; within low..high, else 76."""
     digits = field[1:] if field[:1] == b"-" else field
     if not digits or any(b not in b"0123456789" for b in digits):
-        raise Refused(70)
+        raise Refused(75, place)
     if digits[:1] == b"0" and (len(digits) > 1 or field != digits):
-        raise Refused(70)
+        raise Refused(75, place)
     if not low <= int(field) <= high:
-        raise Refused(70)
+        raise Refused(76, place)
     return int(field)
 
 
-def natural(field):
-    return number(field, 0, (1 << 32) - 1)
-
-
 def record(line, word):
-    """A line's name and numbers; 70 where it is none. v lies within the word."""
+    """A line's name and numbers: 73 unknown record, 74 wrong number of fields, then the fields from left to right. v lies within the word."""
+    natural, sample = (0, (1 << 32) - 1), (-(word // 2), word // 2 - 1)
+    kinds = {b"cic": [natural] * 3, b"cic64": [natural] * 3, b"rate": [natural], b"x": [sample], b"clear": []}
     name, *fields = line.split(b"\t")
-    wanted = {b"cic": 3, b"cic64": 3, b"rate": 1, b"x": 1, b"clear": 0}
-    if name not in wanted or len(fields) != wanted[name]:
-        raise Refused(70)
-    if name == b"x":
-        return name, [number(fields[0], -(word // 2), word // 2 - 1)]
-    return name, [natural(f) for f in fields]
+    if name not in kinds:
+        raise Refused(73)
+    if len(fields) != len(kinds[name]):
+        raise Refused(74)
+    return name, [number(field, place, *kind) for place, (field, kind) in enumerate(zip(fields, kinds[name]), 2)]
 
 
 def taken(cic, line, out):
@@ -110,9 +110,9 @@ def replay(data):
             cic = taken(cic, line, out)
         if last:
             number_of += 1
-            raise Refused(72 if len(last) > 64 else 70)
+            raise Refused(72 if len(last) > 64 else 77)
     except Refused as refusal:
-        out.append(b"bad\t%d\t%d\n" % (number_of, refusal.args[0]))
+        out.append(b"bad\t%d\t%d\t%d\n" % (number_of, refusal.number, refusal.place))
     else:
         out.append(b"end\t%d\n" % len(out))
     return b"".join(out)

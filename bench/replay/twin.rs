@@ -113,19 +113,47 @@ fn digits(field: &[u8]) -> Option<u64> {
     Some(v)
 }
 
-fn natural(field: &[u8]) -> Option<u32> {
-    u32::try_from(digits(field)?).ok()
+// What is wrong: a number, and the bad field's place in the line, or 0.
+struct Bad {
+    number: u32,
+    place: u8,
 }
 
-fn integer(field: &[u8]) -> Option<i64> {
-    if field.first() == Some(&b'-') {
-        let v = digits(&field[1..])?;
-        if v == 0 || v > 9223372036854775808 {
-            return None;
-        }
-        return Some(v.wrapping_neg() as i64);
+impl From<u32> for Bad {
+    fn from(number: u32) -> Bad {
+        Bad { number, place: 0 }
     }
-    i64::try_from(digits(field)?).ok()
+}
+
+// A field at its place: 75 where it is no well-formed number, 76 where that is out of its range.
+fn natural(field: &[u8], place: u8) -> Result<u32, Bad> {
+    let (minus, v) = number(field, place)?;
+    match u32::try_from(v) {
+        Ok(v) if !minus => Ok(v),
+        _ => Err(Bad { number: 76, place }),
+    }
+}
+
+fn integer(field: &[u8], place: u8) -> Result<i64, Bad> {
+    let (minus, v) = number(field, place)?;
+    if minus && v <= 9223372036854775808 {
+        return Ok(v.wrapping_neg() as i64);
+    }
+    match i64::try_from(v) {
+        Ok(v) if !minus => Ok(v),
+        _ => Err(Bad { number: 76, place }),
+    }
+}
+
+fn number(field: &[u8], place: u8) -> Result<(bool, u64), Bad> {
+    let wrong = Bad { number: 75, place };
+    if field.first() == Some(&b'-') {
+        return match digits(&field[1..]) {
+            None | Some(0) => Err(wrong),
+            Some(v) => Ok((true, v)),
+        };
+    }
+    digits(field).map(|v| (false, v)).ok_or(wrong)
 }
 
 fn put_decimal(out: &mut Vec<u8>, n: u64) {
@@ -182,14 +210,15 @@ impl Filter {
         Ok(())
     }
 
-    fn decimate(&mut self, v: i64) -> Result<Option<(i64, usize)>, u32> {
+    fn decimate(&mut self, v: i64) -> Result<Option<(i64, usize)>, Bad> {
+        let outside = |_| Bad { number: 76, place: 2 };
         match self {
             Filter::Unopened => {
-                i32::try_from(v).map_err(|_| 70u32)?;
-                Err(71)
+                i32::try_from(v).map_err(outside)?;
+                Err(Bad::from(71))
             }
             Filter::Narrow(f) => {
-                let x = i32::try_from(v).map_err(|_| 70u32)?;
+                let x = i32::try_from(v).map_err(outside)?;
                 Ok(f.decimate(x).map(|(y, told)| (y as i64, told)))
             }
             Filter::Wide(f) => Ok(f.decimate(v)),
@@ -203,51 +232,55 @@ struct Replay {
 }
 
 impl Replay {
-    fn line(&mut self, line: &[u8], out: &mut Vec<u8>) -> Result<(), u32> {
+    fn line(&mut self, line: &[u8], out: &mut Vec<u8>) -> Result<(), Bad> {
         if line.len() > 64 {
-            return Err(72);
+            return Err(Bad::from(72));
         }
         let mut fields = line.split(|&b| b == b'\t');
         let name = fields.next().unwrap_or(b"");
         match name {
             b"x" => {
-                let (Some(v), None) = (fields.next(), fields.next()) else { return Err(70) };
-                let v = integer(v).ok_or(70u32)?;
+                let (Some(v), None) = (fields.next(), fields.next()) else { return Err(Bad::from(74)) };
+                let v = integer(v, 2)?;
                 if let Some((value, told)) = self.filter.decimate(v)? {
                     self.outputs += 1;
                     put_output(out, value, told);
                 }
             }
             b"rate" => {
-                let (Some(r), None) = (fields.next(), fields.next()) else { return Err(70) };
-                let r = natural(r).ok_or(70u32)?;
+                let (Some(r), None) = (fields.next(), fields.next()) else { return Err(Bad::from(74)) };
+                let r = natural(r, 2)?;
                 self.filter.set_rate(r)?;
             }
             b"cic" | b"cic64" => {
-                let (Some(n), Some(m), Some(r), None) = (fields.next(), fields.next(), fields.next(), fields.next()) else { return Err(70) };
-                let (n, m, r) = (natural(n).ok_or(70u32)?, natural(m).ok_or(70u32)?, natural(r).ok_or(70u32)?);
+                let (Some(n), Some(m), Some(r), None) = (fields.next(), fields.next(), fields.next(), fields.next()) else {
+                    return Err(Bad::from(74));
+                };
+                let (n, m, r) = (natural(n, 2)?, natural(m, 3)?, natural(r, 4)?);
                 if !matches!(self.filter, Filter::Unopened) {
-                    return Err(71);
+                    return Err(Bad::from(71));
                 }
                 self.filter = if name == b"cic" { Filter::Narrow(Cic::new(n, m, r)?) } else { Filter::Wide(Cic::new(n, m, r)?) };
             }
             b"clear" => {
                 if fields.next().is_some() {
-                    return Err(70);
+                    return Err(Bad::from(74));
                 }
                 self.filter.clear()?;
             }
-            _ => return Err(70),
+            _ => return Err(Bad::from(73)),
         }
         Ok(())
     }
 }
 
-fn bad(out: &mut Vec<u8>, line: u64, number: u32) {
+fn put_bad(out: &mut Vec<u8>, line: u64, bad: Bad) {
     out.extend_from_slice(b"bad\t");
     put_decimal(out, line);
     out.push(b'\t');
-    put_decimal(out, number as u64);
+    put_decimal(out, bad.number as u64);
+    out.push(b'\t');
+    put_decimal(out, bad.place as u64);
     out.push(b'\n');
 }
 
@@ -268,14 +301,14 @@ fn main() -> std::io::Result<()> {
         let mut from = 0;
         while let Some(n) = buffer[from..end].iter().position(|&b| b == b'\n') {
             lines += 1;
-            if let Err(number) = replay.line(&buffer[from..from + n], &mut out) {
-                bad(&mut out, lines, number);
+            if let Err(bad) = replay.line(&buffer[from..from + n], &mut out) {
+                put_bad(&mut out, lines, bad);
                 return output.write_all(&out);
             }
             from += n + 1;
         }
         if end - from > 64 {
-            bad(&mut out, lines + 1, 72);
+            put_bad(&mut out, lines + 1, Bad::from(72));
             return output.write_all(&out);
         }
         buffer.copy_within(from..end, 0);
@@ -284,7 +317,7 @@ fn main() -> std::io::Result<()> {
         out.clear();
     }
     if held > 0 {
-        bad(&mut out, lines + 1, 70);
+        put_bad(&mut out, lines + 1, Bad::from(77));
     } else {
         out.extend_from_slice(b"end\t");
         put_decimal(&mut out, replay.outputs);
