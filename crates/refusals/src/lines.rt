@@ -1,9 +1,11 @@
-// Numbers 70 to 72: lines of the replay program, before and after a `cic` line.
+// Numbers 71 to 77: lines of the replay program, before and after a `cic` line.
 use crate::print::row;
 use cic64::state::Cic;
+use playback::driver::replay_whole;
 use records::session::Reply;
 use records::session::Session;
 use records::session::take_line;
+use text::comparing::same_bytes;
 
 // A line's refusal where `cic 1 1 1` came first, or didn't.
 fn line(opened: bool, line: &[u8]) -> u32 {
@@ -19,17 +21,18 @@ fn line(opened: bool, line: &[u8]) -> u32 {
     match reply {
         Reply::Silent => 0,
         Reply::Output(_) => 0,
-        Reply::Bad(n) => n,
+        Reply::Bad(fault) => fault.number,
     }
 }
 
+// 77 where the replay of an input of one line ends so, else 0.
+fn unterminated(input: &[u8]) -> u32 {
+    let mut out = [0u8; 600];
+    replay_whole(input, &mut out);
+    if same_bytes(&out[..11], b"bad\t1\t77\t0\n") { 77 } else { 0 }
+}
+
 pub(crate) fn print_all() {
-    row(
-        b"line 'x 03'",
-        line(true, b"x\t03"),
-        b"'x 3'",
-        line(true, b"x\t3"),
-    );
     row(
         b"'x 3' before a cic line",
         line(false, b"x\t3"),
@@ -48,5 +51,35 @@ pub(crate) fn print_all() {
         line(true, &long),
         b"64 bytes",
         line(true, &long[..64]),
+    );
+    row(
+        b"line 'X 3'",
+        line(true, b"X\t3"),
+        b"'x 3'",
+        line(true, b"x\t3"),
+    );
+    row(
+        b"line 'rate'",
+        line(true, b"rate"),
+        b"'rate 3'",
+        line(true, b"rate\t3"),
+    );
+    row(
+        b"line 'x 03'",
+        line(true, b"x\t03"),
+        b"'x 3'",
+        line(true, b"x\t3"),
+    );
+    row(
+        b"line 'x 2147483648'",
+        line(true, b"x\t2147483648"),
+        b"'x 2147483647'",
+        line(true, b"x\t2147483647"),
+    );
+    row(
+        b"'cic 1 1 1' without a newline",
+        unterminated(b"cic\t1\t1\t1"),
+        b"with one",
+        unterminated(b"cic\t1\t1\t1\n"),
     );
 }

@@ -29,7 +29,7 @@ fn line_end(text: &[u8], from: usize) -> usize
 
 // A line's sample modulo 2^32, if it has one and there is room, to place n of xs: how many there are then.
 fn take_line(line: &[u8], xs: &mut [i32], n: usize) -> usize {
-    let record = parse(line);
+    let record = parse(true, line);
     let Record::Sample(x) = record else {
         return n;
     };
