@@ -6,15 +6,12 @@ use mathlib.Core.List.{List, [], _∷_}
 use Prim.Native.Nat.{ℕ, _-_}
 use lib.Dec.{leb, eqb}
 use lib.IntN.{pos, negsuc}
-use lib.ListN.{length}
 use mir.Syntax.{w32, w64}
 use mir.Val.{SFits}
 use borrow.Author.Tests.{leb-true, eqb-true, eqb-false}
 use Rattle.blocks.specs.Blocks.{unless}
 use Rattle.sums.proofs.Carried.{nil-in}
-use Rattle.text.specs.Letters.{tab}
 use Rattle.text.specs.Numbers.{numberOf}
-use Rattle.text.specs.Parts.{parted}
 use Rattle.text.specs.declared.numbers.Number.{Number}
 use Rattle.text.specs.declared.numbers.Number.the-variants.{Plus, Minus, Wrong}
 use Rattle.records.specs.Lines.{
@@ -28,12 +25,9 @@ use Rattle.records.specs.Lines.{
   orElse,
   namedRecord,
   heldRecord,
-  nameOf,
-  isKnown,
-  wantedOf,
-  fieldsRecord,
   recordOf,
 }
+use Rattle.records.proofs.EachLine.{each-line}
 use Rattle.records.specs.Sessions.{widthOf}
 use Rattle.records.specs.declared.parse.Name.{Name}
 use Rattle.records.specs.declared.parse.Name.the-variants as Name
@@ -74,10 +68,6 @@ number-fits false (Minus v) = by (eqb v 0) (leb v 2147483648) refl refl
     by false false d e z = absurd (omega arith)
 number-fits wide Wrong = λ z. absurd (omega arith)
 
-holds-cond : (wide b : Bool) (x y : Record) → Holds wide x → Holds wide y → Holds wide (cond b x y)
-holds-cond wide true x y h k = h
-holds-cond wide false x y h k = k
-
 holds-else : (wide : Bool) (f : Fault) (x : Record) → (f .number ≡ 0 → Holds wide x) → Holds wide (orElse f x)
 holds-else wide f x h = by (eqb (f .number) 0) refl
   where
@@ -109,15 +99,5 @@ named-holds wide Name.X fs = x-holds wide fs
 named-holds wide Name.Clear fs = holds-else wide (fault-of wide Name.Clear fs) (namedRecord Name.Clear fs) (λ e. tt)
 named-holds wide Name.Unknown fs = holds-else wide (fault-of wide Name.Unknown fs) (namedRecord Name.Unknown fs) (λ e. tt)
 
-fields-hold : (wide : Bool) (ps : List (List ℕ)) → Holds wide (fieldsRecord wide ps)
-fields-hold wide [] = tt
-fields-hold wide (name ∷ fs) =
-    let n = nameOf name in
-    let held = heldRecord wide n fs in
-    let some = eqb (length fs) (wantedOf n) in
-    holds-cond wide (isKnown n) (cond some held (Bad (faultAt 74 0))) (Bad (faultAt 73 0))
-    (holds-cond wide some held (Bad (faultAt 74 0)) (named-holds wide n fs) tt) tt
-
 pub line-holds : (wide : Bool) (l : List ℕ) → Holds wide (recordOf wide l)
-unfolding recordOf
-line-holds wide l = fields-hold wide (parted tab l)
+line-holds wide l = each-line (Holds wide) wide tt tt (named-holds wide) l

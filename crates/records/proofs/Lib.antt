@@ -1,4 +1,6 @@
 pub mod Parsing
 pub mod Taking
+pub mod EachLine
 pub mod Holding
+pub mod Telling
 pub mod Seeing
