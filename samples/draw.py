@@ -11,9 +11,13 @@ MEANING = {
     "10": "CIC order above 8",
     "11": "comb delay 0 or above 8",
     "12": "rate above 65,535",
-    "70": "malformed line",
     "71": "no `cic` line yet, or a second one",
     "72": "line over 64 bytes",
+    "73": "unknown record",
+    "74": "wrong number of fields",
+    "75": "not a well-formed number",
+    "76": "number outside its range",
+    "77": "last line unterminated",
 }
 
 
