@@ -117,17 +117,29 @@ fn natural_of(n: Number) -> Natural
                     value: v as u32,
                 }
             } else {
-                Natural { number: 76, value: 0 }
+                Natural {
+                    number: 76,
+                    value: 0,
+                }
             }
         }
         Number::Minus(v) => {
             if v == 0 {
-                Natural { number: 75, value: 0 }
+                Natural {
+                    number: 75,
+                    value: 0,
+                }
             } else {
-                Natural { number: 76, value: 0 }
+                Natural {
+                    number: 76,
+                    value: 0,
+                }
             }
         }
-        Number::Wrong => Natural { number: 75, value: 0 },
+        Number::Wrong => Natural {
+            number: 75,
+            value: 0,
+        },
     }
 }
 
@@ -155,12 +167,18 @@ pub fn integer_of(wide: bool, n: Number) -> Integer
                     value: u64_as_i64(v),
                 }
             } else {
-                Integer { number: 76, value: 0 }
+                Integer {
+                    number: 76,
+                    value: 0,
+                }
             }
         }
         Number::Minus(v) => {
             if v == 0 {
-                return Integer { number: 75, value: 0 };
+                return Integer {
+                    number: 75,
+                    value: 0,
+                };
             }
             if v <= least {
                 Integer {
@@ -168,10 +186,16 @@ pub fn integer_of(wide: bool, n: Number) -> Integer
                     value: u64_as_i64(18446744073709551615 - (v - 1)),
                 }
             } else {
-                Integer { number: 76, value: 0 }
+                Integer {
+                    number: 76,
+                    value: 0,
+                }
             }
         }
-        Number::Wrong => Integer { number: 75, value: 0 },
+        Number::Wrong => Integer {
+            number: 75,
+            value: 0,
+        },
     }
 }
 

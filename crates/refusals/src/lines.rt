@@ -29,7 +29,11 @@ fn line(opened: bool, line: &[u8]) -> u32 {
 fn unterminated(input: &[u8]) -> u32 {
     let mut out = [0u8; 600];
     replay_whole(input, &mut out);
-    if same_bytes(&out[..11], b"bad\t1\t77\t0\n") { 77 } else { 0 }
+    if same_bytes(&out[..11], b"bad\t1\t77\t0\n") {
+        77
+    } else {
+        0
+    }
 }
 
 pub(crate) fn print_all() {
