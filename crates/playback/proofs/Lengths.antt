@@ -33,7 +33,8 @@ use Rattle.records.specs.Lines.{
   isKnown,
   kindsOf,
   wantedOf,
-  faultAt,
+  unknownRecord,
+  wrongCount,
   fieldsFault,
   namedRecord,
   heldRecord,
@@ -154,8 +155,8 @@ module _ (wide : Bool) where
   other-name k fs h =
       let fault = fieldsFault wide 2 (kindsOf k) fs in
       let some = eqb (length fs) (wantedOf k) in
-      tested (isKnown k) (cond some (heldRecord wide k fs) (Bad (faultAt 74 0))) (Bad (faultAt 73 0))
-      (tested some (heldRecord wide k fs) (Bad (faultAt 74 0))
+      tested (isKnown k) (cond some (heldRecord wide k fs) (Bad wrongCount)) (Bad unknownRecord)
+      (tested some (heldRecord wide k fs) (Bad wrongCount)
       (tested (eqb (fault .number) 0) (namedRecord k fs) (Bad fault) h refl) refl) refl
 
   shaped-long : (k : Name) (name : List ℕ) (fs : List (List ℕ)) → nameOf name ≡ k → isSample (shapedOf wide k fs) ≡ true

@@ -6,12 +6,12 @@ use lib.Dec.{eqb}
 use lib.ListN.{length}
 use Rattle.text.specs.Letters.{tab}
 use Rattle.text.specs.Parts.{parted}
-use Rattle.records.specs.Lines.{faultAt, heldRecord, nameOf, isKnown, wantedOf, fieldsRecord, recordOf}
+use Rattle.records.specs.Lines.{unknownRecord, wrongCount, heldRecord, nameOf, isKnown, wantedOf, fieldsRecord, recordOf}
 use Rattle.records.specs.declared.parse.Name.{Name}
 use Rattle.records.specs.declared.parse.Record.{Record}
 use Rattle.records.specs.declared.parse.Record.the-variants.{Bad}
 
-module _ (P : Record → Type 0) (wide : Bool) (unknown : P (Bad (faultAt 73 0))) (miscounted : P (Bad (faultAt 74 0)))
+module _ (P : Record → Type 0) (wide : Bool) (unknown : P (Bad unknownRecord)) (miscounted : P (Bad wrongCount))
     (held : (name : Name) (fs : List (List ℕ)) → P (heldRecord wide name fs)) where
   either : (b : Bool) (x y : Record) → P x → P y → P (cond b x y)
   either true x y h k = h
@@ -23,8 +23,8 @@ module _ (P : Record → Type 0) (wide : Bool) (unknown : P (Bad (faultAt 73 0))
       let n = nameOf name in
       let r = heldRecord wide n fs in
       let counted = eqb (length fs) (wantedOf n) in
-      either (isKnown n) (cond counted r (Bad (faultAt 74 0))) (Bad (faultAt 73 0))
-      (either counted r (Bad (faultAt 74 0)) (held n fs) miscounted) unknown
+      either (isKnown n) (cond counted r (Bad wrongCount)) (Bad unknownRecord)
+      (either counted r (Bad wrongCount) (held n fs) miscounted) unknown
 
   pub each-line : (l : List ℕ) → P (recordOf wide l)
   unfolding recordOf

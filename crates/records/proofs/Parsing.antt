@@ -33,6 +33,8 @@ use Rattle.records.specs.Lines.{
   sizeOf,
   valueOf,
   faultAt,
+  unknownRecord,
+  wrongCount,
   fieldsFault,
   orElse,
   heldRecord,
@@ -264,11 +266,11 @@ module _ (wide : Bool) (l : List ℕ) (e : ℕ) (first : e ≡ endOf tab l 0) wh
     shaped-by : recordOf wide l ≡ shapedOf wide name (behind tab (drop e l))
     shaped-by = shaped ∙ ap (λ (x : Name). shapedOf wide x (behind tab (drop e l))) (sym named)
 
-    pub unknown : isKnown name ≡ false → Bad (faultAt 73 0) ≡ recordOf wide l
+    pub unknown : isKnown name ≡ false → Bad unknownRecord ≡ recordOf wide l
     unknown h = sym (shaped-by ∙ rw h)
 
     module _ (n w : ℕ) (counted : n ≡ count tab l) (wants : w ≡ wantedOf name) (known : isKnown name ≡ true) where
-      pub miscounted : (n ≡ w → ⊥) → Bad (faultAt 74 0) ≡ recordOf wide l
+      pub miscounted : (n ≡ w → ⊥) → Bad wrongCount ≡ recordOf wide l
       miscounted h =
           let s : length (behind tab (drop e l)) ≡ wantedOf name → ⊥ = λ x. h (counted ∙ sym fields-count ∙ x ∙ sym wants) in
           sym (shaped-by ∙ rw (known, ne-eqb _ _ s))

@@ -1,5 +1,5 @@
 pub mod Inner
 pub mod Lines
-pub mod Told
 pub mod Sessions
+pub mod Told
 pub mod Seen

@@ -88,6 +88,13 @@ valueOf Wrong = pos 0
 abbrev pub faultAt : ℕ → ℕ → Fault
 faultAt number place = record { number = number; place = place }
 
+-- 73: unknown record; 74: wrong number of fields
+abbrev pub unknownRecord : Fault
+unknownRecord = faultAt 73 0
+
+abbrev pub wrongCount : Fault
+wrongCount = faultAt 74 0
+
 -- the fields from a place on, left to right: what is wrong with the first bad one, or number 0
 abbrev pub fieldsFault : Bool → ℕ → List Kind → List (List ℕ) → Fault
 fieldsFault wide place [] fields = faultAt 0 0
@@ -103,7 +110,7 @@ namedRecord Name.Cic64 fields = Open true (sizeOf (fieldAt fields 0)) (sizeOf (f
 namedRecord Name.Rate fields = Rate (sizeOf (fieldAt fields 0))
 namedRecord Name.X fields = Sample (valueOf (fieldAt fields 0))
 namedRecord Name.Clear fields = Clear
-namedRecord Name.Unknown fields = Bad (faultAt 73 0)
+namedRecord Name.Unknown fields = Bad unknownRecord
 
 -- unless something is wrong
 abbrev pub orElse : Fault → Record → Record
@@ -114,11 +121,11 @@ heldRecord wide name fields = orElse (fieldsFault wide 2 (kindsOf name) fields) 
 
 abbrev pub shapedOf : Bool → Name → List (List ℕ) → Record
 shapedOf wide name fields =
-    cond (isKnown name) (cond (eqb (length fields) (wantedOf name)) (heldRecord wide name fields) (Bad (faultAt 74 0)))
-    (Bad (faultAt 73 0))
+    cond (isKnown name) (cond (eqb (length fields) (wantedOf name)) (heldRecord wide name fields) (Bad wrongCount))
+    (Bad unknownRecord)
 
 abbrev pub fieldsRecord : Bool → List (List ℕ) → Record
-fieldsRecord wide [] = Bad (faultAt 73 0)
+fieldsRecord wide [] = Bad unknownRecord
 fieldsRecord wide (name ∷ fields) = shapedOf wide (nameOf name) fields
 
 -- fields parted by one tab

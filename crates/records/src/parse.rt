@@ -13,6 +13,15 @@ ghost use Rattle.text.specs.Parts.{behind};
 ghost use Rattle.records.specs.Lines.{nameOf, isKnown, wantedOf, wordRange, fieldAt, faultAt, heldRecord, recordOf};
 ghost use Rattle.records.specs.Inner.Fields.{Reads, naturalOf, integerOf, openingOf, openingFields, rateOf, sampleOf};
 
+// What is wrong with a line's form (02, A2), in the order of the tests.
+const UNKNOWN: u32 = 73;
+
+const MISCOUNTED: u32 = 74;
+
+const MALFORMED: u32 = 75;
+
+const OUTSIDE: u32 = 76;
+
 // What is wrong with a line: its refusal number, and the place of the field that it is about (the name's is 1), or 0.
 pub struct Fault {
     pub number: u32,
@@ -118,7 +127,7 @@ fn natural_of(n: Number) -> Natural
                 }
             } else {
                 Natural {
-                    number: 76,
+                    number: OUTSIDE,
                     value: 0,
                 }
             }
@@ -126,18 +135,18 @@ fn natural_of(n: Number) -> Natural
         Number::Minus(v) => {
             if v == 0 {
                 Natural {
-                    number: 75,
+                    number: MALFORMED,
                     value: 0,
                 }
             } else {
                 Natural {
-                    number: 76,
+                    number: OUTSIDE,
                     value: 0,
                 }
             }
         }
         Number::Wrong => Natural {
-            number: 75,
+            number: MALFORMED,
             value: 0,
         },
     }
@@ -168,7 +177,7 @@ pub fn integer_of(wide: bool, n: Number) -> Integer
                 }
             } else {
                 Integer {
-                    number: 76,
+                    number: OUTSIDE,
                     value: 0,
                 }
             }
@@ -176,7 +185,7 @@ pub fn integer_of(wide: bool, n: Number) -> Integer
         Number::Minus(v) => {
             if v == 0 {
                 return Integer {
-                    number: 75,
+                    number: MALFORMED,
                     value: 0,
                 };
             }
@@ -187,13 +196,13 @@ pub fn integer_of(wide: bool, n: Number) -> Integer
                 }
             } else {
                 Integer {
-                    number: 76,
+                    number: OUTSIDE,
                     value: 0,
                 }
             }
         }
         Number::Wrong => Integer {
-            number: 75,
+            number: MALFORMED,
             value: 0,
         },
     }
@@ -283,7 +292,7 @@ fn named_record(wide: bool, name: Name, line: &[u8], e: usize) -> Record
         Name::Rate => rate_record(line, e),
         Name::X => sample_record(wide, line, e),
         Name::Clear => Record::Clear,
-        Name::Unknown => bad_field(73, 0),
+        Name::Unknown => bad_field(UNKNOWN, 0),
     }
 }
 
@@ -295,10 +304,10 @@ pub fn parse(wide: bool, line: &[u8]) -> Record
     let e = part_end(line, 0, b'\t');
     let name = named(&line[..e]);
     if !known(name) {
-        return bad_field(73, 0);
+        return bad_field(UNKNOWN, 0);
     }
     if separators(line, b'\t') != wanted(name) {
-        return bad_field(74, 0);
+        return bad_field(MISCOUNTED, 0);
     }
     named_record(wide, name, line, e)
 }
