@@ -171,18 +171,18 @@ module _ (words : Bool → Ops ℤ) (s : Session) where
       either (s .opened) (clearing words s) (refuse s 71)
       (ordered-answers s (s .wide) (refusal (f .state)) (clearCounted (words (s .wide)) f) (refusal-few _ _ _ _ _)) unopened
 
-  line-answers : (line : List ℕ) → Answers (lineOf words s line .reply)
+  line-answers : (line : List ℕ) → Says (recordOf (s .wide) line) → Answers (lineOf words s line .reply)
   unfolding lineOf
-  line-answers line =
-      let r = recordOf (s .wide) line in
-      either (ltb 64 (length line)) (refuse s 72) (takeOf words s r) long
-      (take-answers r (each-line Says (s .wide) unknown miscounted (held-says (s .wide)) line))
+  line-answers line h =
+      let r = recordOf (s .wide) line in either (ltb 64 (length line)) (refuse s 72) (takeOf words s r) long (take-answers r h)
 
 says : (r : Reply) (f : Fault) → r ≡ Reply.Bad f → Answers r → Tells f
 says r f e h = rw e at h
 
 pub line-told : LineTold
-line-told words s line f e = says (lineOf words s line .reply) f e (line-answers words s line)
+line-told words s line f e =
+    says (lineOf words s line .reply) f e
+    (line-answers words s line (each-line Says (s .wide) unknown miscounted (held-says (s .wide)) line))
 
 tells-none : {f : Fault} → Tells f → f .number ≡ 70 → ⊥
 tells-none unopened z = omega arith
