@@ -25,11 +25,18 @@ fn line(opened: bool, line: &[u8]) -> u32 {
     }
 }
 
-// 77 where the replay of an input of one line ends so, else 0.
-fn unterminated(input: &[u8]) -> u32 {
-    let mut out = [0u8; 600];
-    replay_whole(input, &mut out);
-    if same_bytes(&out[..11], b"bad\t1\t77\t0\n") {
+// Whether the first n bytes of a slice are these.
+fn front_is(out: &[u8], n: usize, want: &[u8]) -> bool {
+    if out.len() < n {
+        return false;
+    }
+    same_bytes(&out[0..n], want)
+}
+
+// 77 where the replay of an input of one line, written to out, ends so; else 0.
+fn unterminated(input: &[u8], out: &mut [u8]) -> u32 {
+    let put = replay_whole(input, out);
+    if front_is(out, put.count, b"bad\t1\t77\t0\n") {
         77
     } else {
         0
@@ -80,10 +87,12 @@ pub(crate) fn print_all() {
         b"'x 2147483647'",
         line(true, b"x\t2147483647"),
     );
+    let mut cut = [0u8; 600];
+    let mut whole = [0u8; 600];
     row(
         b"'cic 1 1 1' without a newline",
-        unterminated(b"cic\t1\t1\t1"),
+        unterminated(b"cic\t1\t1\t1", &mut cut),
         b"with one",
-        unterminated(b"cic\t1\t1\t1\n"),
+        unterminated(b"cic\t1\t1\t1\n", &mut whole),
     );
 }
