@@ -25,8 +25,10 @@ def line_bits(line):
     if len(line) > 64:
         return None, 72
     name, tab, digits = line.partition(b"\t")
-    if name not in NAMES or not tab or len(digits) != 16 or any(d not in b"0123456789abcdef" for d in digits):
-        return None, 70
+    if name not in NAMES:
+        return None, 73
+    if not tab or len(digits) != 16 or any(d not in b"0123456789abcdef" for d in digits):
+        return None, 75
     a = NAMES[name](struct.unpack(">d", bytes.fromhex(digits.decode()))[0])
     if not -0.5 <= a <= 0.0:
         return None, 52
@@ -44,7 +46,7 @@ def answers(data):
             break
         bits, refused = line_bits(line)
         if last:
-            refused = 72 if len(line) > 64 else 70
+            refused = 72 if len(line) > 64 else 77
         if refused:
             return out + b"bad\t%d\t%d\n" % (number, refused)
         out += b"%d\n" % bits

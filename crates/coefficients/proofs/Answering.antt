@@ -25,10 +25,6 @@ use Rattle.coefficients.specs.declared.answers.Adapter.{Adapter}
 use Rattle.coefficients.specs.declared.answers.Adapter.the-variants.{Named, Unknown}
 use Rattle.coefficients.specs.Lines.{adapterOf, poleBits, lineBits, bitsLine, refusedLine}
 
-unread : (named : Adapter) → poleBits named Pattern.Wrong ≡ Refused 70
-unread (Named code) = refl
-unread Unknown = refl
-
 module _ (l : List ℕ) where
   pub line-long : 64 < length l → Refused 72 ≡ lineBits l
   unfolding lineBits
@@ -38,13 +34,16 @@ module _ (l : List ℕ) where
     first : e ≡ length (before tab l)
     first = found ∙ omega arith
 
+    named-part : take e l ≡ before tab l
+    named-part = ap (λ (k : ℕ). take k l) first ∙ before-take tab l
+
     -- no tab: the name is the whole line
-    pub line-untabbed : length l ≤ e → Refused 70 ≡ lineBits l
+    pub line-untabbed : (named : Adapter) → length l ≤ e → named ≡ adapterOf (take e l) → poleBits named Pattern.Wrong ≡ lineBits l
     unfolding lineBits
-    line-untabbed h =
+    line-untabbed named h n =
         let past : length l ≤ length (before tab l) + 1 = omega (arith, first) in
         let none : drop (length (before tab l) + 1) l ≡ [] = drop-of-length-le l past in
-        sym (rw (le-ltb 64 (length l) short, none) (unread (adapterOf (before tab l))))
+        rw (n, named-part) (sym (rw (le-ltb 64 (length l) short, none)))
 
     pub line-tabbed : (named : Adapter) (digits : Pattern) → e < length l → named ≡ adapterOf (take e l)
         → digits ≡ patternOf (take (length l - (e + 1)) (drop (e + 1) l)) → poleBits named digits ≡ lineBits l
@@ -52,8 +51,7 @@ module _ (l : List ℕ) where
     line-tabbed named digits h n d =
         let rest = drop (e + 1) l in
         let all : take (length l - (e + 1)) rest ≡ rest = take-all (length l - (e + 1)) rest (simp length-drop (omega arith)) in
-        let name : take e l ≡ before tab l = ap (λ (k : ℕ). take k l) first ∙ before-take tab l in
-        rw (n, d, all, name, first) (sym (rw (le-ltb 64 (length l) short)))
+        rw (n, d, all, named-part, first) (sym (rw (le-ltb 64 (length l) short)))
 
 module _ (o : List ℕ) (at : ℕ) where
   pub bits-wrote : (v : ℤ) (a r : ℕ) (o₁ o₂ : List ℕ) → SFits w32 v → at + 36 ≤ length o

@@ -141,7 +141,7 @@ module _ (p : Place) (line : List ℕ) (within : p .len ≤ length line) where
   unfolding lastGiven
   last-empty h e = rw (h, eq-eqb (length (take (p .len) line)) 0 (size ∙ e))
 
-  pub last-cut : p .going ≡ true → (p .len ≡ 0 → ⊥) → lastGiven (standingOf p line) ≡ refusedLine (oneMore (p .lines)) 70
+  pub last-cut : p .going ≡ true → (p .len ≡ 0 → ⊥) → lastGiven (standingOf p line) ≡ refusedLine (oneMore (p .lines)) 77
   unfolding lastGiven
   last-cut h e = rw (h, ne-eqb (length (take (p .len) line)) 0 (λ z. e (sym size ∙ z)))
 

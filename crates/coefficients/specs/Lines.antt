@@ -33,18 +33,25 @@ letterOf name =
 unfoldable pub adapterOf : List ℕ → Adapter
 adapterOf name = cond (same name (bytes "B1")) (Named B1) (cond (same name (bytes "C1")) (Named C1) (letterOf name))
 
--- the replay program's number of a malformed line, and of one over 64 bytes
-abbrev pub malformedNumber : ℕ
-malformedNumber = 70
+-- The replay's numbers: 73, a name that is no adapter's; 75, what follows it isn't 16 hex digits, as where nothing follows; 72, over
+-- 64 bytes; 77, an unterminated last line.
+abbrev pub nameNumber : ℕ
+nameNumber = 73
+
+abbrev pub digitsNumber : ℕ
+digitsNumber = 75
 
 abbrev pub longNumber : ℕ
 longNumber = 72
 
+abbrev pub cutNumber : ℕ
+cutNumber = 77
+
 -- the bits for the adapter and the pole, where both can be read
 abbrev pub poleBits : Adapter → Pattern → Quantized
 poleBits (Named code) (Pattern.Bits g) = quantized code (ofBits binary64 g)
-poleBits (Named code) Pattern.Wrong = Refused malformedNumber
-poleBits Unknown digits = Refused malformedNumber
+poleBits (Named code) Pattern.Wrong = Refused digitsNumber
+poleBits Unknown digits = Refused nameNumber
 
 -- the name ends at the first tab, and the digits are all that follows it
 unfoldable pub lineBits : List ℕ → Quantized

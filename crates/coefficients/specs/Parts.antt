@@ -10,7 +10,7 @@ use Rattle.text.specs.Letters.{newline}
 use Rattle.wdf.specs.declared.quantize.Quantized.{Quantized}
 use Rattle.wdf.specs.declared.quantize.Quantized.the-variants.{Bits, Refused}
 use Rattle.coefficients.specs.declared.parts.Place.{Place}
-use Rattle.coefficients.specs.Lines.{longNumber, malformedNumber, lineBits, refusedLine, answerBytes}
+use Rattle.coefficients.specs.Lines.{longNumber, cutNumber, lineBits, refusedLine, answerBytes}
 
 -- how many lines came before, the line so far, and whether to go on
 pub record Standing : Type 0 where
@@ -53,9 +53,9 @@ unfoldable pub partGiven : Standing → List ℕ → List ℕ
 partGiven s [] = []
 partGiven s (b ∷ bs) = cond (s .going) (byteGiven s b ++ partGiven (byteAfter s b) bs) []
 
--- at the end of the input: an unterminated last line is malformed
+-- at the end of the input: an unterminated last line
 unfoldable pub lastGiven : Standing → List ℕ
-lastGiven s = cond (s .going) (cond (eqb (length (s .line)) 0) [] (refusedLine (oneMore (s .lines)) malformedNumber)) []
+lastGiven s = cond (s .going) (cond (eqb (length (s .line)) 0) [] (refusedLine (oneMore (s .lines)) cutNumber)) []
 
 abbrev pub beginning : Standing
 beginning = record { lines = 0; line = []; going = true }

@@ -18,10 +18,14 @@ ghost use Rattle.text.specs.Writing.{Wrote};
 ghost use Rattle.coefficients.specs.Lines.{letterOf, adapterOf, lineBits, poleBits, bitsLine, refusedLine, answerBytes};
 ghost use Rattle.coefficients.specs.Parts.{isAccepted};
 
-// What a malformed line is refused with, an unterminated last one too, and a line over 64 bytes.
-pub(crate) const MALFORMED: u32 = 70;
-
+// What a line is refused with: over 64 bytes, a name that is no adapter's, other than 16 hex digits behind it, no end.
 pub(crate) const LONG: u32 = 72;
+
+const NAME: u32 = 73;
+
+const DIGITS: u32 = 75;
+
+pub(crate) const CUT: u32 = 77;
 
 // An adapter by its name, or a name that is none.
 pub enum Adapter {
@@ -71,15 +75,16 @@ fn pole_bits(named: Adapter, digits: Pattern) -> Quantized
     ensures { λ r. ⌜ r ≡ poleBits named digits ⌝ }
 {
     let Adapter::Named(code) = named else {
-        return Quantized::Refused(MALFORMED);
+        return Quantized::Refused(NAME);
     };
     let Pattern::Bits(bits) = digits else {
-        return Quantized::Refused(MALFORMED);
+        return Quantized::Refused(DIGITS);
     };
     code.quantize(from_bits(bits))
 }
 
-// A line's bits, or the number of its refusal: 72 where it has over 64 bytes, 70 where it is malformed, else 52.
+// A line's bits, or the number of its refusal: 72 where it has over 64 bytes, 73 by its name, 75 by its digits,
+// else the adapter's own.
 pub(crate) fn line_bits(line: &[u8]) -> Quantized
     ensures { λ r. ⌜ r ≡ lineBits (now (line .entry)) ⌝ }
 {
@@ -87,10 +92,10 @@ pub(crate) fn line_bits(line: &[u8]) -> Quantized
         return Quantized::Refused(LONG);
     }
     let e = part_end(line, 0, b'\t');
-    if line.len() <= e {
-        return Quantized::Refused(MALFORMED);
-    }
     let named = named_by(&line[..e]);
+    if line.len() <= e {
+        return pole_bits(named, Pattern::Wrong);
+    }
     let from = e + 1;
     let digits = hex_word(&line[from..]);
     pole_bits(named, digits)

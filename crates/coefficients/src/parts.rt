@@ -1,6 +1,6 @@
 // A part of the input, byte by byte, and what it gives out.
+use crate::answers::CUT;
 use crate::answers::LONG;
-use crate::answers::MALFORMED;
 use crate::answers::line_bits;
 use crate::answers::put_answer;
 use wdf::quantize::Quantized;
@@ -144,5 +144,5 @@ pub(crate) fn put_last(line: &[u8], p: Place, out: &mut [u8]) -> usize
         return 0;
     }
     let number = count_up(p.lines);
-    put_answer(out, 0, number, Quantized::Refused(MALFORMED))
+    put_answer(out, 0, number, Quantized::Refused(CUT))
 }

@@ -15,8 +15,13 @@ returns c = let begin : tie.Start = search in line-long (begin .args .line .now)
 returns-2 : tie.Need-returns-2
 returns-2 c =
     let begin : tie.Start = search in
-    let p = c .before .part-end in
-    line-untabbed (begin .args .line .now) (p .result) (c .before .before .if1 .left) (p .ensures) (c .if2 .taken)
+    let at-part-end : tie.After-part-end = search in
+    let short : tie.Else1 = search in
+    let at-named : tie.After-named-by = search in
+    let untabbed : tie.Then2 = search in
+    let p = at-part-end .part-end in
+    c .pole-bits .ensures ∙ line-untabbed (begin .args .line .now) (p .result) (short .if1 .left) (p .ensures)
+    (at-named .named-by .result) (untabbed .if2 .taken) (at-named .named-by .ensures)
 
 slice-aggregate-named-by : tie.Need-slice-aggregate-named-by
 slice-aggregate-named-by c =
@@ -34,11 +39,11 @@ returns-3 c =
     let at-named : tie.After-named-by = search in
     let at-digits : tie.After-hex-word = search in
     let p = at-part-end .part-end in
-    c .pole-bits .ensures ∙ line-tabbed (begin .args .line .now) (p .result) (short .if1 .left) (p .ensures) (at-named .named-by .result)
+    c .pole-bits2 .ensures ∙ line-tabbed (begin .args .line .now) (p .result) (short .if1 .left) (p .ensures) (at-named .named-by .result)
     (at-digits .hex-word .result) (tabbed .if2 .left) (at-named .named-by .ensures) (at-digits .hex-word .ensures)
 
 pub line-bits-spec : {M : Type 1} → statement M
 line-bits-spec =
-    tie.close (tie.spec returns (λ c κs. search needs) returns-2 slice-aggregate-named-by (λ c κs. search needs)
-    (λ c. search needs) (λ c. search needs) (λ c. search needs) (λ c. search needs) (λ c κs. search needs)
+    tie.close (tie.spec returns (λ c κs. search needs) slice-aggregate-named-by (λ c κs. search needs) (λ c κs. search needs)
+    returns-2 (λ c. search needs) (λ c. search needs) (λ c. search needs) (λ c. search needs) (λ c κs. search needs)
     (λ c κs. search needs) returns-3)
