@@ -1,7 +1,7 @@
 #!/usr/bin/env python3
 """Holds the replay program against model.py on generated inputs, good and damaged: each whole or in random parts, and byte by byte.
 
-    python3 samples/fuzz.py [COUNT] [PROGRAM]     (20000 inputs; samples/replay)
+    python3 samples/fuzz.py [COUNT] [PROGRAM]     (20000 inputs; target/bin/replay, by samples/run)
 
 A pipe in packet mode gives each write to one read, so the cuts are where they are drawn. The recordings beside this file, a live
 pipe, and reads and writes that fail come first.
@@ -91,9 +91,9 @@ def cuts(rng, data):
 
 def answered(program, data, parts):
     if parts is None:
-        return subprocess.run([program], input=data, stdout=subprocess.PIPE).stdout
+        return subprocess.run(program, input=data, stdout=subprocess.PIPE).stdout
     into, out_of = os.pipe2(os.O_DIRECT | os.O_CLOEXEC)
-    run = subprocess.Popen([program], stdin=into, stdout=subprocess.PIPE)
+    run = subprocess.Popen(program, stdin=into, stdout=subprocess.PIPE)
     os.close(into)
     try:
         for part in parts:
@@ -108,12 +108,12 @@ def recorded(program):
     """Each recording gives the output that stands beside it."""
     for name in ["steady", "torsion", "pulled_plug", "long_run"]:
         with open(os.path.join(HERE, name + ".txt"), "rb") as given, open(os.path.join(HERE, name + ".out"), "rb") as want:
-            assert subprocess.run([program], stdin=given, stdout=subprocess.PIPE).stdout == want.read(), name
+            assert subprocess.run(program, stdin=given, stdout=subprocess.PIPE).stdout == want.read(), name
 
 
 def live(program):
     """What has been answered is there before more is asked for; a line is refused at its 65th byte, the pipe still open."""
-    run = subprocess.Popen([program], stdin=subprocess.PIPE, stdout=subprocess.PIPE, bufsize=0)
+    run = subprocess.Popen(program, stdin=subprocess.PIPE, stdout=subprocess.PIPE, bufsize=0)
     run.stdin.write(b"cic\t0\t1\t0\nx\t5\nx")
     assert run.stdout.readline() == b"y\t5\t0\n"
     run.stdin.write(b"\t6\n")
@@ -126,22 +126,22 @@ def live(program):
 
 def failing(program):
     """A read or a write that fails stops the program, and it says no `end`; what it answered before stays."""
-    run = subprocess.Popen([program], stdin=subprocess.DEVNULL, stdout=subprocess.PIPE, preexec_fn=lambda: os.close(0))
+    run = subprocess.Popen(program, stdin=subprocess.DEVNULL, stdout=subprocess.PIPE, preexec_fn=lambda: os.close(0))
     assert run.communicate()[0] == b""
     into, out_of = os.pipe2(os.O_NONBLOCK)
     os.write(out_of, b"cic\t0\t1\t0\nx\t5\nx")
-    run = subprocess.Popen([program], stdin=into, stdout=subprocess.PIPE)
+    run = subprocess.Popen(program, stdin=into, stdout=subprocess.PIPE)
     assert run.communicate(timeout=60)[0] == b"y\t5\t0\n"
     os.close(out_of)
     os.close(into)
     with open("/dev/full", "wb") as full:
-        run = subprocess.Popen([program], stdin=subprocess.PIPE, stdout=full, bufsize=0)
+        run = subprocess.Popen(program, stdin=subprocess.PIPE, stdout=full, bufsize=0)
         run.stdin.write(b"cic\t0\t1\t0\nx\t5\n")
         assert run.wait(timeout=60) == 0
         run.stdin.close()
     data = b"cic\t0\t1\t0\n" + b"x\t5\n" * 20000
     into, out_of = os.pipe2(os.O_NONBLOCK)
-    run = subprocess.run([program], input=data, stdout=out_of, timeout=60)
+    run = subprocess.run(program, input=data, stdout=out_of, timeout=60)
     os.close(out_of)
     with open(into, "rb") as left:
         got = left.read()
@@ -178,4 +178,4 @@ def main(count, program):
 
 if __name__ == "__main__":
     words = sys.argv[1:]
-    sys.exit(main(int(words[0]) if words else 20000, words[1] if len(words) > 1 else os.path.join(HERE, "replay")))
+    sys.exit(main(int(words[0]) if words else 20000, words[1:] or [os.path.join(HERE, "run"), "replay"]))
