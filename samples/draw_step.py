@@ -1,35 +1,39 @@
 #!/usr/bin/env python3
-"""Draws a filter's answer to a step as a picture (SVG): a point for each output, the step's height as a line.
+"""Draws a filter's answer to a step: a point for each output, the step's height as a line.
 
-    target/bin/lattice | python3 samples/draw_step.py 16777216 >samples/butterworth.svg
+    target/bin/lattice | python3 samples/draw_step.py 16777216 samples/butterworth.svg
 
-Reads what the program `lattice` prints: three coefficients' bits, then an output on each line.
+Reads what the program `lattice` prints: three coefficients' bits, then an output on each line. Wants matplotlib (Debian: python3-matplotlib).
 """
 import sys
 
-from draw import EDGE, HEIGHT, WIDTH, text
+import matplotlib
+
+matplotlib.use("Agg")
+matplotlib.rcParams.update({"svg.fonttype": "none", "svg.hashsalt": "mittenload"})
+import matplotlib.pyplot as plot
 
 
-def draw(bits, outputs, height):
-    top = 1.15 * max(outputs + [height])
-    step = (WIDTH - 2 * EDGE) / len(outputs)
-    at = lambda i: EDGE + step * (i + 0.5)
-    level = lambda v: HEIGHT - EDGE - (HEIGHT - 2 * EDGE) * v / top
-    parts = ['<svg xmlns="http://www.w3.org/2000/svg" width="%d" height="%d">' % (WIDTH, HEIGHT)]
-    parts.append('<rect width="%d" height="%d" fill="white"/>' % (WIDTH, HEIGHT))
-    parts.append('<rect x="%d" y="%d" width="%d" height="%d" fill="none" stroke="#888"/>' % (EDGE, EDGE, WIDTH - 2 * EDGE, HEIGHT - 2 * EDGE))
-    parts.append('<line x1="%d" y1="%.1f" x2="%d" y2="%.1f" stroke="#c77" stroke-dasharray="5 4"/>' % (EDGE, level(height), WIDTH - EDGE, level(height)))
-    parts.append('<polyline points="%s" fill="none" stroke="#1f4e79"/>' % " ".join("%.1f,%.1f" % (at(i), level(v)) for i, v in enumerate(outputs)))
-    parts += ['<circle cx="%.1f" cy="%.1f" r="2.6" fill="#1f4e79"/>' % (at(i), level(v)) for i, v in enumerate(outputs)]
-    parts.append(text(EDGE, EDGE - 8, "answer to a step of %d; coefficients %s" % (height, ", ".join(map(str, bits)))))
+def draw(bits, outputs, height, to):
+    figure, axes = plot.subplots(figsize=(9.6, 3.6))
+    figure.subplots_adjust(left=0.11, right=0.97, top=0.88, bottom=0.15)
+    axes.axhline(0, color="#444444", linewidth=0.8)
+    axes.axhline(height, color="#c0392b", linewidth=0.9, linestyle="--", label="the step, {:,}".format(height))
+    axes.plot(range(len(outputs)), outputs, "o-", color="#1f4e79", markersize=3, linewidth=1.1, label="outputs")
     high = outputs.index(max(outputs))
-    parts.append(text(at(high), level(outputs[high]) - 8, "output %d: %d" % (high, outputs[high]), "middle", 11))
-    parts.append(text(WIDTH - EDGE - 6, level(outputs[-1]) + 18, "output %d: %d" % (len(outputs) - 1, outputs[-1]), "end", 11))
-    parts.append(text(at(0), HEIGHT - EDGE + 16, "0", "middle", 11))
-    parts.append(text(at(len(outputs) - 1), HEIGHT - EDGE + 16, str(len(outputs) - 1), "middle", 11))
-    return "\n".join(parts + ["</svg>", ""])
+    axes.annotate("output {}: {:,}".format(high, outputs[high]), (high, outputs[high]), (high + 2, 1.09 * height), fontsize=8)
+    axes.annotate("output {}: {:,}".format(len(outputs) - 1, outputs[-1]), (len(outputs) - 1, outputs[-1]), (len(outputs) - 1, 0.9 * height), fontsize=8, ha="right")
+    axes.set_title("Butterworth low pass of order 3: answer to a step; coefficients %s" % ", ".join(map(str, bits)), fontsize=10, loc="left")
+    axes.set_xlabel("number of the output, from 0", fontsize=9)
+    axes.set_ylabel("output, millions", fontsize=9)
+    axes.yaxis.set_major_formatter(lambda at, _: "%g" % (at / 1e6))
+    axes.set_ylim(-0.05 * height, 1.2 * height)
+    axes.tick_params(labelsize=8)
+    axes.grid(True, alpha=0.25)
+    axes.legend(loc="lower right", fontsize=8)
+    figure.savefig(to, metadata={"Date": None} if to.endswith(".svg") else None, dpi=110)
 
 
 if __name__ == "__main__":
     lines = [int(line) for line in sys.stdin]
-    sys.stdout.write(draw(lines[:3], lines[3:], int(sys.argv[1])))
+    draw(lines[:3], lines[3:], int(sys.argv[1]), sys.argv[2])

@@ -1,5 +1,5 @@
 #!/usr/bin/env python3
-"""Makes the recordings of this folder and what each must give, and what the gate runs the replay program on.
+"""Makes the recordings of this folder and what each must give, and what the gate runs the replay program on; of plug_left_in the answer alone.
 
     python3 samples/make.py
 
@@ -42,13 +42,20 @@ def torsion():
 
 
 def pulled_plug():
-    """The plug is pulled for a quarter turn: the samples freeze, and jump when it is pushed back. The operator's `rate` record
-    follows; the next N·M = 6 outputs tell 6 down to 1, and after them the trace may be believed again."""
+    """The plug is pulled for a quarter turn, from sample 641 on: the samples freeze, and jump at 801, when it is pushed back. The operator's
+    `rate` record follows 809. Outputs 41 to 51 (samples 641 to 801) are false and told 0: nobody had told the filter. Of the next N·M = 6,
+    told 6 down to 1, all but the last are false too. From output 58 on all is right and told 0. Outputs 1 to 6 have zeros from before the
+    start in them, told 0 as well."""
     before = counts(0, TURN, ORDERS)
     frozen = [before[-1]] * 160
     after = counts(TURN + 160, 2 * TURN, ORDERS)
     jump = after[0] + sum(counts(TURN, TURN + 160, ORDERS)) - sum(frozen)
     return ["cic\t3\t2\t15"] + lines(before + frozen + [jump] + after[1:9]) + ["rate\t15"] + lines(after[9:])
+
+
+def plug_left_in():
+    """The same shaft through the same filter, the plug never pulled: what pulled_plug should have given."""
+    return ["cic\t3\t2\t15"] + lines(counts(0, 2 * TURN, ORDERS))
 
 
 def long_run():
@@ -62,6 +69,8 @@ def long_run():
 
 
 def main():
+    with open(os.path.join(HERE, "plug_left_in.out"), "wb") as out:
+        out.write(replay(("\n".join(plug_left_in()) + "\n").encode()))
     for name, record in [("steady", steady), ("torsion", torsion), ("pulled_plug", pulled_plug), ("long_run", long_run)]:
         recording = ("\n".join(record()) + "\n").encode()
         answer = replay(recording)

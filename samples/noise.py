@@ -1,7 +1,8 @@
 #!/usr/bin/env python3
 """What the clock stage does to its input (document 02, A14), from the outputs of the program clock_stage (`rt check clock_stage`).
 
-    python3 samples/noise.py samples/noise.png    draws the spectra of K = 1, 2, 3 on a small constant (wants numpy and matplotlib)
+    python3 samples/noise.py samples/noise.png    draws the spectra of K = 1, 2, 3 on a small constant (wants matplotlib, Debian's
+                                                  python3-matplotlib)
     python3 samples/noise.py --bound              for each K the run that leaves its input farthest behind, of all runs of K + 1 inputs
                                                   under which the last accumulator is 0 or 2^32 - 1
 
@@ -86,14 +87,17 @@ def draw(to):
         left.semilogx(middle, guide - 10 * numpy.log10(12), color=colour, linestyle=":", linewidth=1)
         right.semilogx(middle, shape, color=colour, label="K = %d: %.0f dB a decade" % (order, slope(shape)))
         right.semilogx(middle, guide, color="black", linestyle=":", linewidth=1)
-    left.set_title("outputs, input %d of 2^32; dotted: |2 sin(πf)|^K" % constant, fontsize=10)
-    right.set_title("outputs over last accumulator; dotted: |2 sin(πf)|^K", fontsize=10)
-    left.set_ylabel("dB")
+    left.set_title("the outputs' noise at the input %d of 2^32" % constant, fontsize=10)
+    right.set_title("the same over the last accumulator's", fontsize=10)
+    left.set_ylabel("power density in dB of a step of one")
+    right.set_ylabel("ratio in dB")
     for side in (left, right):
-        side.set_xlabel("frequency / clock")
+        side.plot([], [], color="black", linestyle=":", linewidth=1, label="|2 sin(π frequency)|^K")
+        side.set_xlabel("frequency, in parts of the clock")
         side.grid(True, which="major", alpha=0.3)
-        side.legend(loc="lower right")
-    left.set_ylim(-170, 25)
+        side.axhline(0, color="#444444", linewidth=0.8)
+        side.legend(loc="lower right", fontsize=9)
+        side.set_ylim(-175, 25)
     figure.tight_layout()
     figure.savefig(to, dpi=80)
 
