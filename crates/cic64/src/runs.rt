@@ -101,7 +101,8 @@ impl Cic {
 }
 
 // The settled part of what a decimator's block wrote: the written outputs less the first `told`, the count that the
-// block told. Empty where too few are written to settle, and where more are said to be written than out holds.
+// block told. No input from before the last set_rate, resume, clear or new is in them; whether the inputs since were good
+// ones it can't say. Empty where too few are written to settle, and where more are said to be written than out holds.
 pub fn settled_part(out: &[Word], written: usize, told: usize) -> &[Word]
     ensures { λ r. ⌜ now r ≡ settledPart (now (out .entry)) written told ⌝ }
 {

@@ -14,8 +14,8 @@ ghost use Rattle.cic64.specs.Reading.{stateOf, countedOf, cicOf};
 ghost use Rattle.cic64.specs.Answers.{madeOf};
 
 // N = order integrators, N delay lines of M = delay cells, line j at 8 j .. 8 j + M of combs, the oldest cell
-// first. Rate is R - 1. Outputs are unsettled while `unsettled` is above 0; `inputs` is the number of inputs taken.
-// Cells beyond N and M never matter.
+// first. Rate is R - 1. Outputs are unsettled while `unsettled` is above 0: cells from before the last set_rate or
+// resume may be in them. `inputs` is the number of inputs taken. Cells beyond N and M never matter.
 pub struct Cic {
     pub order: usize,
     pub delay: usize,
@@ -73,8 +73,8 @@ pub(crate) fn kept(state: Cic, number: u32) -> Made
 }
 
 impl Cic {
-    // A state of zeros, settled, whose first step gives an output and is input number 1. Refused: the number, and the
-    // blank state.
+    // A state of zeros, settled, whose first step gives an output and is input number 1. Outputs up to input
+    // N·(R·M - 1) have zeros in them for what was before. Refused: the number, and the blank state.
     pub fn new(order: usize, delay: usize, rate: u32) -> Made
         ensures { λ r. ⌜ r ≡ madeOf (newNumber order delay rate) (newCounted wordOps order delay rate) ⌝ }
     {
@@ -142,7 +142,8 @@ impl Cic {
     }
 
     // The state at another rate: cells, hold, countdown and number of inputs stay, and the next N·M outputs are
-    // unsettled, also at the same rate.
+    // unsettled, also at the same rate. To be called when a pulled plug is back in: the filter can't see it. What was
+    // given since the pull is told 0 and false.
     pub fn set_rate(self, rate: u32) -> Made
         ensures { λ r. ⌜ r ≡ madeOf (rateNumber (stateOf self) rate) (rateCounted wordOps (countedOf self) rate) ⌝ }
     {
@@ -162,7 +163,7 @@ impl Cic {
         }
     }
 
-    // The state of zeros, settled, at the same order, delay and rate; its next input is number 1.
+    // The state of zeros, settled, at the same order, delay and rate, as `new` gives it; its next input is number 1.
     pub fn clear(self) -> Made
         ensures { λ r. ⌜ r ≡ madeOf (refusal (stateOf self)) (clearCounted wordOps (countedOf self)) ⌝ }
     {

@@ -10,7 +10,7 @@ ghost use Rattle.shape.specs.Answers.{writtenOf};
 
 // What a decimator's block wrote: the count of its outputs, and what it tells of the first, the unsettled count that
 // it found and its input's number, both 0 where there is none. Output i of the block counts as told that count less i,
-// not below 0, and its number is i·R more.
+// not below 0, and its number is i·R more. Told 0: no input from before the last set_rate, resume, clear or new is in it.
 pub struct Written {
     pub count: usize,
     pub told: usize,
