@@ -1,7 +1,8 @@
 """x86-64 programs on another processor: Rust compiled for x86-64, and instructions counted under QEMU.
 
-A rustc with a std for x86-64 and an emulator that takes plugins are Debian's rustc-web and qemu-user, fetched into target/bench/debian
-and not installed. Programs are linked and run with the toolchain's own linker and C library, as the proved ones are.
+A rustc with a std for x86-64 and an emulator that takes plugins are Debian 12's rustc-web and qemu-user where the machine has none of its own.
+They are fetched with apt, which must know that Debian's archive, and not installed: they stand in DEBIAN, some 770 MB with the Rust and 120 MB without
+it, outside target/, which the gate removes. Programs are linked and run with the toolchain's own linker and C library, as the proved ones are.
 """
 import glob
 import os
@@ -9,15 +10,34 @@ import platform
 import re
 import shutil
 import subprocess
+import sys
 import urllib.request
 
 HERE = os.path.dirname(os.path.abspath(__file__))
 ROOT = os.path.dirname(HERE)
 WORK = os.path.join(ROOT, "target", "bench")
-DEBIAN = os.path.join(WORK, "debian")
+CACHE = os.environ.get("XDG_CACHE_HOME") or os.path.join(os.path.expanduser("~"), ".cache")
+DEBIAN = os.path.join(CACHE, "mittenload", "debian")
 NATIVE = platform.machine() == "x86_64"
 TARGET = "x86_64-unknown-linux-gnu"
-PACKAGES = ["rustc-web", "libstd-rust-web-1.85", "libstd-rust-web-dev", "libllvm19", "qemu-user", "libcapstone4", "liburing2"]
+# Each with the version that it was used in here; whichever revision of that the archive has is taken.
+RUST = {"rustc-web": "1.85.0", "libstd-rust-web-1.85": "1.85.0", "libstd-rust-web-dev": "1.85.0", "libllvm19": "1:19.1.7"}
+QEMU = {"qemu-user": "1:7.2", "libcapstone4": "4.0.2", "liburing2": "2.3"}
+
+
+def stop(words):
+    sys.exit("bench: " + words)
+
+
+def need(program, how):
+    """A program that the machine must have."""
+    if not shutil.which(program):
+        stop("no %s here: %s" % (program, how))
+
+
+def need_built(path, name):
+    if not os.path.exists(os.path.join(ROOT, path)):
+        stop("no %s: rt check %s" % (path, name))
 
 
 def kit():
@@ -30,18 +50,35 @@ def tools():
     return os.path.join(kit(), "on", platform.machine(), "toolchain")
 
 
-def unpack(package, foreign=False):
-    """A Debian package's files, below DEBIAN; a foreign one is x86-64's."""
-    said = subprocess.check_output(["apt-get", "download", "--print-uris", package], text=True)
-    url = re.search(r"'(\S+)'", said).group(1)
-    if foreign:
-        url = re.sub(r"_[a-z0-9]+\.deb$", "_amd64.deb", url)
-    kept = os.path.join(DEBIAN, os.path.basename(url))
-    if not os.path.exists(kept):
-        os.makedirs(DEBIAN, exist_ok=True)
-        urllib.request.urlretrieve(url, kept + ".part")
-        os.rename(kept + ".part", kept)
-        subprocess.run(["dpkg", "-x", kept, DEBIAN], check=True)
+def revision(package, version):
+    """The whole version of a package that apt would fetch."""
+    need("apt-cache", "it fetches Debian's packages")
+    said = subprocess.run(["apt-cache", "madison", package], stdout=subprocess.PIPE, text=True).stdout
+    found = [line.split("|")[1].strip() for line in said.splitlines() if "|" in line]
+    fit = [v for v in found if re.match(re.escape(version) + r"([^0-9]|$)", v)]
+    if not fit:
+        stop("apt has no %s %s (it has: %s). It is Debian 12's; let apt know that archive, or bring your own rustc, num-traits or qemu-user"
+             % (package, version, ", ".join(found) or "none"))
+    return fit[0]
+
+
+def unpack(packages, foreign=()):
+    """Debian packages' files, below DEBIAN; a foreign one is x86-64's."""
+    for package, version in packages.items():
+        said = subprocess.run(["apt-get", "download", "--print-uris", "%s=%s" % (package, revision(package, version))], stdout=subprocess.PIPE, text=True).stdout
+        url = re.search(r"'(\S+)'", said).group(1)
+        for url in [url] + [re.sub(r"_[a-z0-9]+\.deb$", "_amd64.deb", url)] * (package in foreign):
+            kept = os.path.join(DEBIAN, os.path.basename(url))
+            if os.path.exists(kept):
+                continue
+            os.makedirs(DEBIAN, exist_ok=True)
+            print("bench: fetching %s into %s" % (os.path.basename(url), DEBIAN), file=sys.stderr)
+            try:
+                urllib.request.urlretrieve(url, kept + ".part")
+            except OSError as error:
+                stop("can't fetch %s: %s" % (url, error))
+            subprocess.run(["dpkg", "-x", kept + ".part", DEBIAN], check=True)
+            os.rename(kept + ".part", kept)
 
 
 def script(name, text):
@@ -52,19 +89,30 @@ def script(name, text):
     return path
 
 
-def debian():
-    """Debian's rustc and emulator, as two scripts."""
-    for package in PACKAGES:
-        unpack(package)
-    unpack("libstd-rust-web-dev", foreign=True)
+def own(program, name):
+    """A script that runs one of Debian's programs with Debian's libraries."""
     libraries = glob.glob(os.path.join(DEBIAN, "usr", "lib", "*-linux-gnu"))[0]
-    own = "LD_LIBRARY_PATH=%s exec %s/usr/bin/%%s \"$@\"\n" % (libraries, DEBIAN)
-    return script("rustc", own % "rustc"), script("qemu", own % "qemu-x86_64")
+    return script(name, "LD_LIBRARY_PATH=%s exec %s/usr/bin/%s \"$@\"\n" % (libraries, DEBIAN, program))
+
+
+def rustc():
+    """A compiler for x86-64: the machine's own on x86-64, else Debian's."""
+    if NATIVE:
+        need("rustc", "rustup has one, or Debian's rustc; 1.85 or newer")
+        return "rustc"
+    unpack(RUST, foreign=["libstd-rust-web-dev"])
+    return own("rustc", "rustc")
 
 
 def emulator():
-    """An emulator that takes plugins: the machine's own where it has one, else Debian's."""
-    return shutil.which("qemu-x86_64") or debian()[1]
+    """An emulator that takes plugins of this form (QEMU 5 to 8): the machine's own where it has one, else Debian 12's."""
+    here = shutil.which("qemu-x86_64")
+    said = subprocess.run([here, "--version"], stdout=subprocess.PIPE, text=True).stdout if here else ""
+    version = re.search(r"version (\d+)", said)
+    if version and 5 <= int(version.group(1)) <= 8:
+        return here
+    unpack(QEMU)
+    return own("qemu-x86_64", "qemu")
 
 
 def linker():
@@ -84,6 +132,7 @@ def linker():
 
 def counts(program, words, stdin=None, stdout=None):
     """Runs a program under the emulator and gives the instruction counts that it wrote: at each getpid, and at its end."""
+    need("cc", "apt-get install gcc")
     plugin, said, at = os.path.join(WORK, "count.so"), os.path.join(WORK, "counts"), os.path.join(tools(), "lib")
     subprocess.run(["cc", "-shared", "-fPIC", "-O2", "-o", plugin, os.path.join(HERE, "count.c")], check=True)
     loader = [] if NATIVE else [os.path.join(at, "ld-linux-x86-64.so.2"), "--library-path", at]

@@ -22,7 +22,7 @@ sys.path.insert(0, os.path.dirname(HERE))
 import x86
 from x86 import DEBIAN, NATIVE, ROOT, TARGET, WORK
 
-CRATES = ["librust-num-traits-dev", "librust-autocfg-dev"]
+CRATES = {"librust-num-traits-dev": "0.2.15", "librust-autocfg-dev": "1.1.0"}
 REGISTRY = "usr/share/cargo/registry"
 
 
@@ -33,13 +33,16 @@ def run(words, **more):
 def registry():
     if glob.glob("/%s/num-traits-*" % REGISTRY):
         return "/" + REGISTRY
-    for package in CRATES:
-        x86.unpack(package)
+    x86.unpack(CRATES)
     return os.path.join(DEBIAN, REGISTRY)
 
 
 def build(src):
     """The program that holds both."""
+    x86.need("cargo", "rustup has one, or Debian's cargo")
+    x86.need("llvm-objdump", "apt-get install llvm")
+    if not os.path.exists(os.path.join(ROOT, src, "cic.rs")):
+        x86.stop("no text of the crate idsp 0.23.1 in %s: name its src folder" % src)
     run(["rt", "staticlib", "bench_exports"], cwd=ROOT, stdout=subprocess.DEVNULL)
     os.makedirs(WORK, exist_ok=True)
     run(["oracle/run", "--text", os.path.join("target", "bench", "oracle"), src], cwd=ROOT)
@@ -51,7 +54,7 @@ def build(src):
     flags = "-L native=%s -l static=bench_exports" % os.path.join(ROOT, "target", "staticlib")
     env = dict(os.environ)
     if not NATIVE:
-        env.update({"RUSTC": x86.debian()[0], "CARGO_TARGET_X86_64_UNKNOWN_LINUX_GNU_LINKER": x86.linker()})
+        env.update({"RUSTC": x86.rustc(), "CARGO_TARGET_X86_64_UNKNOWN_LINUX_GNU_LINKER": x86.linker()})
         flags += " -C linker-flavor=ld.lld"
     env["CARGO_TARGET_X86_64_UNKNOWN_LINUX_GNU_RUSTFLAGS"] = flags
     run(["cargo", "build", "--offline", "--quiet", "--release", "--target", TARGET], cwd=harness, env=env)

@@ -3,8 +3,8 @@
 
     rt check replay && python3 bench/replay/bench.py
 
-Programs are compiled for x86-64, and their instructions are counted under an emulator. On another processor the twin's rustc is the
-one that ../x86.py fetches; on x86-64 it wants rustc and qemu-user. The time under an emulator says nothing, so for the bytes a second the program's LLVM module is compiled for this processor by
+Programs are compiled for x86-64, and their instructions are counted under an emulator, the machine's own or the one that ../x86.py fetches. On another
+processor the twin's rustc is fetched too; on x86-64 it wants rustc. The time under an emulator says nothing, so for the bytes a second the program's LLVM module is compiled for this processor by
 the toolchain's own clang at -O3, and both programs run natively: the same module and flags, another back end.
 """
 import os
@@ -98,8 +98,7 @@ def instructions(program, path, want):
 def compiled(work, name, words=()):
     """The twin."""
     program = os.path.join(work, name)
-    rustc = "rustc" if x86.NATIVE else x86.debian()[0]
-    words = [rustc, "--edition", "2021", "-C", "opt-level=3"] + list(words)
+    words = [x86.rustc(), "--edition", "2021", "-C", "opt-level=3"] + list(words)
     subprocess.run(words + ["-o", program, os.path.join(HERE, "twin.rs")], check=True)
     return program
 
@@ -140,6 +139,7 @@ def measure(name, bits, rate, work, native, counted):
 def main():
     work = tempfile.mkdtemp()
     try:
+        x86.need_built("target/bin/replay", "replay")
         os.makedirs(x86.WORK, exist_ok=True)
         proved = os.path.join(ROOT, "target", "bin", "replay") if x86.NATIVE else retargeted(work)
         twin = compiled(work, "twin")

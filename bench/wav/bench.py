@@ -27,8 +27,7 @@ def built():
     program = os.path.join(x86.WORK, "wav_harness")
     words = [] if x86.NATIVE else ["--target", x86.TARGET, "-C", "linker=" + x86.linker(), "-C", "linker-flavor=ld.lld"]
     words += ["-L", "native=" + os.path.join(x86.ROOT, "target", "staticlib"), "-l", "static=bench_wav", "-o", program]
-    rustc = "rustc" if x86.NATIVE else x86.debian()[0]
-    subprocess.run([rustc, "--edition", "2021", "-C", "opt-level=3"] + words + [os.path.join(HERE, "harness.rs")], check=True)
+    subprocess.run([x86.rustc(), "--edition", "2021", "-C", "opt-level=3"] + words + [os.path.join(HERE, "harness.rs")], check=True)
     return program
 
 
@@ -36,6 +35,7 @@ def instructions(program, name, count):
     words = [name, str(count)]
     if not x86.NATIVE:
         return x86.counts(program, words)[-1]
+    x86.need("valgrind", "apt-get install valgrind")
     valgrind = ["valgrind", "--tool=callgrind", "--callgrind-out-file=/dev/null", program]
     said = subprocess.run(valgrind + words, check=True, stderr=subprocess.PIPE, text=True).stderr
     return int(re.search(r"Collected : (\d+)", said).group(1))
