@@ -236,12 +236,12 @@ def bands(axes, answer, point):
     if not len(answer.values):
         return
     half = halves(answer.places)
-    across = dict(transform=axes.get_xaxis_transform(), linewidth=0)
+    across = dict(transform=axes.get_xaxis_transform(), linewidth=0, zorder=3 if len(answer.values) > MANY else 1)   # over an envelope
     axes.broken_barh(spans(answer.places, answer.run_in, half, BAND * point), (0, 1), facecolor=RUN_IN, alpha=0.2,
                      label=SAYS_RUN_IN if answer.run_in.any() else None, **across)
     for a, b in runs(answer.told > 0) if (answer.told > 0).sum() <= FEW else []:
         if 2 * half[a:b].min() < BAND * point:
-            axes.broken_barh(spans(answer.places, some(answer, a, b), half, BAND * point), (0, 1), facecolor=UNSETTLED, alpha=0.35, **across)
+            axes.broken_barh(spans(answer.places, some(answer, a, b), half, BAND * point), (0, 1), facecolor=UNSETTLED, alpha=0.75 if len(answer.values) > MANY else 0.35, **across)
             continue
         began = 0
         for i in range(a, b):
@@ -250,7 +250,7 @@ def bands(axes, answer, point):
             if 2 * half[i] > 6 * len(str(answer.told[i])) * point:
                 axes.text(answer.places[i], 0.02, str(answer.told[i]), ha="center", fontsize=8, transform=axes.get_xaxis_transform())
     if (answer.told > 0).sum() > FEW:
-        axes.broken_barh(spans(answer.places, answer.told > 0, half, BAND * point), (0, 1), facecolor=UNSETTLED, alpha=0.35, **across)
+        axes.broken_barh(spans(answer.places, answer.told > 0, half, BAND * point), (0, 1), facecolor=UNSETTLED, alpha=0.75 if len(answer.values) > MANY else 0.35, **across)
 
 
 def some(answer, a, b):

@@ -42,7 +42,41 @@ def widths(picture):
     return [max(map(float, f)) - min(map(float, f)) for f in found]
 
 
+def numbered():
+    """The `x` record that each output stands for, held to the model's steps."""
+    import random
+    sys.argv[1:] = []
+    from draw import Answer, Recording
+    from model import Cic, replay
+    rng = random.Random(5)
+    with tempfile.TemporaryDirectory() as folder:
+        path = os.path.join(folder, "recording")
+        for _ in range(300):
+            words = [3, rng.randint(1, 3), rng.choice([0, 1, 4, 15])]
+            lines, cic, taken, want = ["cic\t%d\t%d\t%d" % tuple(words)], Cic(1 << 32, *words), 0, []
+            for _ in range(rng.choice([0, 1, 30, 300])):
+                kind = rng.random()
+                if kind < 0.03:
+                    rate = rng.choice([0, 1, 4, 15])
+                    lines.append("rate\t%d" % rate)
+                    cic.set_rate(rate)
+                elif kind < 0.05:
+                    lines.append("clear")
+                    cic.clear()
+                else:
+                    lines.append("x\t%d" % rng.randint(-9, 9))
+                    taken += 1
+                    want += [taken] if cic.step(0) else []
+            data = ("\n".join(lines) + "\n").encode()
+            with open(path, "wb") as out:
+                out.write(data)
+            answer = Answer("a", replay(data))
+            Recording(path).places(answer)
+            assert answer.places.tolist() == want, (lines, answer.places, want)
+
+
 def main():
+    numbered()
     says("y\t5\t0\nend\t1\n", "1 output<")
     says("end\t0\n", "no output", "0 outputs")
     says("y\t5\t0\nbad\t4\t75\t2\n", "refused at line 4, field 2: 75, not a well-formed number")
