@@ -18,10 +18,14 @@ import sys
 
 from front import refusals
 
+DEBIANS = "/usr/bin/python3"   # which has Debian's matplotlib, where another python3 stands before it
 try:
     import matplotlib
 except ImportError:
-    sys.exit("samples/draw.py: wants matplotlib for %s: apt-get install python3-matplotlib, or pip install matplotlib" % sys.executable)
+    if __name__ == "__main__" and os.path.realpath(sys.executable) != os.path.realpath(DEBIANS) and os.access(DEBIANS, os.X_OK):
+        os.execv(DEBIANS, [DEBIANS] + sys.argv)
+    print("samples/draw.py: wants matplotlib for %s: apt-get install python3-matplotlib, or pip install matplotlib" % sys.executable, file=sys.stderr)
+    sys.exit(2)
 import numpy
 
 FEW, MANY, COLUMNS = 150, 2500, 900
