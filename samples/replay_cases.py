@@ -148,6 +148,22 @@ def odd(folder):
     assert run_.returncode == 2 and out == b"" and b"reset" in said, (run_.returncode, out, said)
 
 
+def killed(folder):
+    """A front that is killed leaves no `end` behind that the input doesn't have."""
+    path = os.path.join(folder, "killed")
+    with open(path, "wb") as out:
+        run_ = subprocess.Popen([FRONT], stdin=subprocess.PIPE, stdout=out, bufsize=0)
+    run_.stdin.write(OPEN + b"x\t5\n")
+    while os.path.getsize(path) == 0:
+        time.sleep(0.01)
+    os.kill(run_.pid, signal.SIGKILL)
+    run_.wait()
+    run_.stdin.close()
+    time.sleep(0.5)
+    with open(path, "rb") as out:
+        assert out.read() == b"y\t5\t0\n"
+
+
 def large(folder):
     path, size = os.path.join(folder, "large"), 100_000_000
     for rate in (0, 63):
@@ -176,7 +192,7 @@ def main():
         if "--large" in sys.argv[1:]:
             large(folder)
             return
-        for part in (good, refused, neither, odd):
+        for part in (good, refused, neither, odd, killed):
             part(folder)
     print("samples/replay: every way of ending as its help says")
 
