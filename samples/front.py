@@ -66,7 +66,7 @@ def needed():
 def build():
     """`rt check replay`, told crate by crate."""
     if not shutil.which("rt"):
-        raise Failed("the program isn't built, and the Rattle toolchain's `rt` is not in PATH")
+        raise Failed("the program is to be built, and the Rattle toolchain's `rt` is not in PATH")
     names, done, began, said = needed(), set(), time.monotonic(), time.monotonic()
     say("proving and building the program with `rt check replay`: %d crates, 3 to 6 minutes from nothing on two cores" % len(names))
     run = subprocess.Popen(["rt", "check", "replay"], cwd=ROOT, stdin=subprocess.DEVNULL, stdout=subprocess.PIPE, stderr=subprocess.STDOUT)
