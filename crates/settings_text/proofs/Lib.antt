@@ -2,4 +2,5 @@ pub mod Names
 pub mod Nibbles
 pub mod Stores
 pub mod Lines
-pub mod FormOne
+pub mod Forms
+pub mod Moves

@@ -2,3 +2,4 @@ pub mod Stores
 pub mod Fields
 pub mod Lines
 pub mod Laws
+pub mod Moves

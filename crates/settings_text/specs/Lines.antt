@@ -1,4 +1,4 @@
--- 02, A7: a record's line, and form 1.
+-- 02, A7 and A12: a record's line, and the two forms.
 use mathlib.Core.Bool.{Bool, true, false, cond, _&&_}
 use mathlib.Core.List.{List, [], _∷_}
 use mathlib.Core.Option.{Option, none, some}
@@ -6,6 +6,7 @@ use Prim.Native.Nat.{ℕ}
 use lib.Dec.{leb, eqb}
 use lib.IntN.{ℤ, pos, negsuc, natAbs}
 use lib.ListN.{length}
+use lib.Signed.{ltZ}
 use Rattle.sums.specs.Calls.{newNumber}
 use Rattle.text.specs.Letters.{bytes, tab}
 use Rattle.text.specs.Numbers.{decimalOf}
@@ -13,23 +14,29 @@ use Rattle.text.specs.Parts.{parted, joinedBy}
 use Rattle.text.specs.Ranges.{unsigned, signed, allLie, numberIn, numbersIn, texts}
 use Rattle.text.specs.Same.{same}
 use Rattle.wdf.specs.Calls.{sectionsNumber}
-use Rattle.settings_text.specs.Stores.{Form}
+use Rattle.settings_text.specs.Stores.{Form, orElse}
 use Rattle.settings_text.specs.Fields.{isName, nibblesOf, nibblesIn}
+use Rattle.settings_text.specs.declared.version.Version.{Version}
+use Rattle.settings_text.specs.declared.version.Version.the-variants.{One, Two}
 
--- `cic`: name, N, M, rate. `wdf`: name, architecture, and a coefficient for each section
+-- `cic`: name, N, M, and the rate in form 1 or R itself in form 2. `wdf`: name, architecture, and a coefficient for each section.
+-- `dither`: name, F, and five coefficients, offset, lower and upper limit
 pub data Setting : Type 0 where
   Cic : List ℕ → ℕ → ℕ → ℕ → Setting
   Wdf : List ℕ → ℕ → List ℤ → Setting
+  Dither : List ℕ → ℕ → List ℤ → Setting
 
 abbrev pub recordName : Setting → List ℕ
 recordName (Cic name n m rate) = name
 recordName (Wdf name arch cs) = name
+recordName (Dither name f cs) = name
 
--- fields with tabs: `cic`, name, N, M, rate; or `wdf`, name, the number of sections, that many nibbles in one field, then each
--- coefficient's bits in decimal
+-- fields with tabs: `cic`, name, N, M, rate or R; or `wdf`, name, the number of sections, that many nibbles in one field, then each
+-- coefficient's bits in decimal; or `dither`, name, F, five coefficients' bits, offset, lower and upper limit
 unfoldable pub fieldsOf : Setting → List (List ℕ)
 fieldsOf (Cic name n m rate) = bytes "cic" ∷ name ∷ texts (pos n ∷ pos m ∷ pos rate ∷ [])
 fieldsOf (Wdf name arch cs) = bytes "wdf" ∷ name ∷ decimalOf (length cs) ∷ nibblesOf (length cs) arch ∷ texts cs
+fieldsOf (Dither name f cs) = bytes "dither" ∷ name ∷ decimalOf f ∷ texts cs
 
 unfoldable pub recordLine : Setting → List ℕ
 recordLine s = joinedBy tab (fieldsOf s)
@@ -68,36 +75,79 @@ wdfIn name [] = none
 wdfIn name (k ∷ []) = none
 wdfIn name (k ∷ nibbles ∷ fields) = wdfBy name k nibbles (numbersIn signed fields)
 
--- by the first field
-unfoldable pub kindIn : List ℕ → List ℕ → List (List ℕ) → Option Setting
-kindIn kind name fields = cond (same kind (bytes "cic")) (cicIn name fields) (cond (same kind (bytes "wdf")) (wdfIn name fields) none)
+-- F and eight numbers
+abbrev pub ditherBy : List ℕ → Option ℤ → Option (List ℤ) → Option Setting
+ditherBy name none cs = none
+ditherBy name (some f) none = none
+ditherBy name (some f) (some cs) = cond (eqb (length cs) 8) (some (Dither name (natAbs f) cs)) none
 
-abbrev pub fieldsIn : List (List ℕ) → Option Setting
-fieldsIn [] = none
-fieldsIn (kind ∷ []) = none
-fieldsIn (kind ∷ name ∷ fields) = cond (isName name) (kindIn kind name fields) none
+-- u32 for F, i32 for the others; form 1 has no such record
+unfoldable pub ditherIn : Version → List ℕ → List (List ℕ) → Option Setting
+ditherIn One name fields = none
+ditherIn Two name [] = none
+ditherIn Two name (f ∷ fields) = ditherBy name (numberIn unsigned f) (numbersIn signed fields)
+
+-- by the first field
+unfoldable pub kindIn : Version → List ℕ → List ℕ → List (List ℕ) → Option Setting
+kindIn v kind name fields =
+    cond (same kind (bytes "cic")) (cicIn name fields)
+    (cond (same kind (bytes "wdf")) (wdfIn name fields) (cond (same kind (bytes "dither")) (ditherIn v name fields) none))
+
+abbrev pub fieldsIn : Version → List (List ℕ) → Option Setting
+fieldsIn v [] = none
+fieldsIn v (kind ∷ []) = none
+fieldsIn v (kind ∷ name ∷ fields) = cond (isName name) (kindIn v kind name fields) none
 
 -- lines are at most 160 bytes before the newline
-unfoldable pub recordIn : List ℕ → Option Setting
-recordIn line = cond (leb (length line) 160) (fieldsIn (parted tab line)) none
+unfoldable pub recordIn : Version → List ℕ → Option Setting
+recordIn v line = cond (leb (length line) 160) (fieldsIn v (parted tab line)) none
 
--- a record has a line where its name is one and its numbers are of their types
-unfoldable pub formed : Setting → Bool
-formed (Cic name n m rate) = isName name && allLie unsigned (pos n ∷ pos m ∷ pos rate ∷ [])
-formed (Wdf name arch cs) = isName name && allLie signed cs
+-- a record has a line where its name is one and its numbers are of their types, a `dither` record in form 2 alone
+unfoldable pub formed : Version → Setting → Bool
+formed v (Cic name n m rate) = isName name && allLie unsigned (pos n ∷ pos m ∷ pos rate ∷ [])
+formed v (Wdf name arch cs) = isName name && allLie signed cs
+formed One (Dither name f cs) = false
+formed Two (Dither name f cs) = isName name && (allLie unsigned (pos f ∷ []) && (eqb (length cs) 8 && allLie signed cs))
 
--- the parameter numbers: those of `Cic::new` and of `Wdf::new`
-unfoldable pub parameters : Setting → ℕ
-parameters (Cic name n m rate) = newNumber n m rate
-parameters (Wdf name arch cs) = sectionsNumber (length cs) arch
+-- the parameter numbers of a `cic`: those of `Cic::new` with the rate, and in form 2 those with 12 for R outside 1..65,536
+abbrev pub cicNumber : Version → ℕ → ℕ → ℕ → ℕ
+cicNumber One n m rate = newNumber n m rate
+cicNumber Two n m r = orElse (newNumber n m 0) (cond (leb 1 r && leb r 65536) 0 12)
 
--- first line: `set` and 1
-unfoldable pub form1 : Form Setting
-form1 = record {
-  heading = bytes "set\t1";
+-- the lower limit above the upper one
+abbrev pub crossed : List ℤ → Bool
+crossed [] = false
+crossed (lower ∷ []) = false
+crossed (lower ∷ upper ∷ []) = ltZ upper lower
+crossed (c ∷ lower ∷ upper ∷ rest) = crossed (lower ∷ upper ∷ rest)
+
+-- those of a `dither`: 40, F outside 1..31; 41, lower limit above upper
+unfoldable pub ditherNumber : ℕ → List ℤ → ℕ
+ditherNumber f cs = cond (leb 1 f && leb f 31) (cond (crossed cs) 41 0) 40
+
+-- the parameter numbers; those of a `wdf` are those of `Wdf::new`
+unfoldable pub parameters : Version → Setting → ℕ
+parameters v (Cic name n m rate) = cicNumber v n m rate
+parameters v (Wdf name arch cs) = sectionsNumber (length cs) arch
+parameters v (Dither name f cs) = ditherNumber f cs
+
+-- first line: `set` and 1, or `set` and 2
+abbrev pub heading : Version → List ℕ
+heading One = bytes "set\t1"
+heading Two = bytes "set\t2"
+
+unfoldable pub formOf : Version → Form Setting
+formOf v = record {
+  heading = heading v;
   recordLine = recordLine;
-  recordIn = recordIn;
+  recordIn = recordIn v;
   recordName = recordName;
-  formed = formed;
-  parameters = parameters;
+  formed = formed v;
+  parameters = parameters v;
 }
+
+abbrev pub form1 : Form Setting
+form1 = formOf One
+
+abbrev pub form2 : Form Setting
+form2 = formOf Two
