@@ -311,7 +311,7 @@ fields-only v (kind ∷ name ∷ fs) s e =
     by true n false f false g false i k = absurd (let z : _≡_ {A = ℕ} 0 1 = cc in omega arith)
     by false n a f b g c i k = absurd (let z : _≡_ {A = ℕ} 0 1 = cc in omega arith)
 
-line-only : (v : Version) (l : List ℕ) (s : Setting) → recordIn v l ≡ some s → (l ≡ recordLine s) × (formed v s ≡ true)
+pub line-only : (v : Version) (l : List ℕ) (s : Setting) → recordIn v l ≡ some s → (l ≡ recordLine s) × (formed v s ≡ true)
 unfolding recordIn recordLine
 line-only v l s e = by (leb (length l) 160) e
   where

@@ -6,41 +6,34 @@ use mathlib.Core.Bool.{Bool, true, false, cond, _&&_}
 use mathlib.Core.List.{List, [], _∷_, _++_, map, append-nil}
 use Prim.Native.Nat.{ℕ, zero, suc, _+_, _-_, _%_, _/_, _^_, _≤_, _<_}
 use lib.Dec.{leb}
-use lib.IntN.{ℤ, pos, negsuc}
+use lib.IntN.{ℤ, pos}
 use lib.ListN.{length, take, replicate}
 use lib.Seq.{take-at}
 use mir.Syntax.{w32}
-use mir.Val.{SFits}
-use borrow.Author.Tests.{leb-true, leb-false, le-leb}
+use borrow.Author.Tests.{leb-false, le-leb}
 use Rattle.words.specs.Words.{wrap}
-use Rattle.words.proofs.Reading.{wrap-is}
 use Rattle.text.specs.Order.{precedes}
 use Rattle.text.specs.Ranges.{signed, unsigned, lies, allLie}
 use Rattle.text.proofs.Ranges.{two}
 use Rattle.settings_text.specs.Fields.{isName}
-use Rattle.settings_text.specs.Lines.{Setting, Cic, Wdf, formed, parameters, form1}
+use Rattle.settings_text.specs.Lines.{Setting, Cic, Wdf, Dither, formed, parameters, formOf}
 use Rattle.settings_text.specs.Stores.{Good, orElse, recordNumber, listedNumber, listFrom, listNumber, textOf, readOf}
-use Rattle.settings_text.proofs.FormOne.{only-text}
+use Rattle.settings_text.specs.declared.version.Version.{Version}
+use Rattle.settings_text.proofs.Forms.{only-text}
 use Rattle.settings_text.proofs.Lines.{wdf-small, below}
 use Rattle.settings_text.proofs.Names.{name-short}
 use Rattle.settings_text.proofs.Stores.{both-zero, write-zero, no-parameter}
 use Rattle.store.specs.Entries.{padTo, eight, padded, nameBytes, wholeName, entryOf, settingBy, entrySetting, recordsIn}
-use Rattle.store.specs.Entries.{storeNumber, emptyEntry}
+use Rattle.store.specs.Entries.{numberAs, emptyEntry}
 use Rattle.store.specs.Laws.{CopySame}
 use Rattle.store.specs.Reading.{found}
 use Rattle.store.specs.declared.settings.Entry.{Entry}
 use Rattle.store.specs.declared.settings.Kind.the-variants as kinds
 use Rattle.store.proofs.Ends.{name-back}
+use Rattle.store.proofs.Numbering.{kept, eight-words}
 use Rattle.store.proofs.Putting.{whole-name}
 
--- a coefficient of i32 is its word
-lies-fits : (z : ℤ) → lies signed z ≡ true → SFits w32 z
-lies-fits (pos v) h = let k = leb-true v 2147483647 h in record { sfits = omega arith }
-lies-fits (negsuc v) h = let k = leb-true (suc v) 2147483648 h in record { sfits = omega arith }
-
-kept : (z : ℤ) → lies signed z ≡ true → wrap w32 z ≡ z
-kept z h = wrap-is w32 z (lies-fits z h)
-
+-- coefficients of i32 are their words
 words-back : (k : ℕ) (cs : List ℤ) → length cs ≤ k → allLie signed cs ≡ true → take (length cs)
     (map (wrap w32) (padTo k (map (wrap w32) cs))) ≡ cs
 words-back k [] l h = refl
@@ -58,12 +51,12 @@ small arch k h e =
     let p : 16 ^ k ≤ 16 ^ 8 = pow-le-pow-right (omega arith) h in
     omega arith
 
-pub record-back : (s : Setting) → formed s ≡ true → parameters s ≡ 0 → entrySetting (entryOf s) ≡ s
+pub record-back : (v : Version) (s : Setting) → formed v s ≡ true → parameters v s ≡ 0 → entrySetting (entryOf s) ≡ s
 unfolding formed parameters entryOf settingBy
-record-back (Cic name n m rate) h e =
+record-back v (Cic name n m rate) h e =
     let a = two (isName name) (allLie unsigned (pos n ∷ pos m ∷ pos rate ∷ [])) h in
     ap (λ (x : List ℕ). Cic x n m rate) (name-whole name (name-short name (a .0)))
-record-back (Wdf name arch cs) h e =
+record-back v (Wdf name arch cs) h e =
     let a = two (isName name) (allLie signed cs) h in
     let w = wdf-small (length cs) arch e in
     let few = w .0 in
@@ -71,47 +64,51 @@ record-back (Wdf name arch cs) h e =
     let c : take (length cs) (map (wrap w32) (eight cs)) ++ replicate (length cs - 8) (pos 0) ≡ cs =
     rw z (append-nil (take (length cs) (map (wrap w32) (eight cs))) ∙ words-back 8 cs few (a .1)) in
     rw (name-whole name (name-short name (a .0)), small arch (length cs) few (w .1), c)
+record-back v (Dither name f cs) h e =
+    let w = eight-words v name f cs h in
+    rw (name-whole name (name-short name (w .named)), w .whole)
 
--- a list that isn't refused: its records come back, and there are at most 64
-records-back : (ss : List Setting) (k : ℕ) (last : List ℕ) → listFrom form1 k last ss ≡ 0 → map entrySetting (map entryOf ss) ≡ ss
-unfolding listFrom form1
-records-back [] k last h = refl
-records-back (s ∷ ss) k last h =
-    let z = both-zero form1 (listedNumber form1 k last s) (listFrom form1 (suc k) (form1 .recordName s) ss) h in
-    let w = write-zero form1 k last s (z .0) in
-    rw (record-back s (w .0) (no-parameter form1 k last s (w .1)), records-back ss (suc k) (form1 .recordName s) (z .1))
+module _ (v : Version) where
+  -- a list that isn't refused: its records come back, and there are at most 64
+  records-back : (ss : List Setting) (k : ℕ) (last : List ℕ) → listFrom (formOf v) k last ss ≡ 0 → map entrySetting (map entryOf ss) ≡ ss
+  unfolding listFrom formOf
+  records-back [] k last h = refl
+  records-back (s ∷ ss) k last h =
+      let z = both-zero (formOf v) (listedNumber (formOf v) k last s) (listFrom (formOf v) (suc k) ((formOf v) .recordName s) ss) h in
+      let w = write-zero (formOf v) k last s (z .0) in
+      rw (record-back v s (w .0) (no-parameter (formOf v) k last s (w .1)), records-back ss (suc k) ((formOf v) .recordName s) (z .1))
 
-room-of : (k : ℕ) (last : List ℕ) (s : Setting) → recordNumber form1 k last s ≡ 0 → k < 64
-unfolding recordNumber
-room-of k last s e = by (leb 64 k) refl e
-  where
-    by : (t : Bool) → leb 64 k ≡ t → cond t 83 (cond (precedes last (form1 .recordName s)) (form1 .parameters s) 82) ≡ 0 → k < 64
-    by true f g = absurd (omega arith)
-    by false f g = leb-false 64 k f
+  room-of : (k : ℕ) (last : List ℕ) (s : Setting) → recordNumber (formOf v) k last s ≡ 0 → k < 64
+  unfolding recordNumber
+  room-of k last s e = by (leb 64 k) refl e
+    where
+      by : (t : Bool) → leb 64 k ≡ t → cond t 83 (cond (precedes last ((formOf v) .recordName s)) ((formOf v) .parameters s) 82) ≡ 0 → k < 64
+      by true f g = absurd (omega arith)
+      by false f g = leb-false 64 k f
 
-at-most : (ss : List Setting) (k : ℕ) (last : List ℕ) → listFrom form1 k last ss ≡ 0 → k ≤ 64 → k + length ss ≤ 64
-unfolding listFrom
-at-most [] k last h r = omega arith
-at-most (s ∷ ss) k last h r =
-    let z = both-zero form1 (listedNumber form1 k last s) (listFrom form1 (suc k) (form1 .recordName s) ss) h in
-    let m = room-of k last s (write-zero form1 k last s (z .0) .1) in
-    let n = at-most ss (suc k) (form1 .recordName s) (z .1) (omega arith) in
-    omega arith
+  at-most : (ss : List Setting) (k : ℕ) (last : List ℕ) → listFrom (formOf v) k last ss ≡ 0 → k ≤ 64 → k + length ss ≤ 64
+  unfolding listFrom
+  at-most [] k last h r = omega arith
+  at-most (s ∷ ss) k last h r =
+      let z = both-zero (formOf v) (listedNumber (formOf v) k last s) (listFrom (formOf v) (suc k) ((formOf v) .recordName s) ss) h in
+      let m = room-of k last s (write-zero (formOf v) k last s (z .0) .1) in
+      let n = at-most ss (suc k) ((formOf v) .recordName s) (z .1) (omega arith) in
+      omega arith
 
-map-length : (ss : List Setting) → length (map entryOf ss) ≡ length ss
-map-length [] = refl
-map-length (s ∷ ss) = ap suc (map-length ss)
+  map-length : (ss : List Setting) → length (map entryOf ss) ≡ length ss
+  map-length [] = refl
+  map-length (s ∷ ss) = ap suc (map-length ss)
 
-settings-back : (ss : List Setting) → listNumber form1 ss ≡ 0 → recordsIn (found (Good ss) .settings) ≡ ss
-settings-back ss h =
-    let t : take (length ss) (map entryOf ss ++ replicate (64 - length ss) emptyEntry) ≡ map entryOf ss =
-    take-at (map entryOf ss) (replicate (64 - length ss) emptyEntry) (length ss) (map-length ss) in
-    ap (map entrySetting) t ∙ records-back ss 0 [] h
+  settings-back : (ss : List Setting) → listNumber (formOf v) ss ≡ 0 → recordsIn (found (Good ss) .settings) ≡ ss
+  settings-back ss h =
+      let t : take (length ss) (map entryOf ss ++ replicate (64 - length ss) emptyEntry) ≡ map entryOf ss =
+      take-at (map entryOf ss) (replicate (64 - length ss) emptyEntry) (length ss) (map-length ss) in
+      ap (map entrySetting) t ∙ records-back ss 0 [] h
 
-pub copy-same : CopySame
-unfolding storeNumber
-copy-same text ss e =
-    let o = only-text text ss e in
-    let b = settings-back ss (o .1) in
-    let m = at-most ss 0 [] (o .1) (omega arith) in
-    (rw (b, o .1, le-leb (length ss) 64 (omega arith)), ap (textOf form1) b ∙ sym (o .0))
+  pub copy-same : CopySame v
+  unfolding numberAs
+  copy-same text ss e =
+      let o = only-text v text ss e in
+      let b = settings-back ss (o .1) in
+      let m = at-most ss 0 [] (o .1) (omega arith) in
+      (rw (b, o .1, le-leb (length ss) 64 (omega arith)), ap (textOf (formOf v)) b ∙ sym (o .0))

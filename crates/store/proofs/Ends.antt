@@ -21,7 +21,9 @@ use Rattle.text.specs.Ranges.{allLie, lies, numberIn, numbersIn, signed, unsign
 use Rattle.text.specs.Same.{same}
 use Rattle.text.proofs.Ranges.{number-only, numbers-only, two}
 use Rattle.settings_text.specs.Fields.{isName, nibblesIn}
-use Rattle.settings_text.specs.Lines.{cicBy, cicIn, counts, kindIn, recordIn, wdfBy, wdfIn, wdfOf}
+use Rattle.settings_text.specs.Lines.{cicBy, cicIn, counts, ditherBy, ditherIn, kindIn, recordIn, wdfBy, wdfIn, wdfOf}
+use Rattle.settings_text.specs.declared.version.Version.{Version}
+use Rattle.settings_text.specs.declared.version.Version.the-variants.{One, Two}
 use Rattle.store.specs.Entries.{eight, entryOf, nameBytes, padTo, padded}
 use Rattle.store.specs.Reading.{archBy, fieldsFrom, lineRead, numbersRead, wordBy}
 use Rattle.store.specs.declared.line.Line.{Line}
@@ -243,9 +245,79 @@ module _ (name : Name) (kept : name ≡ padded (nameBytes name)) (line : List �
                     rw (g, k, i, x, wdf-some zs g .0, wdf-some zs g .1)
                     (ap (λ (n : Name). got n (kinds.Wdf (length zs) m) (eight zs)) (sym kept))
 
+-- F and eight numbers
+module _ (name : Name) (kept : name ≡ padded (nameBytes name)) (line : List ℕ) (from : ℕ) where
+  pub dither-one : lineRead none ≡ lineRead (ditherIn One (nameBytes name) (fieldsFrom line from))
+  unfolding ditherIn
+  dither-one = refl
+
+  pub dither-over : length line < from → lineRead none ≡ lineRead (ditherIn Two (nameBytes name) (fieldsFrom line from))
+  unfolding ditherIn
+  dither-over h = sym (rw (fields-over line from h))
+
+  module _ (h : from ≤ length line) (e : ℕ) (pe : e ≡ endOf 9 line from) where
+    abbrev f-field : List ℕ
+    f-field = take (e - from) (drop from line)
+
+    abbrev others : Option (List ℤ)
+    others = numbersIn signed (fieldsFrom line (e + 1))
+
+    dither-is : ditherIn Two (nameBytes name) (fieldsFrom line from) ≡ ditherBy (nameBytes name) (numberIn unsigned f-field) others
+    unfolding ditherIn
+    dither-is = rw (field-here line from h, ← pe)
+
+    pub dither-wrong : wordBy (numberIn unsigned f-field) ≡ Outside → lineRead none ≡ lineRead
+        (ditherIn Two (nameBytes name) (fieldsFrom line from))
+    dither-wrong q = sym (ap lineRead (dither-is ∙ by (numberIn unsigned f-field) q))
+      where
+        by : (o : Option ℤ) → wordBy o ≡ Outside → ditherBy (nameBytes name) o others ≡ none
+        by none g = refl
+        by (some z) g = absurd (let z : _≡_ {A = ℕ} 0 1 = cc in omega arith)
+
+    module _ (cs : Numbers) (pc : cs ≡ numbersRead others) where
+      pub dither-none : cs .found ≡ false → lineRead none ≡ lineRead (ditherIn Two (nameBytes name) (fieldsFrom line from))
+      dither-none t = sym (ap lineRead (dither-is ∙ by (numberIn unsigned f-field) others refl))
+        where
+          by : (x : Option ℤ) (o : Option (List ℤ)) → others ≡ o → ditherBy (nameBytes name) x o ≡ none
+          by none o g = refl
+          by (some z) none g = refl
+          by (some z) (some zs) g = absurd
+              (let t : true ≡ false = sym (ap (λ (x : Numbers). x .found) (pc ∙ ap numbersRead g))
+              ∙ t in let z : _≡_ {A = ℕ} 0 1 = cc in omega arith)
+
+      pub dither-other : (cs .count ≡ 8 → ⊥) → lineRead none ≡ lineRead (ditherIn Two (nameBytes name) (fieldsFrom line from))
+      dither-other d = sym (ap lineRead (dither-is ∙ by (numberIn unsigned f-field) others refl))
+        where
+          by : (x : Option ℤ) (o : Option (List ℤ)) → others ≡ o → ditherBy (nameBytes name) x o ≡ none
+          by none o g = refl
+          by (some z) none g = refl
+          by (some z) (some zs) g =
+              let c : cs .count ≡ length zs = ap (λ (x : Numbers). x .count) (pc ∙ ap numbersRead g) in
+              let n : length zs ≡ 8 → ⊥ = λ i. d (c ∙ i) in
+              rw (ne-eqb (length zs) 8 n)
+
+      pub dither-all : (n : ℕ) → wordBy (numberIn unsigned f-field) ≡ Within n → cs .found ≡ true → cs .count ≡ 8
+          → got name (kinds.Dither n) (cs .words) ≡ lineRead (ditherIn Two (nameBytes name) (fieldsFrom line from))
+      unfolding entryOf
+      dither-all n q t c = sym (ap lineRead dither-is ∙ by (numberIn unsigned f-field) refl others refl q)
+        where
+          by : (x : Option ℤ) → numberIn unsigned f-field ≡ x → (o : Option (List ℤ)) → others ≡ o → wordBy x ≡ Within n
+              → lineRead (ditherBy (nameBytes name) x o) ≡ got name (kinds.Dither n) (cs .words)
+          by none f o g i = absurd (let z : _≡_ {A = ℕ} 0 1 = cc in omega arith)
+          by (some z) f none g i = absurd
+              (let t : false ≡ true = sym (ap (λ (x : Numbers). x .found) (pc ∙ ap numbersRead g))
+              ∙ t in let z : _≡_ {A = ℕ} 0 1 = cc in omega arith)
+          by (some z) f (some zs) g i =
+              let w : word w32 z ≡ n = cc in
+              let p : natAbs z ≡ n = plain-word z (number-only unsigned (omega arith) (omega arith) f-field z f .1) .1 ∙ w in
+              let k : cs .count ≡ length zs = ap (λ (x : Numbers). x .count) (pc ∙ ap numbersRead g) in
+              let ws : cs .words ≡ eight zs = ap (λ (x : Numbers). x .words) (pc ∙ ap numbersRead g) in
+              let l : length zs ≡ 8 = sym k ∙ c in
+              rw (eq-eqb (length zs) 8 l, p, ws) (ap (λ (m : Name). got m (kinds.Dither n) (eight zs)) (sym kept))
+
 -- the line whole
-module _ (line : List ℕ) where
-  pub too-long : 160 < length line → lineRead none ≡ lineRead (recordIn line)
+module _ (v : Version) (line : List ℕ) where
+  pub too-long : 160 < length line → lineRead none ≡ lineRead (recordIn v line)
   unfolding recordIn
   too-long h = sym (rw (lt-leb _ _ h))
 
@@ -258,7 +330,7 @@ module _ (line : List ℕ) where
     first = from-start ∙ field-here line 0 (omega arith) ∙ rw (← pe)
         (let z : e - 0 ≡ e = omega arith in ap (λ (k : ℕ). take k line ∷ fieldsFrom line (e + 1)) z)
 
-    pub one-field : length line ≤ e → lineRead none ≡ lineRead (recordIn line)
+    pub one-field : length line ≤ e → lineRead none ≡ lineRead (recordIn v line)
     unfolding recordIn
     one-field h = let q : length line < e + 1 = omega arith in sym (rw (le-leb _ _ short, first, fields-over line (e + 1) q))
 
@@ -266,28 +338,34 @@ module _ (line : List ℕ) where
       abbrev name-field : List ℕ
       name-field = take (f - (e + 1)) (drop (e + 1) line)
 
-      line-is : recordIn line ≡ cond (isName name-field) (kindIn (take e line) name-field (fieldsFrom line (f + 1))) none
+      line-is : recordIn v line ≡ cond (isName name-field) (kindIn v (take e line) name-field (fieldsFrom line (f + 1))) none
       unfolding recordIn
       line-is = let i : e + 1 ≤ length line = omega arith in rw (le-leb _ _ short, first, field-here line (e + 1) i, ← pf)
 
-      pub no-name : isName name-field ≡ false → lineRead none ≡ lineRead (recordIn line)
+      pub no-name : isName name-field ≡ false → lineRead none ≡ lineRead (recordIn v line)
       no-name h = sym (rw (line-is, h))
 
       module _ (named : isName name-field ≡ true) (name : Name) (pn : name ≡ padded name-field) where
-        kind-is : recordIn line ≡ kindIn (take e line) (nameBytes name) (fieldsFrom line (f + 1))
+        kind-is : recordIn v line ≡ kindIn v (take e line) (nameBytes name) (fieldsFrom line (f + 1))
         kind-is = line-is ∙ rw (named, pn, name-back name-field)
 
         pub is-cic : (r : Line) → r ≡ lineRead (cicIn (nameBytes name) (fieldsFrom line (f + 1))) → same (take e line) (bytes "cic")
-            ≡ true → r ≡ lineRead (recordIn line)
+            ≡ true → r ≡ lineRead (recordIn v line)
         unfolding kindIn
         is-cic r q a = q ∙ sym (rw (kind-is, a))
 
         module _ (a : same (take e line) (bytes "cic") ≡ false) where
           pub is-wdf : (r : Line) → r ≡ lineRead (wdfIn (nameBytes name) (fieldsFrom line (f + 1))) → same (take e line)
-              (bytes "wdf") ≡ true → r ≡ lineRead (recordIn line)
+              (bytes "wdf") ≡ true → r ≡ lineRead (recordIn v line)
           unfolding kindIn
           is-wdf r q b = q ∙ sym (rw (kind-is, a, b))
 
-          pub no-kind : same (take e line) (bytes "wdf") ≡ false → lineRead none ≡ lineRead (recordIn line)
-          unfolding kindIn
-          no-kind b = sym (rw (kind-is, a, b))
+          module _ (b : same (take e line) (bytes "wdf") ≡ false) where
+            pub is-dither : (r : Line) → r ≡ lineRead (ditherIn v (nameBytes name) (fieldsFrom line (f + 1))) → same (take e line)
+                (bytes "dither") ≡ true → r ≡ lineRead (recordIn v line)
+            unfolding kindIn
+            is-dither r q d = q ∙ sym (rw (kind-is, a, b, d))
+
+            pub no-kind : same (take e line) (bytes "dither") ≡ false → lineRead none ≡ lineRead (recordIn v line)
+            unfolding kindIn
+            no-kind d = sym (rw (kind-is, a, b, d))

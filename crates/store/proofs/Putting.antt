@@ -6,7 +6,7 @@ use mathlib.Core.List.{List, [], _∷_, _++_, map, map-append, append-assoc, app
 use Prim.Native.Nat.{ℕ, zero, suc, _+_, _-_, _*_, _/_, _%_, _≤_, _<_, _^_}
 use lib.IntN.{ℤ, pos}
 use lib.ListN.{length, length-append, take, getD, replicate}
-use lib.Seq.{take-suc, length-take-le}
+use lib.Seq.{take-all, take-suc, length-take-le}
 use mir.Syntax.{w32}
 use mir.Val.{SFits, toZ, ofZ, hbits}
 use lib.Signed.{mag}
@@ -149,6 +149,7 @@ pub fields-are : (name : List ℕ) (kind : Kind) (a : List ℤ) → sections kin
     ≡ kindWord kind ∷ name ∷ bodyOf kind a
 unfolding fieldsOf settingBy
 fields-are name (kinds.Cic n m rate) a h l = refl
+fields-are name (kinds.Dither f) a h l = let e : take 8 a ≡ a = take-all 8 a (omega arith) in rw e
 fields-are name (kinds.Wdf k arch) a h l =
     let z : k - 8 ≡ 0 = omega arith in
     let e : take k a ++ replicate (k - 8) (pos 0) ≡ take k a = rw z (append-nil (take k a)) in
@@ -157,9 +158,9 @@ fields-are name (kinds.Wdf k arch) a h l =
 
 pub whole-line : (o : List ℕ) (at : ℕ) (name : List ℕ) (kind : Kind) (a : List ℤ) (n x : ℕ) (o₁ : List ℕ) (y : ℕ) (o₂ : List ℕ)
     (z : ℕ) (o₃ : List ℕ) (r : ℕ) (o₄ : List ℕ)
-    → at + 138 ≤ length o → sections kind ≤ 8 → length a ≡ 8 → n ≤ 17
-    → Ended o at (kindWord kind) 3 x o₁ → Fielded o₁ x (name ∷ []) n y o₂ → Fielded o₂ y (bodyOf kind a) 117 z o₃ → Puts o₃ z (10 ∷ []) r o₄
-    → Ended o at (recordLine (settingBy name kind a) ++ (10 ∷ [])) 138 r o₄
+    → at + 141 ≤ length o → sections kind ≤ 8 → length a ≡ 8 → n ≤ 17
+    → Ended o at (kindWord kind) 6 x o₁ → Fielded o₁ x (name ∷ []) n y o₂ → Fielded o₂ y (bodyOf kind a) 117 z o₃ → Puts o₃ z (10 ∷ []) r o₄
+    → Ended o at (recordLine (settingBy name kind a) ++ (10 ∷ [])) 141 r o₄
 unfolding recordLine
 whole-line o at name kind a n x o₁ y o₂ z o₃ r o₄ room few l short p q s t =
     let a1 = p .high in

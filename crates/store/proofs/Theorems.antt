@@ -1,19 +1,25 @@
--- 02, A7, of settings by value: from the laws of form 1.
+-- 02, A7, of settings by value: from the laws of either form. A12 of the reader of form 1.
 use native.Mathlib.Omega.{arith}
 use mathlib.Core.Bool.{cond}
-use mathlib.Core.Path.{_≡_, refl}
+use mathlib.Core.Path.{_≡_, refl, ap}
 use Prim.Native.Nat.{ℕ, zero, suc}
 use lib.Dec.{leb}
-use Rattle.settings_text.specs.Lines.{form1}
+use Rattle.settings_text.specs.Lines.{formOf}
+use Rattle.settings_text.specs.declared.version.Version.{Version}
 use Rattle.settings_text.specs.Stores.{orElse, listNumber}
-use Rattle.settings_text.proofs.FormOne.{same-settings}
-use Rattle.store.specs.Entries.{recordsIn, storeNumber}
-use Rattle.store.specs.Laws.{WrittenReads}
+use Rattle.settings_text.proofs.Forms.{same-settings}
+use Rattle.settings_text.proofs.Moves.{other-form-refused}
+use Rattle.store.specs.Entries.{recordsIn, numberAs}
+use Rattle.store.specs.Laws.{WrittenReads, OldRefuses}
+use Rattle.store.specs.Reading.{found}
 
-pub written-reads : WrittenReads
-unfolding storeNumber
-written-reads s h = same-settings (recordsIn s) (first (listNumber form1 (recordsIn s)) (cond (leb (s .count) 64) 0 83) h)
+pub written-reads : (v : Version) → WrittenReads v
+unfolding numberAs
+written-reads v s h = same-settings v (recordsIn s) (first (listNumber (formOf v) (recordsIn s)) (cond (leb (s .count) 64) 0 83) h)
   where
     first : (a b : ℕ) → orElse a b ≡ 0 → a ≡ 0
     first zero b e = refl
     first (suc a) b e = absurd (omega arith)
+
+pub old-refuses : OldRefuses
+old-refuses text h = ap found (other-form-refused text h)

@@ -1,5 +1,5 @@
 -- How a record stands in the settings by value.
-use mathlib.Core.Bool.{Bool, true, cond}
+use mathlib.Core.Bool.{Bool, true, false, cond}
 use mathlib.Core.List.{List, [], _∷_, _++_, map}
 use Prim.Native.Nat.{ℕ, zero, suc, _-_, _%_, _^_}
 use lib.Dec.{leb}
@@ -7,15 +7,16 @@ use lib.IntN.{ℤ, pos}
 use lib.ListN.{length, take, replicate}
 use mir.Syntax.{w32}
 use Rattle.words.specs.Words.{wrap}
-use Rattle.sums.specs.Calls.{newNumber}
 use Rattle.wdf.specs.Calls.{sectionsNumber}
 use Rattle.text.specs.Letters.{bytes}
 use Rattle.text.specs.Numbers.{decimalOf}
 use Rattle.text.specs.Order.{precedes}
 use Rattle.text.specs.Ranges.{unsigned, allLie, texts}
 use Rattle.settings_text.specs.Fields.{nibblesOf}
-use Rattle.settings_text.specs.Lines.{Setting, Cic, Wdf, form1}
+use Rattle.settings_text.specs.Lines.{Setting, Cic, Wdf, Dither, cicNumber, ditherNumber, formOf}
 use Rattle.settings_text.specs.Stores.{orElse, listNumber}
+use Rattle.settings_text.specs.declared.version.Version.{Version}
+use Rattle.settings_text.specs.declared.version.Version.the-variants.{One, Two}
 use Rattle.store.specs.declared.settings.Settings.{Settings}
 use Rattle.store.specs.declared.settings.Name.{Name}
 use Rattle.store.specs.declared.settings.Kind.{Kind}
@@ -46,6 +47,7 @@ entry name kind cs = record { name = padded name; kind = kind; a = eight cs }
 unfoldable pub entryOf : Setting → Entry
 entryOf (Cic name n m rate) = entry name (kinds.Cic n m rate) []
 entryOf (Wdf name arch cs) = entry name (kinds.Wdf (length cs) (arch % 2 ^ 32)) cs
+entryOf (Dither name f cs) = entry name (kinds.Dither f) cs
 
 -- what stands where there is no record
 abbrev pub emptyEntry : Entry
@@ -55,6 +57,7 @@ emptyEntry = entry [] (kinds.Cic 0 1 0) []
 unfoldable pub settingBy : List ℕ → Kind → List ℤ → Setting
 settingBy name (kinds.Cic n m rate) a = Cic name n m rate
 settingBy name (kinds.Wdf k arch) a = Wdf name arch (take k a ++ replicate (k - 8) (pos 0))
+settingBy name (kinds.Dither f) a = Dither name f a
 
 abbrev pub wholeName : Name → List ℕ
 wholeName n = nameBytes n ++ replicate (n .len - 16) 0
@@ -66,32 +69,42 @@ entrySetting e = settingBy (wholeName (e .name)) (e .kind) (map (wrap w32) (e .a
 abbrev pub recordsIn : Settings → List Setting
 recordsIn s = map entrySetting (take (s .count) (s .entries))
 
--- the number of the first bad record, or 83 where there are more than 64
-unfoldable pub storeNumber : Settings → ℕ
-storeNumber s = orElse (listNumber form1 (recordsIn s)) (cond (leb (s .count) 64) 0 83)
+-- the number of the first bad record in a form, or 83 where there are more than 64
+unfoldable pub numberAs : Version → Settings → ℕ
+numberAs v s = orElse (listNumber (formOf v) (recordsIn s)) (cond (leb (s .count) 64) 0 83)
+
+-- in form 1
+abbrev pub storeNumber : Settings → ℕ
+storeNumber s = numberAs One s
 
 -- the parameter numbers of an entry, and before these 83 and 82 after k records, the last of them named `last`
-abbrev pub kindNumber : Kind → ℕ
-kindNumber (kinds.Cic n m rate) = newNumber n m rate
-kindNumber (kinds.Wdf k arch) = sectionsNumber k arch
+abbrev pub kindNumber : Version → Kind → List ℤ → ℕ
+kindNumber v (kinds.Cic n m rate) a = cicNumber v n m rate
+kindNumber v (kinds.Wdf k arch) a = sectionsNumber k arch
+kindNumber v (kinds.Dither f) a = ditherNumber f a
 
-unfoldable pub numberFor : ℕ → List ℕ → List ℕ → Kind → ℕ
-numberFor k last name kind = cond (leb 64 k) 83 (cond (precedes last name) (kindNumber kind) 82)
+unfoldable pub numberFor : Version → ℕ → List ℕ → List ℕ → Kind → List ℤ → ℕ
+numberFor v k last name kind a = cond (leb 64 k) 83 (cond (precedes last name) (kindNumber v kind a) 82)
 
--- the numbers of an entry are u32
-abbrev pub fitsWords : Kind → Bool
-fitsWords (kinds.Cic n m rate) = allLie unsigned (pos n ∷ pos m ∷ pos rate ∷ [])
-fitsWords (kinds.Wdf k arch) = true
+-- a record of the kind has a place in the form, and its numbers are u32
+abbrev pub allowedIn : Version → Kind → Bool
+allowedIn v (kinds.Cic n m rate) = allLie unsigned (pos n ∷ pos m ∷ pos rate ∷ [])
+allowedIn v (kinds.Wdf k arch) = true
+allowedIn One (kinds.Dither f) = false
+allowedIn Two (kinds.Dither f) = allLie unsigned (pos f ∷ [])
 
 -- an entry's line: its kind's word, its name, and the fields after it
 abbrev pub kindWord : Kind → List ℕ
 kindWord (kinds.Cic n m rate) = bytes "cic"
 kindWord (kinds.Wdf k arch) = bytes "wdf"
+kindWord (kinds.Dither f) = bytes "dither"
 
 abbrev pub bodyOf : Kind → List ℤ → List (List ℕ)
 bodyOf (kinds.Cic n m rate) a = decimalOf n ∷ decimalOf m ∷ decimalOf rate ∷ []
 bodyOf (kinds.Wdf k arch) a = decimalOf k ∷ nibblesOf k arch ∷ texts (take k a)
+bodyOf (kinds.Dither f) a = decimalOf f ∷ texts (take 8 a)
 
 abbrev pub sections : Kind → ℕ
 sections (kinds.Cic n m rate) = 0
 sections (kinds.Wdf k arch) = k
+sections (kinds.Dither f) = 0

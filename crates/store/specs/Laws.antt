@@ -1,20 +1,25 @@
--- 02, A7, of settings by value.
+-- 02, A7, of settings by value, in either form; and A12 of the reader of form 1.
 use mathlib.Core.Path.{_≡_}
 use mathlib.Core.List.{List}
 use Prim.Native.Nat.{ℕ}
-use Rattle.settings_text.specs.Lines.{Setting, form1}
-use Rattle.settings_text.specs.Stores.{Good, readOf}
-use Rattle.store.specs.Entries.{recordsIn, storeNumber}
+use Rattle.settings_text.specs.declared.version.Version.{Version}
+use Rattle.settings_text.specs.Lines.{Setting, formOf, form1, form2}
+use Rattle.settings_text.specs.Stores.{Good, Bad, readOf}
+use Rattle.store.specs.Entries.{recordsIn, numberAs}
 use Rattle.store.specs.Reading.{found}
-use Rattle.store.specs.Saving.{storeText}
+use Rattle.store.specs.Saving.{textAs}
 use Rattle.store.specs.declared.settings.Settings.{Settings}
 
 -- reading what was written gives the same settings
-abbrev pub WrittenReads : Type 0
-WrittenReads = (s : Settings) → storeNumber s ≡ 0 → readOf form1 (storeText s) ≡ Good (recordsIn s)
+abbrev pub WrittenReads : Version → Type 0
+WrittenReads v = (s : Settings) → numberAs v s ≡ 0 → readOf (formOf v) (textAs v s) ≡ Good (recordsIn s)
 
 -- what was read is written as the same bytes
-abbrev pub CopySame : Type 0
-CopySame =
-    (text : List ℕ) (ss : List Setting) → readOf form1 text ≡ Good ss
-    → (storeNumber (found (Good ss) .settings) ≡ 0) × (storeText (found (Good ss) .settings) ≡ text)
+abbrev pub CopySame : Version → Type 0
+CopySame v =
+    (text : List ℕ) (ss : List Setting) → readOf (formOf v) text ≡ Good ss
+    → (numberAs v (found (Good ss) .settings) ≡ 0) × (textAs v (found (Good ss) .settings) ≡ text)
+
+-- what `read_form1` answers to a text that form 2 doesn't refuse by its first line
+abbrev pub OldRefuses : Type 0
+OldRefuses = (text : List ℕ) → (readOf form2 text ≡ Bad 1 80 → ⊥) → found (readOf form1 text) ≡ found (Bad 1 80)

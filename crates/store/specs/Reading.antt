@@ -10,8 +10,9 @@ use mir.Syntax.{w32}
 use Rattle.words.specs.Words.{word}
 use Rattle.text.specs.Letters.{tab, newline}
 use Rattle.text.specs.Parts.{parted, endOf}
-use Rattle.settings_text.specs.Lines.{Setting, recordIn, form1}
+use Rattle.settings_text.specs.Lines.{Setting, recordIn, formOf}
 use Rattle.settings_text.specs.Stores.{Found, Good, Bad, recordNumber}
+use Rattle.settings_text.specs.declared.version.Version.{Version}
 use Rattle.store.specs.Entries.{eight, entryOf, emptyEntry}
 use Rattle.store.specs.declared.line.Line.{Line}
 use Rattle.store.specs.declared.line.Natural.{Natural}
@@ -54,12 +55,12 @@ lineRead (some s) = record { found = true; entry = entryOf s }
 abbrev pub lineAt : List ℕ → ℕ → List ℕ
 lineAt text at = take (endOf newline text at - at) (drop at text)
 
-abbrev pub settingAt : List ℕ → ℕ → Option Setting
-settingAt text at = cond (ltb (endOf newline text at) (length text)) (recordIn (lineAt text at)) none
+abbrev pub settingAt : Version → List ℕ → ℕ → Option Setting
+settingAt v text at = cond (ltb (endOf newline text at) (length text)) (recordIn v (lineAt text at)) none
 
-abbrev pub stepBy : Option Setting → ℕ → ℕ → List ℕ → Step
-stepBy none end k last = record { entry = emptyEntry; end = end; number = 81 }
-stepBy (some s) end k last = record { entry = entryOf s; end = end; number = recordNumber form1 k last s }
+abbrev pub stepBy : Version → Option Setting → ℕ → ℕ → List ℕ → Step
+stepBy v none end k last = record { entry = emptyEntry; end = end; number = 81 }
+stepBy v (some s) end k last = record { entry = entryOf s; end = end; number = recordNumber (formOf v) k last s }
 
-unfoldable pub stepAt : List ℕ → ℕ → ℕ → List ℕ → Step
-stepAt text at k last = stepBy (settingAt text at) (endOf newline text at) k last
+unfoldable pub stepAt : Version → List ℕ → ℕ → ℕ → List ℕ → Step
+stepAt v text at k last = stepBy v (settingAt v text at) (endOf newline text at) k last

@@ -5,9 +5,10 @@ use Prim.Native.Nat.{ℕ, _+_, _≤_}
 use lib.ListN.{length}
 use Rattle.text.specs.Letters.{tab}
 use Rattle.text.specs.Writing.{Wrote}
-use Rattle.settings_text.specs.Lines.{form1}
+use Rattle.settings_text.specs.Lines.{formOf}
 use Rattle.settings_text.specs.Stores.{textOf}
-use Rattle.store.specs.Entries.{recordsIn, storeNumber}
+use Rattle.settings_text.specs.declared.version.Version.{Version}
+use Rattle.store.specs.Entries.{recordsIn, numberAs}
 use Rattle.store.specs.declared.settings.Settings.{Settings}
 
 -- a tab before each field
@@ -26,7 +27,7 @@ abbrev pub Fielded : List ℕ → ℕ → List (List ℕ) → ℕ → ℕ → Li
 Fielded o at fs most r o' = Ended o at (tabs fs) most r o'
 
 -- a list's number, and where that is 0 its text and where it ends
-pub record Composing (s : Settings) (o : List ℕ) (number end : ℕ) (o' : List ℕ) : Type 0 where
-  pub judged : number ≡ storeNumber s
-  pub wrote : number ≡ 0 → Ended o 0 (textOf form1 (recordsIn s)) 8838 end o'
+pub record Composing (v : Version) (s : Settings) (o : List ℕ) (number end : ℕ) (o' : List ℕ) : Type 0 where
+  pub judged : number ≡ numberAs v s
+  pub wrote : number ≡ 0 → Ended o 0 (textOf (formOf v) (recordsIn s)) 9030 end o'
   pub long : length o' ≡ length o

@@ -1,4 +1,4 @@
-// A store of settings (document 02, A7): its text read into settings by value, and settings written as text. The calls
+// A store of settings (document 02, A7 and A12): its text read into settings by value, and settings written as text. The calls
 // are `reading::read_form1` and `saving::write_form1`. A caller cites `readOf`, `textOf` and `listNumber` of
 // settings_text; `found` of specs/Reading, `recordsIn` and `storeNumber` of specs/Entries and `Saves` of specs/Saving.
 pub mod line;

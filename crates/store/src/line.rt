@@ -4,6 +4,7 @@ use crate::settings::Entry;
 use crate::settings::Kind;
 use crate::settings::Name;
 use crate::settings::no_entry;
+use settings_text::version::Version;
 use text::comparing::same_bytes;
 use text::hex::hex_digit;
 use text::numbers::Number;
@@ -21,7 +22,7 @@ ghost use Rattle.words.specs.Words.{wrap};
 ghost use Rattle.text.specs.Hex.{hexDigit};
 ghost use Rattle.text.specs.Ranges.{range, numberIn, numbersIn};
 ghost use Rattle.settings_text.specs.Fields.{hexesIn, nibblesIn};
-ghost use Rattle.settings_text.specs.Lines.{cicIn, wdfIn, recordIn};
+ghost use Rattle.settings_text.specs.Lines.{cicIn, wdfIn, ditherIn, recordIn};
 ghost use Rattle.store.specs.Entries.{padded, nameBytes};
 ghost use Rattle.store.specs.Reading.{fieldsFrom, wordBy, archBy, numbersRead, lineRead};
 
@@ -234,9 +235,37 @@ fn wdf(name: Name, line: &[u8], from: usize) -> Line
     Line { found: true, entry }
 }
 
-// A line read as a record.
-pub(crate) fn record_in(line: &[u8]) -> Line
-    ensures { λ r. ⌜ r ≡ lineRead (recordIn (now (line .entry))) ⌝ }
+// The fields of a `dither` record after its name, which form 2 alone has.
+fn dither(version: Version, name: Name, line: &[u8], from: usize) -> Line
+    requires { ⌜ (name ≡ padded (nameBytes name)) × (from ≤ length (now line) + 1) × (length (now line) ≤ 160) ⌝ }
+    ensures { λ r. ⌜ r ≡ lineRead (ditherIn version (nameBytes name) (fieldsFrom (now (line .entry)) from)) ⌝ }
+{
+    let Version::Two = version else {
+        return nothing();
+    };
+    if line.len() < from {
+        return nothing();
+    }
+    let e = part_end(line, from, 9);
+    let Natural::Within(f) = word_of(&line[from..e], 0, 4294967295) else {
+        return nothing();
+    };
+    let cs = numbers_from(line, e + 1, 2147483648, 2147483647);
+    if !cs.found {
+        return nothing();
+    }
+    if cs.count != 8 {
+        return nothing();
+    }
+    let a = cs.words;
+    let kind = Kind::Dither(f);
+    let entry = Entry { name, kind, a };
+    Line { found: true, entry }
+}
+
+// A line read as a record of a form.
+pub(crate) fn record_in(version: Version, line: &[u8]) -> Line
+    ensures { λ r. ⌜ r ≡ lineRead (recordIn version (now (line .entry))) ⌝ }
 {
     if 160 < line.len() {
         return nothing();
@@ -257,6 +286,9 @@ pub(crate) fn record_in(line: &[u8]) -> Line
     }
     if same_bytes(&line[..e], b"wdf") {
         return wdf(name, line, f1);
+    }
+    if same_bytes(&line[..e], b"dither") {
+        return dither(version, name, line, f1);
     }
     nothing()
 }

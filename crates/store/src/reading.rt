@@ -6,13 +6,15 @@ use crate::settings::Name;
 use crate::settings::Settings;
 use crate::settings::no_entry;
 use crate::settings::no_name;
+use settings_text::version::Version;
 use text::comparing::same_bytes;
 use text::parts::part_end;
 ghost use mathlib.Core.Path.{_≡_};
 ghost use mathlib.Core.Option.{none};
 ghost use Prim.Native.Nat.{_≤_, _<_};
 ghost use lib.ListN.{length};
-ghost use Rattle.settings_text.specs.Lines.{form1};
+ghost use Rattle.text.specs.Same.{same};
+ghost use Rattle.settings_text.specs.Lines.{heading, formOf, form1, form2};
 ghost use Rattle.settings_text.specs.Stores.{Bad, readOf};
 ghost use Rattle.store.specs.Entries.{nameBytes};
 ghost use Rattle.store.specs.Reading.{stepBy, stepAt, found};
@@ -45,8 +47,8 @@ fn refused(line: usize, number: u32) -> Read
 }
 
 // A line that holds no record.
-fn stopped(k: usize, last: Name, end: usize) -> Step
-    ensures { λ r. ⌜ r ≡ stepBy none end k (nameBytes last) ⌝ }
+fn stopped(version: Version, k: usize, last: Name, end: usize) -> Step
+    ensures { λ r. ⌜ r ≡ stepBy version none end k (nameBytes last) ⌝ }
 {
     let entry = no_entry();
     Step {
@@ -57,34 +59,45 @@ fn stopped(k: usize, last: Name, end: usize) -> Step
 }
 
 // The line at a place, after k records, the last of them named `last`.
-fn next(text: &[u8], at: usize, k: usize, last: Name) -> Step
+fn next(version: Version, text: &[u8], at: usize, k: usize, last: Name) -> Step
     requires { ⌜ (at < length (now text)) × (last .len ≤ 16) ⌝ }
-    ensures { λ r. ⌜ r ≡ stepAt (now (text .entry)) at k (nameBytes last) ⌝ }
+    ensures { λ r. ⌜ r ≡ stepAt version (now (text .entry)) at k (nameBytes last) ⌝ }
 {
     let end = part_end(text, at, b'\n');
     if text.len() <= end {
-        return stopped(k, last, end);
+        return stopped(version, k, last, end);
     }
-    let line = record_in(&text[at..end]);
+    let line = record_in(version, &text[at..end]);
     if !line.found {
-        return stopped(k, last, end);
+        return stopped(version, k, last, end);
     }
     let entry = line.entry;
     let name = entry.name;
     let kind = entry.kind;
-    let number = number_of(k, last, name, kind);
+    let a = entry.a;
+    let number = number_of(version, k, last, name, kind, a);
     Step { entry, end, number }
 }
 
-// Reads a store of form 1: its settings, or its first bad line and what that is refused with.
-pub fn read_form1(text: &[u8]) -> Read
-    ensures { λ r. ⌜ r ≡ found (readOf form1 (now (text .entry))) ⌝ }
+// Whether a first line opens a store of the form.
+fn opens(version: Version, first: &[u8]) -> bool
+    ensures { λ r. ⌜ r ≡ same (now (first .entry)) (heading version) ⌝ }
+{
+    match version {
+        Version::One => same_bytes(first, b"set\t1"),
+        Version::Two => same_bytes(first, b"set\t2"),
+    }
+}
+
+// Reads a store: its settings, or its first bad line and what that is refused with.
+fn read_store(version: Version, text: &[u8]) -> Read
+    ensures { λ r. ⌜ r ≡ found (readOf (formOf version) (now (text .entry))) ⌝ }
 {
     let e = part_end(text, 0, b'\n');
     if text.len() <= e {
         return refused(1, 80);
     }
-    if !same_bytes(&text[..e], b"set\t1") {
+    if !opens(version, &text[..e]) {
         return refused(1, 80);
     }
     let blank = no_entry();
@@ -93,7 +106,7 @@ pub fn read_form1(text: &[u8]) -> Read
     let mut n: usize = 0;
     let mut at = e + 1;
     while at < text.len() {
-        let step = next(text, at, n, last);
+        let step = next(version, text, at, n, last);
         let number = step.number;
         if number != 0 {
             let line = n + 2;
@@ -112,4 +125,18 @@ pub fn read_form1(text: &[u8]) -> Read
         line: 0,
         number: 0,
     }
+}
+
+// Reads a store of form 1: its settings, or its first bad line and what that is refused with.
+pub fn read_form1(text: &[u8]) -> Read
+    ensures { λ r. ⌜ r ≡ found (readOf form1 (now (text .entry))) ⌝ }
+{
+    read_store(Version::One, text)
+}
+
+// The same of form 2.
+pub fn read_form2(text: &[u8]) -> Read
+    ensures { λ r. ⌜ r ≡ found (readOf form2 (now (text .entry))) ⌝ }
+{
+    read_store(Version::Two, text)
 }

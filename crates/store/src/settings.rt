@@ -10,15 +10,18 @@ pub struct Name {
     pub len: usize,
 }
 
-// What a record is for: the numbers that `Cic::new` or `Wdf::new` is given.
+// What a record is for: the numbers that `Cic::new` or `Wdf::new` is given, or a dithered biquad's F.
 pub enum Kind {
-    // Order, delay and rate.
+    // Order, delay, and the rate in form 1 or R in form 2.
     Cic(u32, u32, u32),
     // Sections and architecture.
     Wdf(usize, u32),
+    // Fraction bits of a `dither`, in form 2 alone.
+    Dither(u32),
 }
 
-// A record. `a` holds the coefficients of a `wdf`, one for each section; the rest of it never matters.
+// A record. `a` holds the coefficients of a `wdf`, one for each section, and the rest of it never matters; or the five
+// coefficients, offset, lower and upper limit of a `dither`.
 pub struct Entry {
     pub name: Name,
     pub kind: Kind,

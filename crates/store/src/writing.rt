@@ -124,14 +124,23 @@ fn put_wdf(out: &mut [u8], at: usize, k: usize, m: u32, a: &[i32; 8]) -> usize
     put_integers(out, y, a, k)
 }
 
+fn put_dither(out: &mut [u8], at: usize, f: u32, a: &[i32; 8]) -> usize
+    requires { ⌜ (at + 117 ≤ length (now out)) × (length (now a) ≡ 8) ⌝ }
+    ensures { λ r. ⌜ Fielded (now (out .entry)) at (decimalOf f ∷ texts (take 8 (map (wrap w32) (now (a .entry))))) 117 r (now (out .exit)) ⌝ }
+{
+    let x = put_natural(out, at, f);
+    put_integers(out, x, a, 8)
+}
+
 // A kind's word.
 fn put_kind(out: &mut [u8], at: usize, kind: Kind) -> usize
-    requires { ⌜ at + 3 ≤ length (now out) ⌝ }
-    ensures { λ r. ⌜ Ended (now (out .entry)) at (kindWord kind) 3 r (now (out .exit)) ⌝ }
+    requires { ⌜ at + 6 ≤ length (now out) ⌝ }
+    ensures { λ r. ⌜ Ended (now (out .entry)) at (kindWord kind) 6 r (now (out .exit)) ⌝ }
 {
     match kind {
         Kind::Cic(_, _, _) => put_bytes(out, at, b"cic"),
         Kind::Wdf(_, _) => put_bytes(out, at, b"wdf"),
+        Kind::Dither(_) => put_bytes(out, at, b"dither"),
     }
 }
 
@@ -143,13 +152,14 @@ fn put_body(out: &mut [u8], at: usize, kind: Kind, a: &[i32; 8]) -> usize
     match kind {
         Kind::Cic(n, m, rate) => put_cic(out, at, n, m, rate),
         Kind::Wdf(k, m) => put_wdf(out, at, k, m, a),
+        Kind::Dither(f) => put_dither(out, at, f, a),
     }
 }
 
 // A record's line and its newline.
 pub(crate) fn put_line(out: &mut [u8], at: usize, entry: Entry) -> usize
-    requires { ⌜ (at + 138 ≤ length (now out)) × (sections (entry .kind) ≤ 8) × (entry .name .len ≤ 16) ⌝ }
-    ensures { λ r. ⌜ Ended (now (out .entry)) at (recordLine (entrySetting entry) ++ (newline ∷ [])) 138 r (now (out .exit)) ⌝ }
+    requires { ⌜ (at + 141 ≤ length (now out)) × (sections (entry .kind) ≤ 8) × (entry .name .len ≤ 16) ⌝ }
+    ensures { λ r. ⌜ Ended (now (out .entry)) at (recordLine (entrySetting entry) ++ (newline ∷ [])) 141 r (now (out .exit)) ⌝ }
 {
     let kind = entry.kind;
     let a = entry.a;

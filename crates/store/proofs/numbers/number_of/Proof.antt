@@ -12,9 +12,7 @@ use Rattle.store.proofs.numbers.number_of.Tie as tie
 
 returns : tie.Need-returns
 unfolding numberFor
-returns c =
-    let asked : tie.After-kind-number = search in
-    (sym (rw (le-leb _ _ (c .if1 .taken))), asked .kind-number .ensures .1)
+returns c = sym (rw (le-leb _ _ (c .if1 .taken)))
 
 array-share-prefix-xs : tie.Need-array-share-prefix-xs
 array-share-prefix-xs c =
@@ -51,22 +49,19 @@ unfolding numberFor
 returns-2 c =
     let order : tie.After-comes-before = search in
     let few : tie.Else1 = search in
-    let asked : tie.After-kind-number = search in
     let w = not-true (order .comes-before .result) (c .if2 .taken) in
-    (sym (rw (lt-leb _ _ (few .if1 .left), ← order .comes-before .ensures, w)), asked .kind-number .ensures .1)
+    sym (rw (lt-leb _ _ (few .if1 .left), ← order .comes-before .ensures, w))
 
 returns-3 : tie.Need-returns-3
 unfolding numberFor
 returns-3 c =
     let order : tie.After-comes-before = search in
     let few : tie.Else1 = search in
-    let asked : tie.After-kind-number = search in
-    let w = not-false (order .comes-before .result) (c .if2 .left) in (
-      sym (rw (lt-leb _ _ (few .if1 .left), ← order .comes-before .ensures, w, asked .kind-number .ensures .0)),
-      asked .kind-number .ensures .1,
-    )
+    let before : tie.Else2 = search in
+    let w = not-false (order .comes-before .result) (before .if2 .left) in
+    sym (rw (lt-leb _ _ (few .if1 .left), ← order .comes-before .ensures, w, c .kind-number .ensures))
 
 pub number-of-spec : {M : Type 1} → statement M
 number-of-spec =
-    tie.close (tie.spec (λ c κs. search needs) returns array-share-prefix-xs slice-aggregate-comes-before
-    array-share-prefix-ys slice-aggregate-comes-before-2 (λ c κs. search needs) returns-2 returns-3)
+    tie.close (tie.spec returns array-share-prefix-xs slice-aggregate-comes-before array-share-prefix-ys
+    slice-aggregate-comes-before-2 (λ c κs. search needs) returns-2 (λ c κs. search needs) returns-3)

@@ -14,7 +14,7 @@ returns c =
     let at-part-end : tie.After-part-end = search in
     let then1 : tie.Then1 = search in
     let a = begin .args in
-    c .stopped .ensures ∙ next-open (a .text .now) (a .at) (a .k) (nameBytes (a .last)) (at-part-end .part-end .result)
+    c .stopped .ensures ∙ next-open (a .version) (a .text .now) (a .at) (a .k) (nameBytes (a .last)) (at-part-end .part-end .result)
     (at-part-end .part-end .ensures) (then1 .if1 .taken)
 
 returns-2 : tie.Need-returns-2
@@ -25,7 +25,7 @@ returns-2 c =
     let at-record-in : tie.After-record-in = search in
     let then2 : tie.Then2 = search in
     let a = begin .args in
-    c .stopped2 .ensures ∙ next-none (a .text .now) (a .at) (a .k) (nameBytes (a .last)) (at-part-end .part-end .result)
+    c .stopped2 .ensures ∙ next-none (a .version) (a .text .now) (a .at) (a .k) (nameBytes (a .last)) (at-part-end .part-end .result)
     (at-part-end .part-end .ensures) (else1 .if1 .left) (at-record-in .record-in .result) (at-record-in .record-in .ensures)
     (not-true _ (then2 .if2 .taken))
 
@@ -38,7 +38,7 @@ number-of-requires c κs =
     let else2 : tie.Else2 = search in
     let a = begin .args in (
       begin .pre .1,
-      next-short (a .text .now) (a .at) (a .k) (nameBytes (a .last)) (at-part-end .part-end .result)
+      next-short (a .version) (a .text .now) (a .at) (a .k) (nameBytes (a .last)) (at-part-end .part-end .result)
           (at-part-end .part-end .ensures) (else1 .if1 .left) (at-record-in .record-in .result) (at-record-in .record-in .ensures)
           (not-false _ (else2 .if2 .left)),
     )
@@ -51,9 +51,9 @@ returns-3 c =
     let at-record-in : tie.After-record-in = search in
     let else2 : tie.Else2 = search in
     let a = begin .args in
-    next-some (a .text .now) (a .at) (a .k) (nameBytes (a .last)) (at-part-end .part-end .result) (at-part-end .part-end .ensures)
+    next-some (a .version) (a .text .now) (a .at) (a .k) (nameBytes (a .last)) (at-part-end .part-end .result) (at-part-end .part-end .ensures)
     (else1 .if1 .left) (at-record-in .record-in .result) (at-record-in .record-in .ensures) (not-false _ (else2 .if2 .left))
-    (c .number-of .result) (c .number-of .ensures .0)
+    (c .number-of .result) (c .number-of .ensures)
 
 pub next-spec : {M : Type 1} → statement M
 next-spec =

@@ -11,26 +11,26 @@ use Rattle.store.proofs.saving.compose.Statement.{statement}
 use Rattle.store.proofs.saving.compose.Tie as tie
 
 abbrev Inv-loop : tie.InvT-loop
-Inv-loop out₀ entries count last₀ end₀ i₀ out last end i =
-    (length entries ≡ 64) × (8838 ≤ length out₀) × (end₀ ≤ 6) × Judging entries count last i × Ended out₀ end₀ (linesTo entries i)
-    (138 * i) end out
+Inv-loop version out₀ entries count last₀ end₀ i₀ out last end i =
+    (length entries ≡ 64) × (9030 ≤ length out₀) × (end₀ ≤ 6) × Judging version entries count last i × Ended out₀ end₀ (linesTo entries i)
+    (141 * i) end out
 
 abbrev μ-loop : tie.MeasureT-loop
-μ-loop out₀ entries count last₀ end₀ i₀ out last end i = count - i
+μ-loop version out₀ entries count last₀ end₀ i₀ out last end i = count - i
 
 loop-holds : tie.Need-loop-holds Inv-loop μ-loop
 loop-holds c =
     let begin : tie.Start Inv-loop μ-loop = search in
+    let l : length (begin .args .settings .entries) ≡ 64 = search (unmapped, needs) in
     let at-put-heading : tie.After-put-heading Inv-loop μ-loop = search in
     let at-no-name : tie.After-no-name Inv-loop μ-loop = search in
-    let l : length (begin .args .settings .entries) ≡ 64 = search (unmapped, needs) in
     let h = at-put-heading .put-heading .ensures .high in
     let g = at-put-heading .put-heading .ensures .long in
     let p = begin .pre in (
       l,
       omega arith,
       omega arith,
-      judging-none (begin .args .settings .entries) (begin .args .settings .count)
+      judging-none (begin .args .version) (begin .args .settings .entries) (begin .args .settings .count)
           (at-no-name .no-name .result) (at-no-name .no-name .ensures .0) (at-no-name .no-name .ensures .1),
       lines-none
           (begin .args .settings .entries) _ _,
@@ -50,7 +50,7 @@ returns c =
     let at-put-heading : tie.After-put-heading Inv-loop μ-loop = search in
     let a = begin .args in
     record {
-      judged = judged-many (a .settings .entries) (a .settings .count) (turn .loop .last) (turn .loop .i) (turn .loop .inv .0)
+      judged = judged-many (a .version) (a .settings .entries) (a .settings .count) (turn .loop .last) (turn .loop .i) (turn .loop .inv .0)
           (turn .loop .inv .3) (inside .loop-test .taken) (c .if1 .taken);
       wrote = λ z. absurd (omega arith);
       long = turn .loop .inv .4 .long ∙ at-put-heading .put-heading .ensures .long;
@@ -77,7 +77,7 @@ returns-2 c =
     let at-put-heading : tie.After-put-heading Inv-loop μ-loop = search in
     let a = begin .args in
     record {
-      judged = judged-bad (a .settings .entries) (a .settings .count) (turn .loop .last) (turn .loop .i) (turn .loop .inv .0)
+      judged = judged-bad (a .version) (a .settings .entries) (a .settings .count) (turn .loop .last) (turn .loop .i) (turn .loop .inv .0)
           (turn .loop .inv .3) (inside .loop-test .taken) (else1 .if1 .left) _ _ refl (at-entry-number .entry-number .result)
           (at-entry-number .entry-number .ensures .0) (c .if2 .taken);
       wrote = λ z. absurd (c .if2 .taken z);
@@ -114,7 +114,7 @@ loop-again c =
       n,
       p,
       q,
-      judged-on (a .settings .entries) (a .settings .count) (l .last) (l .i) n (l .inv .3) (inside .loop-test .taken)
+      judged-on (a .version) (a .settings .entries) (a .settings .count) (l .last) (l .i) n (l .inv .3) (inside .loop-test .taken)
           (else1 .if1 .left) _ _ refl (at-entry-number .entry-number .result) (at-entry-number .entry-number .ensures .0)
           (else2 .if2 .left) (s .0),
       lines-on (a .settings .entries) _ _ (l .i) _ _ _ _ _ _ (omega arith) refl (omega arith) (l .inv .4) (at-put-line .put-line .ensures),
@@ -135,8 +135,8 @@ returns-3 c =
     let l = turn .loop in
     let f = l .inv .3 .few in
     record {
-      judged = judged-all (a .settings .entries) (a .settings .count) (l .last) (l .i) (l .inv .0) (l .inv .3) (c .loop-test .left);
-      wrote = λ z. lines-all (a .settings .entries) (a .settings .count) (l .i) _ _ _ _ _ (omega arith) (l .inv .3 .room)
+      judged = judged-all (a .version) (a .settings .entries) (a .settings .count) (l .last) (l .i) (l .inv .0) (l .inv .3) (c .loop-test .left);
+      wrote = λ z. lines-all (a .version) (a .settings .entries) (a .settings .count) (l .i) _ _ _ _ _ (omega arith) (l .inv .3 .room)
           (at-put-heading .put-heading .ensures) (l .inv .4);
       long = l .inv .4 .long ∙ at-put-heading .put-heading .ensures .long;
     }

@@ -25,7 +25,17 @@ returns-2 c =
     let at-put-wdf : tie.After-put-wdf = search in
     rw (c .before .before .before .before .before .kind2 .given .1) (at-put-wdf .put-wdf .ensures)
 
+put-dither-requires : tie.Need-put-dither-requires
+put-dither-requires c κs =
+    let begin : tie.Start = search in
+    (begin .pre .0, begin .pre .2)
+
+returns-3 : tie.Need-returns-3
+returns-3 c =
+    let at-put-dither : tie.After-put-dither = search in
+    rw (c .before .before .before .before .before .kind3 .given .1) (at-put-dither .put-dither .ensures)
+
 pub put-body-spec : {M : Type 1} → statement M
 put-body-spec =
     tie.close (tie.spec (λ c. search needs) (λ c κs. search needs) (λ c. search needs) put-wdf-requires
-    (λ c. search needs) returns (λ c. search needs) returns-2)
+    (λ c. search needs) put-dither-requires (λ c. search needs) returns (λ c. search needs) returns-2 (λ c. search needs) returns-3)
