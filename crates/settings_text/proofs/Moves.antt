@@ -114,7 +114,7 @@ other-form {A} {B} from to d text h = by (parted 10 text) refl h
         first false f g = absurd (g refl)
 
 -- R is in its range where the rate is
-number-parts : (n m rate : ℕ) → newNumber n m rate ≡ 0 → (newNumber n m 0 ≡ 0) × (rate ≤ 65535)
+pub number-parts : (n m rate : ℕ) → newNumber n m rate ≡ 0 → (newNumber n m 0 ≡ 0) × (rate ≤ 65535)
 unfolding refusalOf
 number-parts n m rate h = by (ltb 8 n) refl (eqb m 0 || ltb 8 m) refl (ltb 65535 rate) refl h
   where
@@ -207,7 +207,7 @@ forth-and-back text ss e =
     rw (e, p) (same-bytes form1 form2 (λ s. some (raised s)) keeps lowered form-again (lawful One) (lawful Two) text ss (map raised ss) e p)
 
 -- a record without a place is a `dither`
-abbrev missing : Option (List Setting) → Bool
+abbrev pub missing : Option (List Setting) → Bool
 missing none = true
 missing (some ss) = false
 
@@ -215,7 +215,7 @@ behind : (s : Setting) (o : Option (List Setting)) → missing o ≡ missing (bo
 behind s none = refl
 behind s (some ts) = refl
 
-dither-missing : (ss : List Setting) → anyDither ss ≡ missing (placed lowered ss)
+pub dither-missing : (ss : List Setting) → anyDither ss ≡ missing (placed lowered ss)
 unfolding lowered
 dither-missing [] = refl
 dither-missing (Cic name n m r ∷ ss) = dither-missing ss ∙ behind (Cic name n m (r - 1)) (placed lowered ss)

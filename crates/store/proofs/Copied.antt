@@ -99,16 +99,22 @@ module _ (v : Version) where
   map-length [] = refl
   map-length (s ∷ ss) = ap suc (map-length ss)
 
-  settings-back : (ss : List Setting) → listNumber (formOf v) ss ≡ 0 → recordsIn (found (Good ss) .settings) ≡ ss
-  settings-back ss h =
-      let t : take (length ss) (map entryOf ss ++ replicate (64 - length ss) emptyEntry) ≡ map entryOf ss =
-      take-at (map entryOf ss) (replicate (64 - length ss) emptyEntry) (length ss) (map-length ss) in
+  -- settings that begin with a list's entries, whatever stands behind them
+  pub settings-back : (ss : List Setting) (rest : List Entry) → listNumber (formOf v) ss ≡ 0
+      → recordsIn (record { count = length ss; entries = map entryOf ss ++ rest }) ≡ ss
+  settings-back ss rest h =
+      let t : take (length ss) (map entryOf ss ++ rest) ≡ map entryOf ss = take-at (map entryOf ss) rest (length ss) (map-length ss) in
       ap (map entrySetting) t ∙ records-back ss 0 [] h
 
-  pub copy-same : CopySame v
+  pub settings-number : (ss : List Setting) (rest : List Entry) → listNumber (formOf v) ss ≡ 0
+      → numberAs v (record { count = length ss; entries = map entryOf ss ++ rest }) ≡ 0
   unfolding numberAs
+  settings-number ss rest h =
+      let m = at-most ss 0 [] h (omega arith) in
+      rw (settings-back ss rest h, h, le-leb (length ss) 64 (omega arith))
+
+  pub copy-same : CopySame v
   copy-same text ss e =
       let o = only-text v text ss e in
-      let b = settings-back ss (o .1) in
-      let m = at-most ss 0 [] (o .1) (omega arith) in
-      (rw (b, o .1, le-leb (length ss) 64 (omega arith)), ap (textOf (formOf v)) b ∙ sym (o .0))
+      let rest = replicate (64 - length ss) emptyEntry in
+      (settings-number ss rest (o .1), ap (textOf (formOf v)) (settings-back ss rest (o .1)) ∙ sym (o .0))

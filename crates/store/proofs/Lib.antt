@@ -8,3 +8,4 @@ pub mod Saved
 pub mod Turns
 pub mod Theorems
 pub mod Copied
+pub mod Recasts

@@ -2,6 +2,7 @@
 // are `reading::read_form1` and `saving::write_form1`. A caller cites `readOf`, `textOf` and `listNumber` of
 // settings_text; `found` of specs/Reading, `recordsIn` and `storeNumber` of specs/Entries and `Saves` of specs/Saving.
 pub mod line;
+pub mod moving;
 pub mod names;
 pub mod numbers;
 pub mod reading;
