@@ -1,15 +1,18 @@
-// The bench's program for settings stores (document 02, A7): a store on standard input. With no argument or with `check` it
-// answers `ok`, the form and the count of records, or `bad`, line number from 1 and refusal number, parted by tabs. With
-// `copy` it writes the store that it read, byte for byte the same, or that `bad` line. Any other argument is told on
-// standard error which there are.
+// The bench's program for settings stores (document 02, A7 and A12): a store on standard input. With no argument or with
+// `check` it answers `ok`, the form and the count of records, or `bad`, line number from 1 and refusal number, parted by
+// tabs. With `copy` it writes the store that it read, byte for byte the same, or that `bad` line. Both take either form.
+// With `forth` it writes a store of form 1 as one of form 2, with `back` a store of form 2 as one of form 1, or a `bad`
+// line alone, with line 0 where no line is to blame. Any other argument is told on standard error which there are.
 //
 // Of a longer input the first 16,384 bytes are taken: line 66 ends within the first 10,471 or is too long, and no line
-// behind it is looked at. `checked` and `copied` of specs/Answers say what is written; here are the reads and the
-// writes. A read that fails ends the program with nothing written.
+// behind it is looked at. `checked`, `copied` and `movedAnswer` of specs/Answers say what is written; here are the reads
+// and the writes. A read that fails ends the program with nothing written.
 mod answers;
 
+use answers::put_back;
 use answers::put_checked;
 use answers::put_copied;
+use answers::put_forth;
 use libc::STDERR_FILENO;
 use libc::STDIN_FILENO;
 use libc::STDOUT_FILENO;
@@ -92,6 +95,8 @@ fn take_all(text: &mut [u8]) -> Taken
 enum Asked {
     Check,
     Copy,
+    Forth,
+    Back,
     Unknown,
 }
 
@@ -106,6 +111,12 @@ fn first_argument() -> Asked {
     }
     if same_bytes(&word[..n], b"copy") {
         return Asked::Copy;
+    }
+    if same_bytes(&word[..n], b"forth") {
+        return Asked::Forth;
+    }
+    if same_bytes(&word[..n], b"back") {
+        return Asked::Back;
     }
     Asked::Unknown
 }
@@ -123,10 +134,18 @@ fn answer(question: Asked, text: &[u8], out: &mut [u8])
             let n = put_copied(text, out);
             io::write_all(STDOUT_FILENO, &out[..n]);
         }
+        Asked::Forth => {
+            let n = put_forth(text, out);
+            io::write_all(STDOUT_FILENO, &out[..n]);
+        }
+        Asked::Back => {
+            let n = put_back(text, out);
+            io::write_all(STDOUT_FILENO, &out[..n]);
+        }
         Asked::Unknown => {
             io::write_all(
                 STDERR_FILENO,
-                b"settings, settings check or settings copy\n",
+                b"settings, settings check, copy, forth or back\n",
             );
         }
     }

@@ -8,7 +8,7 @@ use lib.IntN.{ℤ, pos, negsuc, natAbs}
 use lib.ListN.{length}
 use lib.Signed.{ltZ}
 use Rattle.sums.specs.Calls.{newNumber}
-use Rattle.text.specs.Letters.{bytes, tab}
+use Rattle.text.specs.Letters.{bytes, tab, newline}
 use Rattle.text.specs.Numbers.{decimalOf}
 use Rattle.text.specs.Parts.{parted, joinedBy}
 use Rattle.text.specs.Ranges.{unsigned, signed, allLie, numberIn, numbersIn, texts}
@@ -151,3 +151,12 @@ form1 = formOf One
 
 abbrev pub form2 : Form Setting
 form2 = formOf Two
+
+-- the form that a text's first line opens; form 1 where it opens none
+abbrev pub versionIn : List (List ℕ) → Version
+versionIn [] = One
+versionIn (first ∷ []) = One
+versionIn (first ∷ next ∷ rest) = cond (same first (heading Two)) Two One
+
+unfoldable pub versionOf : List ℕ → Version
+versionOf text = versionIn (parted newline text)

@@ -17,10 +17,11 @@ use Rattle.text.specs.Parts.{endOf, parted}
 use Rattle.text.specs.Same.{same}
 use Rattle.text.proofs.Parting.{end-parted, parted-length}
 use Rattle.text.proofs.Sameness.{same-self}
-use Rattle.settings_text.specs.Lines.{Setting, formOf, heading, recordIn, recordName}
+use Rattle.settings_text.specs.Lines.{Setting, formOf, heading, recordIn, recordName, versionIn, versionOf}
 use Rattle.settings_text.specs.Stores.{Bad, Found, Good, withFirst, judged, lineThen, linesIn, openedBy, readOf, recordNumber}
 use Rattle.settings_text.proofs.Lines.{line-fits, line-named, line-only}
 use Rattle.settings_text.specs.declared.version.Version.{Version}
+use Rattle.settings_text.specs.declared.version.Version.the-variants.{One, Two}
 use Rattle.store.specs.Entries.{emptyEntry, entryOf, nameBytes, numberFor}
 use Rattle.store.specs.Reading.{found, holding, lineAt, lineRead, settingAt, stepBy, stepAt}
 use Rattle.store.specs.declared.line.Line.{Line}
@@ -295,3 +296,21 @@ module _ (v : Version) where
                 (λ (x : Entry). numberFor v k last (nameBytes (x .name)) (x .kind) (map (wrap w32) (x .a))) e ∙ number-kept v k last s
                 (line-fits v (take (end - at) (drop at text)) s f) (line-only v (take (end - at) (drop at text)) s f .1) in
                 sym (rw (step-is, f, e, n))
+
+-- the form that the first line opens
+module _ (text : List ℕ) (e : ℕ) (p : e ≡ endOf 10 text 0) where
+  pub no-form : length text ≤ e → One ≡ versionOf text
+  unfolding versionOf
+  no-form h = sym (rw (parts-last text 0 (omega arith) (rw p at h)))
+
+  pub line-form : e < length text → cond (same (take e text) (heading Two)) Two One ≡ versionOf text
+  unfolding versionOf
+  line-form h =
+      let z : endOf 10 text 0 - 0 ≡ endOf 10 text 0 = omega arith in
+      let t : parted 10 text ≡ take e text ∷ parted 10 (drop (endOf 10 text 0 + 1) text) =
+      rw p (parts-here text 0 (omega arith) (omega arith) ∙ ap (λ (k : ℕ). take k text ∷ parted 10 (drop (endOf 10 text 0 + 1) text)) z) in
+      sym (rw t (by (parted 10 (drop (endOf 10 text 0 + 1) text)) (parts-some (drop (endOf 10 text 0 + 1) text))))
+    where
+      by : (ps : List (List ℕ)) → 0 < length ps → versionIn (take e text ∷ ps) ≡ cond (same (take e text) (heading Two)) Two One
+      by [] l = absurd (omega arith)
+      by (x ∷ ps) l = refl

@@ -14,7 +14,7 @@ ghost use mathlib.Core.Option.{none};
 ghost use Prim.Native.Nat.{_≤_, _<_};
 ghost use lib.ListN.{length};
 ghost use Rattle.text.specs.Same.{same};
-ghost use Rattle.settings_text.specs.Lines.{heading, formOf, form1, form2};
+ghost use Rattle.settings_text.specs.Lines.{heading, formOf, form1, form2, versionOf};
 ghost use Rattle.settings_text.specs.Stores.{Bad, readOf};
 ghost use Rattle.store.specs.Entries.{nameBytes};
 ghost use Rattle.store.specs.Reading.{stepBy, stepAt, found};
@@ -89,8 +89,22 @@ fn opens(version: Version, first: &[u8]) -> bool
     }
 }
 
-// Reads a store: its settings, or its first bad line and what that is refused with.
-fn read_store(version: Version, text: &[u8]) -> Read
+// The form that a text's first line opens; form 1 where it opens none.
+pub fn form_of(text: &[u8]) -> Version
+    ensures { λ r. ⌜ r ≡ versionOf (now (text .entry)) ⌝ }
+{
+    let e = part_end(text, 0, b'\n');
+    if text.len() <= e {
+        return Version::One;
+    }
+    if opens(Version::Two, &text[..e]) {
+        return Version::Two;
+    }
+    Version::One
+}
+
+// Reads a store of a form: its settings, or its first bad line and what that is refused with.
+pub fn read_store(version: Version, text: &[u8]) -> Read
     ensures { λ r. ⌜ r ≡ found (readOf (formOf version) (now (text .entry))) ⌝ }
 {
     let e = part_end(text, 0, b'\n');

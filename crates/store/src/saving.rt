@@ -107,8 +107,9 @@ pub enum Written {
     Refused(u32),
 }
 
-// Writes a store at the start of the slice.
-fn write_store(version: Version, settings: Settings, out: &mut [u8]) -> Written
+// Writes a store of a form at the start of the slice; the rest of it stays. A bad list is refused by its number, else a
+// short slice by 20: then nothing is written.
+pub fn write_store(version: Version, settings: Settings, out: &mut [u8]) -> Written
     ensures { λ r. ⌜ SavesAs version settings (now (out .entry)) r (now (out .exit)) ⌝ }
 {
     let mut buf = [0u8; 9030];
@@ -125,15 +126,14 @@ fn write_store(version: Version, settings: Settings, out: &mut [u8]) -> Written
     Written::Bytes(end)
 }
 
-// Writes a store of form 1 at the start of the slice; the rest of it stays. A bad list is refused by its number, else a
-// short slice by 20: then nothing is written.
+// The same of form 1.
 pub fn write_form1(settings: Settings, out: &mut [u8]) -> Written
     ensures { λ r. ⌜ Saves settings (now (out .entry)) r (now (out .exit)) ⌝ }
 {
     write_store(Version::One, settings, out)
 }
 
-// The same in form 2.
+// The same of form 2.
 pub fn write_form2(settings: Settings, out: &mut [u8]) -> Written
     ensures { λ r. ⌜ SavesAs Two settings (now (out .entry)) r (now (out .exit)) ⌝ }
 {

@@ -8,13 +8,13 @@ returns : tie.Need-returns
 returns c =
     let at-put-byte : tie.After-put-byte = search in
     let at-put-decimal : tie.After-put-decimal = search in
-    let at-put-bytes : tie.After-put-bytes = search in
+    let at-put-form : tie.After-put-form = search in
     let begin : tie.Start = search in
     let a = begin .args in
-    ok-wrote (a .out .now) (begin .pre) (a .count) _ _ _ _ _ _
-    (at-put-bytes .put-bytes .ensures) (at-put-decimal .put-decimal .ensures) (at-put-byte .put-byte .ensures)
+    ok-wrote (a .out .now) (begin .pre) (a .version) (a .count) _ _ _ _ _ _
+    (at-put-form .put-form .ensures) (at-put-decimal .put-decimal .ensures) (at-put-byte .put-byte .ensures)
 
 pub put-ok-spec : {M : Type 1} → statement M
 put-ok-spec =
-    tie.close (tie.spec (λ c. search needs) (λ c κs. search needs) (λ c κs. search needs) (λ c κs. search needs)
+    tie.close (tie.spec (λ c κs. search needs) (λ c κs. search needs) (λ c κs. search needs)
     (λ c. search needs) returns)
