@@ -1,6 +1,7 @@
 #!/usr/bin/env python3
-"""Holds the program `settings` against settings_model.py on drawn stores, good and damaged, each checked and copied: whole, in random
-parts, and byte by byte. The last ones are longer than the program's buffer.
+"""Holds the program `settings` against settings_model.py on drawn stores of either form, good and damaged, each checked, copied and
+moved forth and back: whole, in random parts, and byte by byte. Every good store of form 1 that is moved forth must come back as the
+same bytes. The last ones are longer than the program's buffer.
 
     python3 samples/fuzz_settings.py [COUNT] [PROGRAM]     (5000 inputs; target/bin/settings, or samples/settings on another processor)
 """
@@ -20,9 +21,16 @@ def drawn(rng, least, most, wild):
     return rng.choice(EDGES) if wild and rng.random() < 0.1 else rng.randint(least, most)
 
 
-def line(rng, name, wild):
+def line(rng, name, wild, form, dithers):
+    if form == 2 and rng.random() < dithers or wild and rng.random() < 0.01:
+        low, high = sorted(drawn(rng, -(2**31), 2**31 - 1, wild) for _ in range(2))
+        if wild and rng.random() < 0.1:
+            low, high = high, low
+        numbers = [drawn(rng, 1, 31, wild)] + [drawn(rng, -(2**31), 2**31 - 1, wild) for _ in range(6)] + [low, high]
+        return b"\t".join([b"dither", name] + [b"%d" % n for n in numbers])
     if rng.random() < 0.5:
-        return b"cic\t%s\t%d\t%d\t%d" % (name, drawn(rng, 0, 8, wild), drawn(rng, 1, 8, wild), drawn(rng, 0, 65535, wild))
+        third = drawn(rng, form - 1, 65534 + form, wild)
+        return b"cic\t%s\t%d\t%d\t%d" % (name, drawn(rng, 0, 8, wild), drawn(rng, 1, 8, wild), third)
     k = rng.choice([0, 1, 2, 8, 9, 10]) if wild and rng.random() < 0.2 else rng.randint(0, 8)
     digits = b"".join((b"%X" if wild and rng.random() < 0.01 else b"%x") % rng.randint(0, 15) for _ in range(k)) or b"-"
     fields = [b"wdf", name, b"%d" % k, digits] + [b"%d" % drawn(rng, -(2**31), 2**31 - 1, wild) for _ in range(k)]
@@ -39,7 +47,8 @@ def generated(rng):
     if wild and count > 1 and rng.random() < 0.2:
         i = rng.randrange(count - 1)
         names[i] = names[i + 1] if rng.random() < 0.5 else names[i] + b"z"
-    data = b"".join(l + b"\n" for l in [b"set\t1"] + [line(rng, n, wild) for n in names])
+    form, dithers = rng.choice([1, 1, 2]), rng.choice([0, 0, 0.3])
+    data = b"".join(l + b"\n" for l in [b"set\t%d" % form] + [line(rng, n, wild, form, dithers) for n in names])
     for _ in range(rng.choice([0, 0, 0, 0, 0, 1, 1, 2])):
         data = damaged(rng, data)
     if wild and rng.random() < 0.1:
@@ -83,7 +92,7 @@ def cuts(rng, data):
 def main():
     count = int(sys.argv[1]) if len(sys.argv) > 1 else 5000
     program = sys.argv[2] if len(sys.argv) > 2 else os.path.join(HERE, "settings")
-    numbers, differ = {}, 0
+    numbers, differ, round_trips = {}, 0, 0
     drawn_inputs = [(i, random.Random("settings %d" % i)) for i in range(count)]
     inputs = [(i, rng, generated(rng)) for i, rng in drawn_inputs]
     inputs += [("long %d" % i, random.Random(i), data) for i, data in enumerate(long_ones(random.Random("long")))]
@@ -93,11 +102,19 @@ def main():
         numbers[int(number)] = numbers.get(int(number), 0) + 1
         ways = [cuts(rng, data)] + ([[data[j:j + 1] for j in range(len(data))]] if len(data) < 400 else [])
         for parts in ways:
-            for word, answer in [([], want), (["check"], want), (["copy"], model.copied(data))]:
+            moves = [(["forth"], model.forth(data)), (["back"], model.back(data))]
+            for word, answer in [([], want), (["check"], want), (["copy"], model.copied(data))] + moves:
                 if answered(program, word, parts) != answer:
                     differ += 1
                     print("input", i, "differs with", word)
-    print("%d inputs: %d differ; by number %s" % (len(inputs), differ, " ".join("%d: %d" % n for n in sorted(numbers.items()))))
+        if want.startswith(b"ok\t1"):
+            there = answered(program, ["forth"], cuts(rng, data))
+            round_trips += 1
+            if answered(program, ["back"], cuts(rng, there)) != data:
+                differ += 1
+                print("input", i, "does not come back")
+    told = " ".join("%d: %d" % n for n in sorted(numbers.items()))
+    print("%d inputs, %d of them forth and back: %d differ; by number %s" % (len(inputs), round_trips, differ, told))
 
 
 if __name__ == "__main__":

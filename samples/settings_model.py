@@ -1,4 +1,4 @@
-"""A settings store of form 1 in plain Python, written from document 02, A7, and not from the program. Run, it prints the stored cases
+"""A settings store of either form in plain Python, written from document 02, A7 and A12, and not from the program. Run, it prints the stored cases
 of crates/settings_cases with their answers:
 
     python3 samples/settings_model.py CASES     (a file of names and texts, each ended by #)
@@ -18,8 +18,8 @@ def number(field, least, most):
     return v if least <= v <= most else None
 
 
-def record(line):
-    """A line's record, or None where its form is wrong."""
+def record(line, form=1):
+    """A line's record in a form, or None where its form is wrong."""
     fields = line.split(b"\t")
     if len(line) > 160 or len(fields) < 2 or not NAME.fullmatch(fields[1]):
         return None
@@ -35,49 +35,86 @@ def record(line):
         if sections == 0 and fields[3] != b"-" or not re.fullmatch(rb"[0-9a-f]{%d}" % sections, nibbles):
             return None
         return ("wdf", fields[1], nibbles, coefficients)
+    if form == 2 and fields[0] == b"dither" and len(fields) == 11:
+        f = number(fields[2], 0, 2**32 - 1)
+        others = [number(x, -(2**31), 2**31 - 1) for x in fields[3:]]
+        return None if f is None or None in others else ("dither", fields[1], f, others)
     return None
 
 
-def parameters(r):
+def parameters(r, form=1):
     """The first parameter number that refuses a record, or 0. A text has no nibble beyond the last section, so no 51."""
     if r[0] == "wdf":
         return 50 if len(r[3]) > 8 else 0
-    order, delay, rate = r[2:]
-    return 10 if order > 8 else 11 if not 1 <= delay <= 8 else 12 if rate > 65535 else 0
+    if r[0] == "dither":
+        return 40 if not 1 <= r[2] <= 31 else 41 if r[3][6] > r[3][7] else 0
+    order, delay, n = r[2:]
+    return 10 if order > 8 else 11 if not 1 <= delay <= 8 else 12 if not form - 1 <= n <= 65534 + form else 0
 
 
-def read(text):
+def form_of(text):
+    """The form that the first line opens; 1 where it opens none."""
+    return 2 if text.startswith(b"set\t2\n") else 1
+
+
+def read(text, form=1):
     """The records, or the first bad line from 1 and its number."""
     lines = text.split(b"\n")
-    if len(lines) < 2 or lines[0] != b"set\t1":
+    if len(lines) < 2 or lines[0] != b"set\t%d" % form:
         return 1, 80
     records = []
     for at, line in enumerate(lines[1:], 2):
         if at == len(lines) and not line:
             break
-        r = record(line) if at < len(lines) else None
+        r = record(line, form) if at < len(lines) else None
         if r is None:
             return at, 81
         if len(records) == 64:
             return at, 83
         if records and r[1] <= records[-1][1]:
             return at, 82
-        if parameters(r):
-            return at, parameters(r)
+        if parameters(r, form):
+            return at, parameters(r, form)
         records.append(r)
     return records
 
 
-def checked(text):
-    r = read(text)
-    return b"ok\t1\t%d\n" % len(r) if isinstance(r, list) else b"bad\t%d\t%d\n" % r
+def checked(text, form=None):
+    """The answer of a program that knows one form, or both."""
+    form = form or form_of(text)
+    r = read(text, form)
+    return b"ok\t%d\t%d\n" % (form, len(r)) if isinstance(r, list) else b"bad\t%d\t%d\n" % r
 
 
 def copied(text):
-    return text if isinstance(read(text), list) else checked(text)
+    return text if isinstance(read(text, form_of(text)), list) else checked(text)
+
+
+def moved(text, form, other):
+    """A store of one form as one of the other, line by line; or the refusal."""
+    r = read(text, form)
+    if not isinstance(r, list):
+        return b"bad\t%d\t%d\n" % r
+    if other == 1 and any(x[0] == "dither" for x in r):
+        return b"bad\t0\t84\n"
+    lines = [b"set\t%d" % other]
+    for line in text.split(b"\n")[1:-1]:
+        fields = line.split(b"\t")
+        if fields[0] == b"cic":
+            fields[4] = b"%d" % (int(fields[4]) + other - form)
+        lines.append(b"\t".join(fields))
+    return b"\n".join(lines) + b"\n"
+
+
+def forth(text):
+    return moved(text, 1, 2)
+
+
+def back(text):
+    return moved(text, 2, 1)
 
 
 if __name__ == "__main__":
     parts = open(sys.argv[1], "rb").read().split(b"#")[:-1]
     for name, text in zip(parts[::2], parts[1::2]):
-        sys.stdout.buffer.write(name + b"\t" + checked(text))
+        sys.stdout.buffer.write(name + b"\t" + checked(text, 1))

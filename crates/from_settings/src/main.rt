@@ -56,6 +56,8 @@ fn run(entry: Entry) {
     match kind {
         Kind::Cic(order, delay, rate) => print(first_decimated(order, delay, rate)),
         Kind::Wdf(sections, architecture) => print(first_passed(sections, architecture, a)),
+        // A store of form 1 holds none.
+        Kind::Dither(_) => {}
     }
 }
 
