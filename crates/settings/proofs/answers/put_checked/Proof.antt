@@ -11,8 +11,9 @@ returns c =
     let at-form : tie.After-form-of = search in
     let at-read : tie.After-read-store = search in
     let begin : tie.Start = search in
-    gave-same (bad-checked _ (begin .args .text .now) (at-read .read-store .result) (at-read .read-store .ensures) (then1 .if1 .taken))
-    (at-put-bad .put-bad .ensures)
+    rw (← at-form .form-of .ensures)
+    (gave-same (bad-checked _ (begin .args .text .now) (at-read .read-store .result) (at-read .read-store .ensures) (then1 .if1 .taken))
+    (at-put-bad .put-bad .ensures))
 
 returns-2 : tie.Need-returns-2
 returns-2 c =
@@ -21,10 +22,11 @@ returns-2 c =
     let at-form : tie.After-form-of = search in
     let at-read : tie.After-read-store = search in
     let begin : tie.Start = search in
-    gave-same (ok-checked _ (begin .args .text .now) (at-read .read-store .result) (at-read .read-store .ensures) (else1 .if1 .left))
-    (at-put-ok .put-ok .ensures)
+    rw (← at-form .form-of .ensures)
+    (gave-same (ok-checked _ (begin .args .text .now) (at-read .read-store .result) (at-read .read-store .ensures) (else1 .if1 .left))
+    (at-put-ok .put-ok .ensures))
 
 pub put-checked-spec : {M : Type 1} → statement M
 put-checked-spec =
-    tie.close (tie.spec (λ c κs. search needs) (λ c κs. search needs) (λ c. search needs) returns (λ c κs. search needs)
+    tie.close (tie.spec (λ c κs. search needs) (λ c κs. search needs) (λ c κs. search needs) (λ c. search needs) returns (λ c κs. search needs)
     (λ c. search needs) returns-2)

@@ -11,8 +11,9 @@ returns c =
     let at-form : tie.After-form-of = search in
     let at-read : tie.After-read-store = search in
     let begin : tie.Start = search in
-    gave-same (bad-copied _ (begin .args .text .now) (at-read .read-store .result) (at-read .read-store .ensures) (then1 .if1 .taken))
-    (at-put-bad .put-bad .ensures)
+    rw (← at-form .form-of .ensures)
+    (gave-same (bad-copied _ (begin .args .text .now) (at-read .read-store .result) (at-read .read-store .ensures) (then1 .if1 .taken))
+    (at-put-bad .put-bad .ensures))
 
 returns-2 : tie.Need-returns-2
 returns-2 c =
@@ -21,8 +22,9 @@ returns-2 c =
     let at-form : tie.After-form-of = search in
     let at-read : tie.After-read-store = search in
     let begin : tie.Start = search in
-    copies _ (begin .args .text .now) (at-read .read-store .result) (at-read .read-store .ensures) (else1 .if1 .left)
-    (begin .args .out .now) (begin .pre .1) _ _ (at-write .write-store .ensures) _ (c .before .n .given .1)
+    rw (← at-form .form-of .ensures)
+    (copies _ (begin .args .text .now) (at-read .read-store .result) (at-read .read-store .ensures) (else1 .if1 .left)
+    (begin .args .out .now) (begin .pre .1) _ _ (at-write .write-store .ensures) _ (c .before .n .given .1))
 
 returns-3 : tie.Need-returns-3
 returns-3 c =
@@ -37,5 +39,5 @@ returns-3 c =
 
 pub put-copied-spec : {M : Type 1} → statement M
 put-copied-spec =
-    tie.close (tie.spec (λ c κs. search needs) (λ c κs. search needs) (λ c. search needs) returns (λ c κs. search needs)
+    tie.close (tie.spec (λ c κs. search needs) (λ c κs. search needs) (λ c κs. search needs) (λ c. search needs) returns (λ c κs. search needs)
     (λ c. search needs) (λ c. search needs) (λ c κs. search needs) (λ c. search needs) returns-2 (λ c. search needs) returns-3)
