@@ -24,16 +24,22 @@ returns-2 c =
     let begin : tie.Start = search in
     let at-part-end : tie.After-part-end = search in
     let at-opens : tie.After-opens = search in
-    rw (← line-form (begin .args .text .now) (at-part-end .part-end .result) (at-part-end .part-end .ensures) (omega arith),
-    ← at-opens .opens .ensures, c .if2 .taken)
+    rw (
+      ← line-form (begin .args .text .now) (at-part-end .part-end .result) (at-part-end .part-end .ensures) (omega arith),
+      ← at-opens .opens .ensures,
+      c .if2 .taken,
+    )
 
 returns-3 : tie.Need-returns-3
 returns-3 c =
     let begin : tie.Start = search in
     let at-part-end : tie.After-part-end = search in
     let at-opens : tie.After-opens = search in
-    rw (← line-form (begin .args .text .now) (at-part-end .part-end .result) (at-part-end .part-end .ensures) (omega arith),
-    ← at-opens .opens .ensures, c .if2 .left)
+    rw (
+      ← line-form (begin .args .text .now) (at-part-end .part-end .result) (at-part-end .part-end .ensures) (omega arith),
+      ← at-opens .opens .ensures,
+      c .if2 .left,
+    )
 
 pub form-of-spec : {M : Type 1} → statement M
 form-of-spec =
