@@ -2,10 +2,10 @@
 // given a step of 1000. Prints each record's name and the first output.
 use cic::state::Cic;
 use cic::steps::Out;
+use entries::settings::Entry;
+use entries::settings::Kind;
 use libc::STDOUT_FILENO;
-use store::reading::read_form1;
-use store::settings::Entry;
-use store::settings::Kind;
+use store_read::reading::read_form1;
 use wdf::filter::Wdf;
 use words::casts::i32_as_u32;
 

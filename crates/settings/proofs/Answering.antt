@@ -22,13 +22,13 @@ use Rattle.settings_text.proofs.Stores.{numbered}
 use Rattle.store.specs.Moving.{Moves, moveEnds}
 use Rattle.store.specs.declared.moving.Move.{Move}
 use Rattle.store.specs.declared.moving.Move.the-variants as moves
-use Rattle.store.specs.Reading.{found}
-use Rattle.store.specs.Saving.{SavesAs, saved, textAs}
-use Rattle.store.specs.Entries.{numberAs}
-use Rattle.store.specs.declared.reading.Read.{Read}
-use Rattle.store.specs.declared.saving.Written.{Written}
-use Rattle.store.specs.declared.saving.Written.the-variants.{Bytes, Refused}
-use Rattle.store.specs.declared.settings.Settings.{Settings}
+use Rattle.store_read.specs.Reading.{found}
+use Rattle.store_write.specs.Saving.{SavesAs, saved, textAs}
+use Rattle.entries.specs.Entries.{numberAs}
+use Rattle.store_read.specs.declared.reading.Read.{Read}
+use Rattle.store_write.specs.declared.saving.Written.{Written}
+use Rattle.store_write.specs.declared.saving.Written.the-variants.{Bytes, Refused}
+use Rattle.entries.specs.declared.settings.Settings.{Settings}
 use Rattle.store.proofs.Copied.{copy-same}
 use Rattle.settings.specs.Answers.{okForm, okAnswer, badAnswer, checked, copied, movedAnswer, Gave}
 

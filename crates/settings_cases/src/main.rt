@@ -1,15 +1,15 @@
 // Every reading of document 02, A7, with a case: names and texts on standard input, each ended by `#`. A name is answered by
 // what reading its text finds, `ok`, the form and the count of records, or `bad`, line and number; a text that was
 // read is written again and must be the same. Then lists that no text can hold are written.
+use entries::settings::Entry;
+use entries::settings::Kind;
+use entries::settings::Name;
+use entries::settings::Settings;
 use libc::STDIN_FILENO;
 use libc::STDOUT_FILENO;
-use store::reading::read_form1;
-use store::saving::Written;
-use store::saving::write_form1;
-use store::settings::Entry;
-use store::settings::Kind;
-use store::settings::Name;
-use store::settings::Settings;
+use store_read::reading::read_form1;
+use store_write::saving::Written;
+use store_write::saving::write_form1;
 use text::comparing::same_bytes;
 use text::parts::part_end;
 ghost use Prim.Native.Nat.{_<_};

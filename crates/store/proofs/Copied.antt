@@ -23,15 +23,14 @@ use Rattle.settings_text.proofs.Forms.{only-text}
 use Rattle.settings_text.proofs.Lines.{wdf-small, below}
 use Rattle.settings_text.proofs.Names.{name-short}
 use Rattle.settings_text.proofs.Stores.{both-zero, write-zero, no-parameter}
-use Rattle.store.specs.Entries.{padTo, eight, padded, nameBytes, wholeName, entryOf, settingBy, entrySetting, recordsIn}
-use Rattle.store.specs.Entries.{numberAs, emptyEntry}
+use Rattle.entries.specs.Entries.{padTo, eight, padded, nameBytes, wholeName, entryOf, settingBy, entrySetting, recordsIn}
+use Rattle.entries.specs.Entries.{numberAs, emptyEntry}
 use Rattle.store.specs.Laws.{CopySame}
-use Rattle.store.specs.Reading.{found}
-use Rattle.store.specs.declared.settings.Entry.{Entry}
-use Rattle.store.specs.declared.settings.Kind.the-variants as kinds
-use Rattle.store.proofs.Ends.{name-back}
-use Rattle.store.proofs.Numbering.{kept, eight-words}
-use Rattle.store.proofs.Putting.{whole-name}
+use Rattle.store_read.specs.Reading.{found}
+use Rattle.entries.specs.declared.settings.Entry.{Entry}
+use Rattle.entries.specs.declared.settings.Kind.the-variants as kinds
+use Rattle.entries.proofs.Arrays.{name-back, whole-name}
+use Rattle.entries.proofs.Numbering.{kept, eight-words}
 
 -- coefficients of i32 are their words
 words-back : (k : ℕ) (cs : List ℤ) → length cs ≤ k → allLie signed cs ≡ true → take (length cs)

@@ -1,11 +1,3 @@
-pub mod Copying
-pub mod Counting
-pub mod Ends
-pub mod Numbering
-pub mod Putting
-pub mod Judging
-pub mod Saved
-pub mod Turns
 pub mod Theorems
 pub mod Copied
 pub mod Recasts

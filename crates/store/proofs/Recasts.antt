@@ -20,17 +20,17 @@ use Rattle.settings_text.specs.declared.version.Version.the-variants.{One, Two}
 use Rattle.settings_text.proofs.Forms.{only-text}
 use Rattle.settings_text.proofs.Moves.{Keeps, list-kept, forth-keeps, back-keeps, all-placed, missing, dither-missing, number-parts}
 use Rattle.settings_text.proofs.Stores.{both-zero, write-zero, no-parameter, numbered}
-use Rattle.store.specs.Entries.{emptyEntry, entryOf, numberAs}
+use Rattle.entries.specs.Entries.{emptyEntry, entryOf, numberAs}
 use Rattle.store.specs.Moving.{Moves, moveEnds, thirdIn, recastEntry, recastIn, ditherKind, anyDitherIn}
-use Rattle.store.specs.Reading.{found}
-use Rattle.store.specs.Saving.{SavesAs, textAs}
+use Rattle.store_read.specs.Reading.{found}
+use Rattle.store_write.specs.Saving.{SavesAs, textAs}
 use Rattle.store.specs.declared.moving.Move.the-variants as moves
 use Rattle.store.specs.declared.moving.Move.{Move}
-use Rattle.store.specs.declared.reading.Read.{Read}
-use Rattle.store.specs.declared.saving.Written.the-variants as writes
-use Rattle.store.specs.declared.saving.Written.{Written}
-use Rattle.store.specs.declared.settings.Entry.{Entry}
-use Rattle.store.specs.declared.settings.Settings.{Settings}
+use Rattle.store_read.specs.declared.reading.Read.{Read}
+use Rattle.store_write.specs.declared.saving.Written.the-variants as writes
+use Rattle.store_write.specs.declared.saving.Written.{Written}
+use Rattle.entries.specs.declared.settings.Entry.{Entry}
+use Rattle.entries.specs.declared.settings.Settings.{Settings}
 use Rattle.store.proofs.Copied.{settings-back, settings-number}
 
 -- the entries recast so far, and those as they were

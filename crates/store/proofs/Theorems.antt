@@ -9,9 +9,9 @@ use Rattle.settings_text.specs.declared.version.Version.{Version}
 use Rattle.settings_text.specs.Stores.{orElse, listNumber}
 use Rattle.settings_text.proofs.Forms.{same-settings}
 use Rattle.settings_text.proofs.Moves.{other-form-refused}
-use Rattle.store.specs.Entries.{recordsIn, numberAs}
+use Rattle.entries.specs.Entries.{recordsIn, numberAs}
 use Rattle.store.specs.Laws.{WrittenReads, OldRefuses}
-use Rattle.store.specs.Reading.{found}
+use Rattle.store_read.specs.Reading.{found}
 
 pub written-reads : (v : Version) → WrittenReads v
 unfolding numberAs

@@ -5,10 +5,10 @@ use Prim.Native.Nat.{ℕ}
 use Rattle.settings_text.specs.declared.version.Version.{Version}
 use Rattle.settings_text.specs.Lines.{Setting, formOf, form1, form2}
 use Rattle.settings_text.specs.Stores.{Good, Bad, readOf}
-use Rattle.store.specs.Entries.{recordsIn, numberAs}
-use Rattle.store.specs.Reading.{found}
-use Rattle.store.specs.Saving.{textAs}
-use Rattle.store.specs.declared.settings.Settings.{Settings}
+use Rattle.entries.specs.Entries.{recordsIn, numberAs}
+use Rattle.store_read.specs.Reading.{found}
+use Rattle.store_write.specs.Saving.{textAs}
+use Rattle.entries.specs.declared.settings.Settings.{Settings}
 
 -- reading what was written gives the same settings
 abbrev pub WrittenReads : Version → Type 0

@@ -11,10 +11,10 @@ use Rattle.settings_text.specs.declared.version.Version.{Version}
 use Rattle.settings_text.specs.declared.version.Version.the-variants.{One, Two}
 use Rattle.store.specs.declared.moving.Move.{Move}
 use Rattle.store.specs.declared.moving.Move.the-variants as moves
-use Rattle.store.specs.declared.settings.Entry.{Entry}
-use Rattle.store.specs.declared.settings.Kind.{Kind}
-use Rattle.store.specs.declared.settings.Kind.the-variants as kinds
-use Rattle.store.specs.declared.settings.Settings.{Settings}
+use Rattle.entries.specs.declared.settings.Entry.{Entry}
+use Rattle.entries.specs.declared.settings.Kind.{Kind}
+use Rattle.entries.specs.declared.settings.Kind.the-variants as kinds
+use Rattle.entries.specs.declared.settings.Settings.{Settings}
 
 -- a refusal, or 20 where the slice is short, or the text
 abbrev pub moveEnds : {A : Type 0} → Moved → List ℕ → (ℕ → ℕ → A) → (List ℕ → A) → A

@@ -1,13 +1,13 @@
 // The moves of a store from form 1 to form 2 and back, over lent slices.
-use crate::reading::read_form1;
-use crate::reading::read_form2;
-use crate::saving::Written;
-use crate::saving::write_form1;
-use crate::saving::write_form2;
-use crate::settings::Entry;
-use crate::settings::Kind;
-use crate::settings::Settings;
+use entries::settings::Entry;
+use entries::settings::Kind;
+use entries::settings::Settings;
 use settings_text::version::Version;
+use store_read::reading::read_form1;
+use store_read::reading::read_form2;
+use store_write::saving::Written;
+use store_write::saving::write_form1;
+use store_write::saving::write_form2;
 ghost use mathlib.Core.Path.{_≡_};
 ghost use Rattle.settings_text.specs.Moves.{forth, back};
 ghost use Rattle.store.specs.Moving.{Moves, thirdIn, recastKind, recastEntry, recastIn, ditherKind, anyDitherIn};

@@ -3,7 +3,7 @@ use mathlib.Core.Path.{_≡_}
 use Prim.Native.Nat.{_-_}
 use lib.ListN.{length}
 use borrow.Author.Needs.{needs}
-use Rattle.store.proofs.Judging.{unmapped}
+use Rattle.entries.proofs.Arrays.{unmapped}
 use Rattle.from_settings.proofs.main.Statement.{statement}
 use Rattle.from_settings.proofs.main.Tie as tie
 

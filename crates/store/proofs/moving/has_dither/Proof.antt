@@ -4,7 +4,7 @@ use native.Mathlib.Omega.{arith}
 use mathlib.Core.Path.{_≡_, refl, sym, _∙_}
 use Prim.Native.Nat.{_-_}
 use lib.ListN.{length}
-use Rattle.store.proofs.Judging.{unmapped}
+use Rattle.entries.proofs.Arrays.{unmapped}
 use Rattle.store.proofs.Recasts.{Looking, looking-none, looking-on, looking-all, dither-here}
 use Rattle.store.proofs.moving.has_dither.Statement.{statement}
 use Rattle.store.proofs.moving.has_dither.Tie as tie

@@ -4,7 +4,7 @@ use native.Mathlib.Omega.{arith}
 use mathlib.Core.Path.{_≡_, refl, sym, ap, _∙_}
 use Prim.Native.Nat.{_-_}
 use lib.ListN.{length, length-set}
-use Rattle.store.proofs.Judging.{unmapped}
+use Rattle.entries.proofs.Arrays.{unmapped}
 use Rattle.store.proofs.Recasts.{Recasting, recasting-none, recasting-on, recasting-all}
 use Rattle.store.proofs.moving.recast_all.Statement.{statement}
 use Rattle.store.proofs.moving.recast_all.Tie as tie

@@ -1,0 +1,4 @@
+pub mod Copying
+pub mod Counting
+pub mod Ends
+pub mod Turns
