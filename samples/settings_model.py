@@ -114,7 +114,19 @@ def back(text):
     return moved(text, 2, 1)
 
 
+def case(name, text):
+    """The answers to a stored case: of the reader of form 1; where the text opens form 2, of that form's reader and of the move back."""
+    lines = name + b"\t" + checked(text, 1)
+    if isinstance(read(text), list) and back(forth(text)) != text:
+        lines += name + b"\tother bytes forth and back\n"
+    if form_of(text) == 2:
+        there = back(text)
+        lines += name + b"\t" + checked(text, 2)
+        lines += name + b", back\t" + (there if there.startswith(b"bad") else b"written\t%d\n" % len(there))
+    return lines
+
+
 if __name__ == "__main__":
     parts = open(sys.argv[1], "rb").read().split(b"#")[:-1]
     for name, text in zip(parts[::2], parts[1::2]):
-        sys.stdout.buffer.write(name + b"\t" + checked(text, 1))
+        sys.stdout.buffer.write(case(name, text))

@@ -1,15 +1,23 @@
-// Every reading of document 02, A7, with a case: names and texts on standard input, each ended by `#`. A name is answered by
-// what reading its text finds, `ok`, the form and the count of records, or `bad`, line and number; a text that was
-// read is written again and must be the same. Then lists that no text can hold are written.
+// Every reading of document 02, A7 and A12, with a case: names and texts on standard input, each ended by `#`. A name is
+// answered by what the reader of form 1 finds in its text, `ok`, the form and the count of records, or `bad`, line and
+// number; where the text opens form 2, by what the reader of form 2 finds, too, and by what the move back answers. A text
+// that was read is written again and must be the same, and one of form 1 must be the same forth and back. Then lists that
+// no text can hold are written, and stores are moved into short slices.
 use entries::settings::Entry;
 use entries::settings::Kind;
 use entries::settings::Name;
 use entries::settings::Settings;
 use libc::STDIN_FILENO;
 use libc::STDOUT_FILENO;
-use store_read::reading::read_form1;
+use settings_text::version::Version;
+use store::moving::Move;
+use store::moving::move_back;
+use store::moving::move_forth;
+use store_read::reading::form_of;
+use store_read::reading::read_store;
 use store_write::saving::Written;
 use store_write::saving::write_form1;
+use store_write::saving::write_store;
 use text::comparing::same_bytes;
 use text::parts::part_end;
 ghost use Prim.Native.Nat.{_<_};
@@ -23,24 +31,43 @@ fn print_number(n: u64) {
     io::print_decimal(STDOUT_FILENO, n);
 }
 
-// What writing answers.
-fn print_written(w: Written) {
-    match w {
-        Written::Bytes(n) => {
-            print(b"written\t");
-            print_number(n as u64);
-        }
-        Written::Refused(n) => {
-            print(b"bad\t");
-            print_number(n as u64);
-        }
-    }
+fn print_bad(line: usize, number: u32) {
+    print(b"\tbad\t");
+    print_number(line as u64);
+    print(b"\t");
+    print_number(number as u64);
     print(b"\n");
 }
 
+fn print_bytes(n: usize) {
+    print(b"\twritten\t");
+    print_number(n as u64);
+    print(b"\n");
+}
+
+// What writing answers.
+fn print_written(w: Written) {
+    match w {
+        Written::Bytes(n) => print_bytes(n),
+        Written::Refused(n) => {
+            print(b"\tbad\t");
+            print_number(n as u64);
+            print(b"\n");
+        }
+    }
+}
+
+// What a move answers.
+fn print_moved(m: Move) {
+    match m {
+        Move::Bytes(n) => print_bytes(n),
+        Move::Refused(line, number) => print_bad(line, number),
+    }
+}
+
 // Whether the settings are written as the bytes that they were read from.
-fn comes_back(settings: Settings, text: &[u8], out: &mut [u8]) -> bool {
-    match write_form1(settings, out) {
+fn comes_back(version: Version, settings: Settings, text: &[u8], out: &mut [u8]) -> bool {
+    match write_store(version, settings, out) {
         Written::Bytes(n) => {
             if out.len() < n {
                 return false;
@@ -51,26 +78,84 @@ fn comes_back(settings: Settings, text: &[u8], out: &mut [u8]) -> bool {
     }
 }
 
-fn show(name: &[u8], text: &[u8]) {
+// Whether a text of form 2 is moved back to these bytes.
+fn is_back(there: &[u8], text: &[u8], out: &mut [u8]) -> bool {
+    match move_back(there, out) {
+        Move::Bytes(n) => {
+            if out.len() < n {
+                return false;
+            }
+            same_bytes(&out[..n], text)
+        }
+        Move::Refused(_, _) => false,
+    }
+}
+
+// Whether a text of form 1 is the same forth and back.
+fn returns(text: &[u8], there: &mut [u8], out: &mut [u8]) -> bool {
+    match move_forth(text, there) {
+        Move::Bytes(n) => {
+            if there.len() < n {
+                return false;
+            }
+            is_back(&there[..n], text, out)
+        }
+        Move::Refused(_, _) => false,
+    }
+}
+
+fn print_form(version: Version) {
+    match version {
+        Version::One => print(b"\tok\t1\t"),
+        Version::Two => print(b"\tok\t2\t"),
+    }
+}
+
+// Whether the text could be read in the form.
+fn show_read(version: Version, name: &[u8], text: &[u8]) -> bool {
     print(name);
-    let read = read_form1(text);
+    let read = read_store(version, text);
     let number = read.number;
     if number != 0 {
-        print(b"\tbad\t");
-        print_number(read.line as u64);
-        print(b"\t");
-        print_number(number as u64);
-        print(b"\n");
-        return;
+        print_bad(read.line, number);
+        return false;
     }
     let settings = read.settings;
-    print(b"\tok\t1\t");
+    print_form(version);
     print_number(settings.count as u64);
     print(b"\n");
     let mut out = [0u8; 10310];
-    if !comes_back(settings, text, &mut out) {
+    if !comes_back(version, settings, text, &mut out) {
         print(b"not written as it was read\n");
     }
+    true
+}
+
+fn show_back(name: &[u8], text: &[u8]) {
+    print(name);
+    print(b", back");
+    let mut out = [0u8; 10310];
+    print_moved(move_back(text, &mut out));
+}
+
+fn show_return(name: &[u8], text: &[u8]) {
+    let mut there = [0u8; 10310];
+    let mut out = [0u8; 10310];
+    if !returns(text, &mut there, &mut out) {
+        print(name);
+        print(b"\tother bytes forth and back\n");
+    }
+}
+
+fn show(name: &[u8], text: &[u8]) {
+    if show_read(Version::One, name, text) {
+        show_return(name, text);
+    }
+    let Version::Two = form_of(text) else {
+        return;
+    };
+    show_read(Version::Two, name, text);
+    show_back(name, text);
 }
 
 // The case at a place of a file, and the place of the next; the file's end where no whole case is left.
@@ -122,33 +207,35 @@ fn write_list(count: usize, entry: Entry, room: usize) {
 fn write_cases() {
     let cic = Kind::Cic(3, 1, 63);
     let abc = named(*b"abcaaaaaaaaaaaaa", 3, cic);
-    print(b"empty list\t");
+    print(b"empty list");
     write_list(0, abc, 200);
-    print(b"empty list, short slice\t");
+    print(b"empty list, short slice");
     write_list(0, abc, 5);
-    print(b"one record\t");
+    print(b"one record");
     write_list(1, abc, 21);
-    print(b"one record, short slice\t");
+    print(b"one record, short slice");
     write_list(1, abc, 20);
-    print(b"no name\t");
+    print(b"no name");
     write_list(1, named(*b"abcaaaaaaaaaaaaa", 0, cic), 200);
-    print(b"name of 17\t");
+    print(b"name of 17");
     write_list(1, named(*b"abcaaaaaaaaaaaaa", 17, cic), 200);
-    print(b"capital in a name\t");
+    print(b"capital in a name");
     write_list(1, named(*b"aBcaaaaaaaaaaaaa", 3, cic), 200);
-    print(b"capital behind a name\t");
+    print(b"capital behind a name");
     write_list(1, named(*b"abcDaaaaaaaaaaaa", 3, cic), 200);
-    print(b"name twice\t");
+    print(b"name twice");
     write_list(2, abc, 200);
-    print(b"name twice, short slice\t");
+    print(b"name twice, short slice");
     write_list(2, abc, 0);
-    print(b"nine sections\t");
+    print(b"nine sections");
     write_list(1, named(*b"abcaaaaaaaaaaaaa", 3, Kind::Wdf(9, 0)), 200);
-    print(b"a nibble beyond the last\t");
+    print(b"a nibble beyond the last");
     write_list(1, named(*b"abcaaaaaaaaaaaaa", 3, Kind::Wdf(1, 0x10)), 200);
-    print(b"one section\t");
+    print(b"one section");
     write_list(1, named(*b"abcaaaaaaaaaaaaa", 3, Kind::Wdf(1, 0xf)), 200);
-    print(b"rate too great\t");
+    print(b"a dither in form 1");
+    write_list(1, named(*b"abcaaaaaaaaaaaaa", 3, Kind::Dither(1)), 200);
+    print(b"rate too great");
     write_list(
         1,
         named(*b"abcaaaaaaaaaaaaa", 3, Kind::Cic(3, 1, 65536)),
@@ -156,9 +243,55 @@ fn write_cases() {
     );
 }
 
+// A store moved into the first bytes of a slice.
+fn forth_into(text: &[u8], out: &mut [u8], room: usize) {
+    if out.len() < room {
+        return;
+    }
+    print_moved(move_forth(text, &mut out[..room]));
+}
+
+fn back_into(text: &[u8], out: &mut [u8], room: usize) {
+    if out.len() < room {
+        return;
+    }
+    print_moved(move_back(text, &mut out[..room]));
+}
+
+fn move_cases() {
+    let mut out = [0u8; 64];
+    print(b"forth");
+    forth_into(b"set\t1\ncic\ta\t3\t1\t99\n", &mut out, 20);
+    print(b"forth, short slice");
+    forth_into(b"set\t1\ncic\ta\t3\t1\t99\n", &mut out, 19);
+    print(b"forth, unreadable, short slice");
+    forth_into(b"set\t1\ncic\ta\t3\t1\t65536\n", &mut out, 0);
+    print(b"forth from form 2");
+    forth_into(b"set\t2\ncic\ta\t3\t1\t100\n", &mut out, 64);
+    print(b"back");
+    back_into(b"set\t2\ncic\ta\t3\t1\t100\n", &mut out, 19);
+    print(b"back, short slice");
+    back_into(b"set\t2\ncic\ta\t3\t1\t100\n", &mut out, 18);
+    print(b"back, a dither, short slice");
+    back_into(
+        b"set\t2\ndither\ta\t31\t1\t2\t3\t4\t5\t6\t7\t8\n",
+        &mut out,
+        0,
+    );
+    print(b"back, a dither, unreadable");
+    back_into(
+        b"set\t2\ndither\ta\t31\t1\t2\t3\t4\t5\t6\t7\t8\nx\n",
+        &mut out,
+        0,
+    );
+    print(b"back from form 1");
+    back_into(b"set\t1\ncic\ta\t3\t1\t99\n", &mut out, 64);
+}
+
 fn main() {
     let mut file = io::large_buffer();
     let n = io::read_full(STDIN_FILENO, &mut file);
     show_all(&file[..n]);
     write_cases();
+    move_cases();
 }
