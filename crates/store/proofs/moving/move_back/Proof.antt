@@ -13,8 +13,8 @@ returns c =
     let begin : tie.Start = search in
     let at-read : tie.After-read-form2 = search in
     let then1 : tie.Then1 = search in
-    move-refused Two One lowered back-keeps each-lowered (begin .args .text .now) (at-read .read-form2 .result) (at-read .read-form2 .ensures) (begin .args .out .now)
-    (then1 .if1 .taken)
+    move-refused Two One lowered back-keeps each-lowered (begin .args .text .now)
+    (at-read .read-form2 .result) (at-read .read-form2 .ensures) (begin .args .out .now) (then1 .if1 .taken)
 
 returns-2 : tie.Need-returns-2
 returns-2 c =
@@ -23,7 +23,8 @@ returns-2 c =
     let else1 : tie.Else1 = search in
     let asked : tie.After-has-dither = search in
     let a = begin .args in
-    let h = held Two One lowered back-keeps each-lowered (a .text .now) (at-read .read-form2 .result) (at-read .read-form2 .ensures) (a .out .now) (else1 .if1 .left) in
+    let h = held Two One lowered back-keeps each-lowered
+    (a .text .now) (at-read .read-form2 .result) (at-read .read-form2 .ensures) (a .out .now) (else1 .if1 .left) in
     back-none (a .text .now) (h .ss) (a .out .now) (h .good)
     (sym (dither-read (at-read .read-form2 .result .settings) (h .ss) (h .is)) ∙ sym (asked .has-dither .ensures) ∙ c .if2 .taken)
 
@@ -37,10 +38,13 @@ returns-3 c =
     let at-read : tie.After-read-form2 = search in
     let begin : tie.Start = search in
     let a = begin .args in
-    let h = held Two One lowered back-keeps each-lowered (a .text .now) (at-read .read-form2 .result) (at-read .read-form2 .ensures) (a .out .now) (else1 .if1 .left) in
-    let m = move-written Two One lowered back-keeps each-lowered (a .text .now) (at-read .read-form2 .result) (at-read .read-form2 .ensures) (a .out .now) h
+    let h = held Two One lowered back-keeps each-lowered
+    (a .text .now) (at-read .read-form2 .result) (at-read .read-form2 .ensures) (a .out .now) (else1 .if1 .left) in
+    let m = move-written Two One lowered back-keeps each-lowered
+    (a .text .now) (at-read .read-form2 .result) (at-read .read-form2 .ensures) (a .out .now) h
     (back-placed (h .ss)
-    (sym (dither-read (at-read .read-form2 .result .settings) (h .ss) (h .is)) ∙ sym (asked .has-dither .ensures) ∙ else2 .if2 .left)) (called .recast-all .result) (called .recast-all .ensures) (at-write .write-form1 .result) _ (at-write .write-form1 .ensures) in
+    (sym (dither-read (at-read .read-form2 .result .settings) (h .ss) (h .is)) ∙ sym (asked .has-dither .ensures) ∙ else2 .if2 .left))
+    (called .recast-all .result) (called .recast-all .ensures) (at-write .write-form1 .result) _ (at-write .write-form1 .ensures) in
     rw (c .before .n .given .1) at m
 
 returns-4 : tie.Need-returns-4
@@ -53,10 +57,13 @@ returns-4 c =
     let at-read : tie.After-read-form2 = search in
     let begin : tie.Start = search in
     let a = begin .args in
-    let h = held Two One lowered back-keeps each-lowered (a .text .now) (at-read .read-form2 .result) (at-read .read-form2 .ensures) (a .out .now) (else1 .if1 .left) in
-    let m = move-written Two One lowered back-keeps each-lowered (a .text .now) (at-read .read-form2 .result) (at-read .read-form2 .ensures) (a .out .now) h
+    let h = held Two One lowered back-keeps each-lowered
+    (a .text .now) (at-read .read-form2 .result) (at-read .read-form2 .ensures) (a .out .now) (else1 .if1 .left) in
+    let m = move-written Two One lowered back-keeps each-lowered
+    (a .text .now) (at-read .read-form2 .result) (at-read .read-form2 .ensures) (a .out .now) h
     (back-placed (h .ss)
-    (sym (dither-read (at-read .read-form2 .result .settings) (h .ss) (h .is)) ∙ sym (asked .has-dither .ensures) ∙ else2 .if2 .left)) (called .recast-all .result) (called .recast-all .ensures) (at-write .write-form1 .result) _ (at-write .write-form1 .ensures) in
+    (sym (dither-read (at-read .read-form2 .result .settings) (h .ss) (h .is)) ∙ sym (asked .has-dither .ensures) ∙ else2 .if2 .left))
+    (called .recast-all .result) (called .recast-all .ensures) (at-write .write-form1 .result) _ (at-write .write-form1 .ensures) in
     rw (c .before .n2 .given .1) at m
 
 pub move-back-spec : {M : Type 1} → statement M

@@ -14,8 +14,8 @@ returns c =
     let begin : tie.Start = search in
     let at-read : tie.After-read-form1 = search in
     let then1 : tie.Then1 = search in
-    move-refused One Two (λ s. some (raised s)) forth-keeps each-raised (begin .args .text .now) (at-read .read-form1 .result) (at-read .read-form1 .ensures) (begin .args .out .now)
-    (then1 .if1 .taken)
+    move-refused One Two (λ s. some (raised s)) forth-keeps each-raised (begin .args .text .now)
+    (at-read .read-form1 .result) (at-read .read-form1 .ensures) (begin .args .out .now) (then1 .if1 .taken)
 
 returns-2 : tie.Need-returns-2
 returns-2 c =
@@ -25,9 +25,12 @@ returns-2 c =
     let at-read : tie.After-read-form1 = search in
     let begin : tie.Start = search in
     let a = begin .args in
-    let h = held One Two (λ s. some (raised s)) forth-keeps each-raised (a .text .now) (at-read .read-form1 .result) (at-read .read-form1 .ensures) (a .out .now) (else1 .if1 .left) in
-    let m = move-written One Two (λ s. some (raised s)) forth-keeps each-raised (a .text .now) (at-read .read-form1 .result) (at-read .read-form1 .ensures) (a .out .now) h
-    (forth-placed (h .ss)) (called .recast-all .result) (called .recast-all .ensures) (at-write .write-form2 .result) _ (at-write .write-form2 .ensures) in
+    let h = held One Two (λ s. some (raised s)) forth-keeps each-raised
+    (a .text .now) (at-read .read-form1 .result) (at-read .read-form1 .ensures) (a .out .now) (else1 .if1 .left) in
+    let m = move-written One Two (λ s. some (raised s)) forth-keeps each-raised
+    (a .text .now) (at-read .read-form1 .result) (at-read .read-form1 .ensures) (a .out .now) h
+    (forth-placed (h .ss)) (called .recast-all .result) (called .recast-all .ensures)
+    (at-write .write-form2 .result) _ (at-write .write-form2 .ensures) in
     rw (c .before .n .given .1) at m
 
 returns-3 : tie.Need-returns-3
@@ -38,9 +41,12 @@ returns-3 c =
     let at-read : tie.After-read-form1 = search in
     let begin : tie.Start = search in
     let a = begin .args in
-    let h = held One Two (λ s. some (raised s)) forth-keeps each-raised (a .text .now) (at-read .read-form1 .result) (at-read .read-form1 .ensures) (a .out .now) (else1 .if1 .left) in
-    let m = move-written One Two (λ s. some (raised s)) forth-keeps each-raised (a .text .now) (at-read .read-form1 .result) (at-read .read-form1 .ensures) (a .out .now) h
-    (forth-placed (h .ss)) (called .recast-all .result) (called .recast-all .ensures) (at-write .write-form2 .result) _ (at-write .write-form2 .ensures) in
+    let h = held One Two (λ s. some (raised s)) forth-keeps each-raised
+    (a .text .now) (at-read .read-form1 .result) (at-read .read-form1 .ensures) (a .out .now) (else1 .if1 .left) in
+    let m = move-written One Two (λ s. some (raised s)) forth-keeps each-raised
+    (a .text .now) (at-read .read-form1 .result) (at-read .read-form1 .ensures) (a .out .now) h
+    (forth-placed (h .ss)) (called .recast-all .result) (called .recast-all .ensures)
+    (at-write .write-form2 .result) _ (at-write .write-form2 .ensures) in
     rw (c .before .n2 .given .1) at m
 
 pub move-forth-spec : {M : Type 1} → statement M

@@ -38,7 +38,7 @@ returns-3 c =
     let at-part-end : tie.After-part-end = search in
     let at-word-of : tie.After-word-of = search in
     let a = begin .args in
-    rw (c .before .before .before .before .before .before .before .enum-told .given .1)
+    rw (else1 .before .enum-told .given .1)
     (c .nothing3 .ensures ∙ dither-wrong (a .name) (begin .pre .0) (a .line .now) (a .from) (else1 .if1 .left)
     (at-part-end .part-end .result) (at-part-end .part-end .ensures) (sym (at-word-of .word-of .ensures) ∙ c .before .enum-told3 .given .1))
 
@@ -69,7 +69,7 @@ returns-4 c =
     let at-numbers-from : tie.After-numbers-from = search in
     let then2 : tie.Then2 = search in
     let a = begin .args in
-    rw (c .before .before .before .before .before .before .before .before .before .before .before .enum-told .given .1)
+    rw (else1 .before .enum-told .given .1)
     (c .nothing4 .ensures ∙ dither-none (a .name) (begin .pre .0) (a .line .now) (a .from) (else1 .if1 .left)
     (at-part-end .part-end .result) (at-part-end .part-end .ensures) (at-numbers-from .numbers-from .result)
     (at-numbers-from .numbers-from .ensures) (not-true _ (then2 .if2 .taken)))
@@ -82,7 +82,7 @@ returns-5 c =
     let at-numbers-from : tie.After-numbers-from = search in
     let then3 : tie.Then3 = search in
     let a = begin .args in
-    rw (c .before .before .before .before .before .before .before .before .before .before .before .before .before .enum-told .given .1)
+    rw (else1 .before .enum-told .given .1)
     (c .nothing5 .ensures ∙ dither-other (a .name) (begin .pre .0) (a .line .now) (a .from) (else1 .if1 .left)
     (at-part-end .part-end .result) (at-part-end .part-end .ensures) (at-numbers-from .numbers-from .result)
     (at-numbers-from .numbers-from .ensures) (then3 .if3 .taken))
@@ -92,15 +92,15 @@ returns-6 c =
     let at-numbers-from : tie.After-numbers-from = search in
     let else3 : tie.Else3 = search in
     let else2 : tie.Else2 = search in
-    let at-word-of = at-numbers-from .before .before .before .before in
-    let at-part-end = at-word-of .before .before in
-    let else1 = at-part-end .before in
-    let begin = else1 .before .before .before .before in
+    let at-word-of : tie.After-word-of = search in
+    let at-part-end : tie.After-part-end = search in
+    let else1 : tie.Else1 = search in
+    let begin : tie.Start = search in
     let a = begin .args in
-    rw (c .before .before .before .before .before .before .before .before .before .before .before .before .before .enum-told .given .1)
+    rw (else1 .before .enum-told .given .1)
     (dither-all (a .name) (begin .pre .0) (a .line .now) (a .from) (else1 .if1 .left) (at-part-end .part-end .result)
     (at-part-end .part-end .ensures) (at-numbers-from .numbers-from .result) (at-numbers-from .numbers-from .ensures) _
-    (sym (at-word-of .word-of .ensures) ∙ c .before .before .before .before .before .before .before .f .given .1)
+    (sym (at-word-of .word-of .ensures) ∙ at-numbers-from .before .before .f .given .1)
     (not-false _ (else2 .if2 .left)) (else3 .if3 .left))
 
 pub dither-spec : {M : Type 1} → statement M
