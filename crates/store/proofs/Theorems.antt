@@ -1,16 +1,20 @@
 -- 02, A7, of settings by value: from the laws of either form. A12 of the reader of form 1.
 use native.Mathlib.Omega.{arith}
 use mathlib.Core.Bool.{cond}
-use mathlib.Core.Path.{_≡_, refl, ap}
+use mathlib.Core.Path.{_≡_, refl, sym, ap, _∙_}
+use mathlib.Core.List.{List}
 use Prim.Native.Nat.{ℕ, zero, suc}
 use lib.Dec.{leb}
 use Rattle.settings_text.specs.Lines.{formOf}
 use Rattle.settings_text.specs.declared.version.Version.{Version}
+use Rattle.settings_text.specs.Moves.{Moved}
 use Rattle.settings_text.specs.Stores.{orElse, listNumber}
 use Rattle.settings_text.proofs.Forms.{same-settings}
 use Rattle.settings_text.proofs.Moves.{other-form-refused}
 use Rattle.entries.specs.Entries.{recordsIn, numberAs}
 use Rattle.store.specs.Laws.{WrittenReads, OldRefuses}
+use Rattle.store.specs.Moving.{Moves}
+use Rattle.store.specs.declared.moving.Move.{Move}
 use Rattle.store_read.specs.Reading.{found}
 
 pub written-reads : (v : Version) → WrittenReads v
@@ -23,3 +27,7 @@ written-reads v s h = same-settings v (recordsIn s) (first (listNumber (formOf v
 
 pub old-refuses : OldRefuses
 old-refuses text h = ap found (other-form-refused text h)
+
+-- a move's promise settles the call: two results that it allows are one
+pub moves-settled : {m : Moved} {o : List ℕ} {q r : Move} {us vs : List ℕ} → Moves m o q us → Moves m o r vs → (q ≡ r) × (us ≡ vs)
+moves-settled p t = (p .answer ∙ sym (t .answer), p .written ∙ sym (t .written))
