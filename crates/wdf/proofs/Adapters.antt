@@ -9,6 +9,7 @@ use Rattle.words.proofs.Reading.{wrap-is}
 use Rattle.words.proofs.Sums.{wrap-add}
 use Rattle.wdf.specs.declared.tpa.Tpa.the-variants.{Z, B, B1, X, C, C1}
 use Rattle.wdf.specs.Adapters.{minus, scaled, ports, adapted}
+use Rattle.wdf.specs.Retired.{SameAdapters}
 
 -- the difference d takes u to v
 carried : (p u v d : ℤ) → d ≡ v -ℤ u → wrap w32 (wrap w32 (p +ℤ u) +ℤ wrap w32 d) ≡ wrap w32 (p +ℤ v)
@@ -48,3 +49,6 @@ module _ (x0 x1 : ℤ) where
   pub c-swaps-signs : adapted C x0 x1 (pos 0) ≡ ports (wrap w32 (negℤ x1)) (wrap w32 (negℤ x0))
   unfolding adapted
   c-swaps-signs = sym (c1-is-c x0 x1 (pos 0)) ∙ rw (nothing (minus x1 x0), +ℤ-idl (negℤ x1), +ℤ-idl (negℤ x0))
+
+pub same-adapters : SameAdapters
+same-adapters = record { b1-is-b = b1-is-b; c1-is-c = c1-is-c }

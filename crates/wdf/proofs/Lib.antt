@@ -5,3 +5,4 @@ pub mod Adapters
 pub mod Filters
 pub mod Halves
 pub mod Nearest
+pub mod Retired

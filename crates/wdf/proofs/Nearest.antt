@@ -134,11 +134,11 @@ accepted false x y h = absurd h
 
 pub rounds-in-range : RoundsInRange
 unfolding quantized
-rounds-in-range code g h =
+rounds-in-range code g n h =
     let a = coefficientOf code g in
     record {
       bits = nearestBits a;
-      answer = accepted (inRange a) (Bits (nearestBits a)) (Refused 52) h;
+      answer = rw n (accepted (inRange a) (Bits (nearestBits a)) (Refused 52) h);
       nearest = bits-nearest a h;
       only = only-nearest a h;
     }

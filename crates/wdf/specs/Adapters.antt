@@ -1,5 +1,5 @@
 -- 01, sections: the step per code is `Tpa::adapt` with all sums wrapping.
-use mathlib.Core.Bool.{cond}
+use mathlib.Core.Bool.{Bool, true, false, cond}
 use Prim.Native.Nat.{ℕ, _^_}
 use lib.Dec.{eqb}
 use lib.IntN.{ℤ, _+ℤ_, _-ℤ_, _*ℤ_}
@@ -43,3 +43,14 @@ codeOf n =
     (cond (eqb n 0xd) D
     (cond (eqb n 0xe) B1
     (cond (eqb n 0xf) C1 Z))))))
+
+-- 02, A13: B1 and C1 are withdrawn from new work
+unfoldable pub retired : Tpa → Bool
+retired Z = false
+retired A = false
+retired B = false
+retired B1 = true
+retired X = false
+retired C = false
+retired C1 = true
+retired D = false

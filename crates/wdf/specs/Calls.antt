@@ -1,7 +1,7 @@
 -- The calls on a filter: what each refuses, answers and leaves.
-use mathlib.Core.Bool.{cond}
+use mathlib.Core.Bool.{Bool, false, cond, _||_}
 use mathlib.Core.List.{List, _++_}
-use Prim.Native.Nat.{ℕ, zero, suc, _/_, _^_}
+use Prim.Native.Nat.{ℕ, zero, suc, _/_, _%_, _^_}
 use lib.Dec.{eqb, ltb}
 use lib.ListN.{drop, replicate}
 use lib.IntN.{ℤ, pos}
@@ -12,11 +12,22 @@ use Rattle.wdf.specs.declared.filter.Answer.{Answer}
 use Rattle.wdf.specs.declared.filter.Out.{Out}
 use Rattle.wdf.specs.declared.filter.Out.the-variants.{Given, Refused}
 use Rattle.wdf.specs.declared.filter.Stepped.{Stepped}
+use Rattle.wdf.specs.Adapters.{codeOf, retired}
 use Rattle.wdf.specs.Sections.{sectionsOf, Passed, passed}
 
 -- 01, refusals: 50, more than 8 sections; 51, a nonzero nibble beyond the last section; 0 where there is none
 unfoldable pub sectionsNumber : ℕ → ℕ → ℕ
 sectionsNumber sections architecture = cond (ltb 8 sections) 50 (cond (eqb (architecture / 16 ^ sections) 0) 0 51)
+
+-- whether one of the first n sections has a retired adapter
+unfoldable pub holdsRetired : ℕ → ℕ → Bool
+holdsRetired zero m = false
+holdsRetired (suc n) m = retired (codeOf (m % 16)) || holdsRetired n (m / 16)
+
+-- 02, A13: direct construction refuses them with 53, after 51
+unfoldable pub newNumber : ℕ → ℕ → ℕ
+newNumber sections architecture =
+    let k = sectionsNumber sections architecture in unless k k (cond (holdsRetired sections architecture) 53 0)
 
 abbrev pub number : Wdf → ℕ
 number s = sectionsNumber (s .sections) (s .architecture)
@@ -28,12 +39,20 @@ filter sections architecture a z = record { sections = sections; architecture = 
 abbrev pub none : Wdf
 none = filter 0 0 (replicate 8 (pos 0)) (replicate 8 (pos 0))
 
--- a new filter: its cells are zero
-unfoldable pub made : ℕ → ℕ → List ℤ → Answer
-made sections architecture a = record {
-  state = unless (sectionsNumber sections architecture) none (filter sections architecture a (replicate 8 (pos 0)));
-  verdict = verdictOf (sectionsNumber sections architecture);
+-- a filter whose cells are zero, unless the number k refuses it
+unfoldable pub madeUnless : ℕ → ℕ → ℕ → List ℤ → Answer
+madeUnless k sections architecture a = record {
+  state = unless k none (filter sections architecture a (replicate 8 (pos 0)));
+  verdict = verdictOf k;
 }
+
+-- a new filter
+abbrev pub made : ℕ → ℕ → List ℤ → Answer
+made sections architecture a = madeUnless (newNumber sections architecture) sections architecture a
+
+-- 02, A13: form 1 settings that hold retired adapters are still read and run
+abbrev pub madeForm1 : ℕ → ℕ → List ℤ → Answer
+madeForm1 sections architecture a = madeUnless (sectionsNumber sections architecture) sections architecture a
 
 -- what x does to the sections of s
 abbrev pub run : Wdf → ℤ → Passed

@@ -2,6 +2,7 @@
 pub mod Adapters
 pub mod Sections
 pub mod Calls
+pub mod Retired
 pub mod Quantize
 pub mod Nearest
 -- For private functions alone: the pass and the block on lent cells.

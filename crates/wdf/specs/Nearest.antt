@@ -9,6 +9,7 @@ use lib.Ieee.{Float, nan, inf, fin, up}
 use lib.Ieee.Positive.{den}
 use Rattle.wdf.specs.declared.tpa.Tpa.{Tpa}
 use Rattle.wdf.specs.declared.quantize.Quantized.the-variants.{Bits}
+use Rattle.wdf.specs.Adapters.{retired}
 use Rattle.wdf.specs.Quantize.{coefficientOf, inRange, quantized}
 
 -- the double a is the fraction numerator a / den a of two whole numbers
@@ -36,4 +37,4 @@ pub record Rounds (code : Tpa) (g : Float) : Type 0 where
 
 -- proved in proofs/Nearest.antt
 abbrev pub RoundsInRange : Type 0
-RoundsInRange = (code : Tpa) (g : Float) → T (inRange (coefficientOf code g)) → Rounds code g
+RoundsInRange = (code : Tpa) (g : Float) → retired code ≡ false → T (inRange (coefficientOf code g)) → Rounds code g

@@ -6,6 +6,7 @@ use lib.Ieee.{Float, fin, binary64, sub, neg, le}
 use lib.Ieee.Positive.{num, den}
 use Rattle.wdf.specs.declared.tpa.Tpa.{Tpa}
 use Rattle.wdf.specs.declared.tpa.Tpa.the-variants.{Z, A, B, B1, X, C, C1, D}
+use Rattle.wdf.specs.Adapters.{retired}
 use Rattle.wdf.specs.declared.quantize.Quantized.{Quantized}
 use Rattle.wdf.specs.declared.quantize.Quantized.the-variants.{Bits, Refused}
 
@@ -45,6 +46,8 @@ nearestUp n d = (2 * n + d) / (2 * d)
 unfoldable pub nearestBits : Float → ℤ
 nearestBits a = negℤ (pos (nearestUp (num a * 2 ^ 32) (den a)))
 
--- 52 when that double isn't from -0.5 to 0
+-- 02, A13: quantising for B1 or C1 is 53, before 52; 52 when that double isn't from -0.5 to 0
 unfoldable pub quantized : Tpa → Float → Quantized
-quantized code g = cond (inRange (coefficientOf code g)) (Bits (nearestBits (coefficientOf code g))) (Refused 52)
+quantized code g =
+    cond (retired code) (Refused 53)
+    (cond (inRange (coefficientOf code g)) (Bits (nearestBits (coefficientOf code g))) (Refused 52))

@@ -7,7 +7,9 @@ ghost use Prim.Native.Nat.{_%_, _≤_};
 ghost use lib.ListN.{length};
 ghost use Rattle.blocks.specs.Blocks.{Blocked};
 ghost use Rattle.wdf.specs.Adapters.{adapted, codeOf};
-ghost use Rattle.wdf.specs.Calls.{sectionsNumber, number, filter, made, answer, next, stepped};
+ghost use Rattle.wdf.specs.Calls.{sectionsNumber, holdsRetired, newNumber, number, filter};
+ghost use Rattle.wdf.specs.Calls.{madeUnless, made, madeForm1, answer, next, stepped};
+ghost use Rattle.wdf.specs.Retired.{current, moved};
 ghost use Rattle.wdf.specs.Lent.{Passes, Filters};
 
 // A filter. Coefficients and cells beyond its sections are kept and never matter.
@@ -52,6 +54,73 @@ pub fn refusal(sections: usize, architecture: u32) -> u32
         return 51;
     }
     0
+}
+
+// Whether a section's adapter is B1 or C1.
+fn has_retired(sections: usize, architecture: u32) -> bool
+    ensures { λ r. ⌜ r ≡ holdsRetired sections architecture ⌝ }
+{
+    let mut left = architecture;
+    let mut i: usize = 0;
+    while i < sections {
+        if Tpa::from((left % 16) as u8).is_retired() {
+            return true;
+        }
+        left = left / 16;
+        i += 1;
+    }
+    false
+}
+
+// The number of the first test that a new filter fails, or 0: 50 and 51 as above, 53 where a section's adapter is B1 or C1.
+pub fn new_refusal(sections: usize, architecture: u32) -> u32
+    ensures { λ r. ⌜ r ≡ newNumber sections architecture ⌝ }
+{
+    let refused = refusal(sections, architecture);
+    if refused != 0 {
+        return refused;
+    }
+    if has_retired(sections, architecture) {
+        return 53;
+    }
+    0
+}
+
+// The nibble in this one's place: b for e, c for f.
+fn current_nibble(nibble: u32) -> u32
+    ensures { λ r. ⌜ r ≡ current nibble ⌝ }
+{
+    match nibble {
+        0xe => 0xb,
+        0xf => 0xc,
+        _ => nibble,
+    }
+}
+
+// The architecture with b in the place of each section's e and c in the place of each f, from the last section down.
+fn moved_architecture(sections: usize, architecture: u32) -> u32
+    requires { ⌜ sections ≤ 8 ⌝ }
+    ensures { λ r. ⌜ r ≡ moved sections architecture ⌝ }
+{
+    let mut i = sections;
+    let mut made = (architecture as u64 >> (4 * sections)) as u32;
+    while 0 < i {
+        i -= 1;
+        let nibble = (architecture as u64 >> (4 * i)) % 16;
+        made = 16 * made + current_nibble(nibble as u32);
+    }
+    made
+}
+
+// The architecture with b in the place of each section's e and c in the place of each f: a filter so moved gives the same outputs and
+// cells, and holds no retired adapter.
+pub fn current_architecture(sections: usize, architecture: u32) -> u32
+    ensures { λ r. ⌜ r ≡ moved sections architecture ⌝ }
+{
+    if 8 < sections {
+        return moved_architecture(8, architecture);
+    }
+    moved_architecture(sections, architecture)
 }
 
 // The outputs of the section whose nibble is the lowest, for the input x, its cell and its coefficient.
@@ -170,33 +239,49 @@ fn run_block(
     run_any(sections, architecture, a, z, xs, ys);
 }
 
+// A filter with cells of zero, unless a number refuses it: then it is all zero.
+fn made_unless(refused: u32, sections: usize, architecture: u32, a: [i32; 8]) -> Answer
+    ensures { λ r. ⌜ r ≡ madeUnless refused sections architecture a ⌝ }
+{
+    if refused != 0 {
+        return Answer {
+            state: Wdf {
+                sections: 0,
+                architecture: 0,
+                a: [0i32; 8],
+                z: [0i32; 8],
+            },
+            verdict: Verdict::Refused(refused),
+        };
+    }
+    Answer {
+        state: Wdf {
+            sections,
+            architecture,
+            a,
+            z: [0i32; 8],
+        },
+        verdict: Verdict::Done,
+    }
+}
+
 impl Wdf {
     // A filter of these sections, with all eight coefficients as given and cells of zero.
-    // 50 where there are more than 8 sections, 51 where a nibble beyond the last is not zero: the filter is all zero.
+    // 50 where there are more than 8 sections, 51 where a nibble beyond the last is not zero, 53 where a section's adapter
+    // is B1 or C1: the filter is all zero.
     pub fn new(sections: usize, architecture: u32, a: [i32; 8]) -> Answer
         ensures { λ r. ⌜ r ≡ made sections architecture a ⌝ }
     {
+        let refused = new_refusal(sections, architecture);
+        made_unless(refused, sections, architecture, a)
+    }
+
+    // The same of the settings of form 1, which may hold B1 and C1: 50 and 51 alone.
+    pub fn from_form1(sections: usize, architecture: u32, a: [i32; 8]) -> Answer
+        ensures { λ r. ⌜ r ≡ madeForm1 sections architecture a ⌝ }
+    {
         let refused = refusal(sections, architecture);
-        if refused != 0 {
-            return Answer {
-                state: Wdf {
-                    sections: 0,
-                    architecture: 0,
-                    a: [0i32; 8],
-                    z: [0i32; 8],
-                },
-                verdict: Verdict::Refused(refused),
-            };
-        }
-        Answer {
-            state: Wdf {
-                sections,
-                architecture,
-                a,
-                z: [0i32; 8],
-            },
-            verdict: Verdict::Done,
-        }
+        made_unless(refused, sections, architecture, a)
     }
 
     // Takes the input x: the output, and the filter with the cells of its sections made anew.

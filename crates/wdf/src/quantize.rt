@@ -38,10 +38,13 @@ impl Tpa {
     }
 
     // The bits of the coefficient for the pole g: the whole number nearest to its double times 2^32, halves away from zero.
-    // 52 where the double is not from -0.5 to 0, which a NaN is not and -0.0 is.
+    // 53 for B1 and C1, then 52 where the double is not from -0.5 to 0, which a NaN is not and -0.0 is.
     pub fn quantize(self, g: f64) -> Quantized
         ensures { λ r. ⌜ r ≡ quantized self g ⌝ }
     {
+        if self.is_retired() {
+            return Quantized::Refused(53);
+        }
         let a = self.coefficient(g);
         if a >= -0.5 {
             if a <= 0.0 {

@@ -4,7 +4,7 @@ use words::signed::add_i32;
 use words::signed::product;
 use words::signed::sub_i32;
 ghost use mathlib.Core.Path.{_≡_};
-ghost use Rattle.wdf.specs.Adapters.{scaled, adapted, codeOf};
+ghost use Rattle.wdf.specs.Adapters.{scaled, adapted, codeOf, retired};
 
 // Two port adapters, by their names. The filter's architecture word has a nibble for each.
 pub enum Tpa {
@@ -50,6 +50,22 @@ impl Tpa {
             0xe => Tpa::B1,
             0xf => Tpa::C1,
             _ => Tpa::Z,
+        }
+    }
+
+    // Whether it is withdrawn from new work, as B1 and C1 are: B and C compute the same.
+    pub fn is_retired(self) -> bool
+        ensures { λ r. ⌜ r ≡ retired self ⌝ }
+    {
+        match self {
+            Tpa::A => false,
+            Tpa::B => false,
+            Tpa::B1 => true,
+            Tpa::X => false,
+            Tpa::C => false,
+            Tpa::C1 => true,
+            Tpa::D => false,
+            Tpa::Z => false,
         }
     }
 
