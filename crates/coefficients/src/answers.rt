@@ -84,7 +84,7 @@ fn pole_bits(named: Adapter, digits: Pattern) -> Quantized
 }
 
 // A line's bits, or the number of its refusal: 72 where it has over 64 bytes, 73 by its name, 75 by its digits,
-// else the adapter's own.
+// else the adapter's own, 53 or 52.
 pub(crate) fn line_bits(line: &[u8]) -> Quantized
     ensures { λ r. ⌜ r ≡ lineBits (now (line .entry)) ⌝ }
 {

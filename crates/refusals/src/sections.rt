@@ -24,6 +24,12 @@ fn sections(count: usize, architecture: u32) -> u32 {
     refusal(verdict)
 }
 
+fn sections_of_form1(count: usize, architecture: u32) -> u32 {
+    let made = Wdf::from_form1(count, architecture, [0; 8]);
+    let verdict = made.verdict;
+    refusal(verdict)
+}
+
 fn coefficient(code: Tpa, g: f64) -> u32 {
     match code.quantize(g) {
         Quantized::Bits(_) => 0,
@@ -82,6 +88,36 @@ pub(crate) fn print_all() {
         coefficient(Tpa::B, 1.0 / 0.0),
         b"X at infinity",
         coefficient(Tpa::X, 1.0 / 0.0),
+    );
+    row(
+        b"nibble e for a section",
+        sections(1, 0xe),
+        b"b",
+        sections(1, 0xb),
+    );
+    row(
+        b"nibble f for a section",
+        sections(1, 0xf),
+        b"of form 1",
+        sections_of_form1(1, 0xf),
+    );
+    row(
+        b"nibbles 1f for 1 section",
+        sections(1, 0x1f),
+        b"for 2",
+        sections(2, 0x1f),
+    );
+    row(
+        b"coefficient B1 at 0.25",
+        coefficient(Tpa::B1, 0.25),
+        b"B at 0.25",
+        coefficient(Tpa::B, 0.25),
+    );
+    row(
+        b"coefficient C1 at a NaN",
+        coefficient(Tpa::C1, 0.0 / 0.0),
+        b"C at a NaN",
+        coefficient(Tpa::C, 0.0 / 0.0),
     );
     row(b"dt2 31", loops(31, 32, 31), b"30", loops(30, 32, 31));
     row(
