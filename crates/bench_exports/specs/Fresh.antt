@@ -17,7 +17,7 @@ use Rattle.cic64.specs.Word as Word64
 use Rattle.cic64.specs.Reading as Reading64
 use Rattle.cic64.specs.declared.state.Cic as Wide
 use Rattle.wdf.specs.declared.filter.Wdf.{Wdf}
-use Rattle.wdf.specs.Calls.{made}
+use Rattle.wdf.specs.Calls.{madeForm1}
 use Rattle.biquad.specs.declared.biquad.Biquad.{Biquad}
 use Rattle.biquad.specs.declared.biquad_clamp.BiquadClamp.{BiquadClamp}
 use Rattle.biquad_fixed.specs.declared.coefficients.Biquad as Fixed
@@ -67,7 +67,7 @@ stepNext s x = steppedOf s x .state
 
 -- Sections and biquads.
 abbrev pub alikeWdf : ℕ → ℕ → ℤ → Wdf
-alikeWdf sections architecture a = made sections architecture (replicate 8 a) .state
+alikeWdf sections architecture a = madeForm1 sections architecture (replicate 8 a) .state
 
 abbrev pub floatBiquad : Float → Float → Float → Float → Float → Biquad
 floatBiquad b0 b1 b2 a1 a2 = record { b0 = b0; b1 = b1; b2 = b2; a1 = a1; a2 = a2 }

@@ -33,13 +33,13 @@ pub extern "C" fn bench_dsm(order: usize, xs: &[u32], ys: &mut [i16])
     filter.block(xs, ys);
 }
 
-// A wave digital filter's block; every section has the coefficient a.
+// A wave digital filter's block, of any adapters; every section has the coefficient a.
 #[no_mangle]
 pub extern "C" fn bench_wdf(sections: usize, architecture: u32, a: i32, xs: &[i32], ys: &mut [i32])
     ensures { λ _. ⌜ now (ys .exit) ≡ blockLeft (number (alikeWdf sections architecture a)) answer next (alikeWdf sections architecture a)
         (now (xs .entry)) (now (ys .entry)) ⌝ }
 {
-    let made = Wdf::new(sections, architecture, [a; 8]);
+    let made = Wdf::from_form1(sections, architecture, [a; 8]);
     let filter = made.state;
     filter.block(xs, ys);
 }

@@ -9,7 +9,7 @@ returns : tie.Need-returns
 returns c =
     let made = c .before .before .before in
     let s = made .before .before in
-    rw (made .before .new .ensures, toZ-ofZ w32 (s .args .a) (s .fits .a)) at (c .before .block .ensures .written)
+    rw (made .before .from-form1 .ensures, toZ-ofZ w32 (s .args .a) (s .fits .a)) at (c .before .block .ensures .written)
 
 pub bench-wdf-spec : {M : Type 1} → statement M
 bench-wdf-spec =
