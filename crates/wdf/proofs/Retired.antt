@@ -45,7 +45,7 @@ held-none n i left h = let e : n - i ≡ 0 = omega arith in rw e
 -- ---- a nibble and the one in its place
 
 -- the nibble is e, f, or another
-pick : (k : ℕ) (P : ℕ → Type 0) → (k ≡ 0xe → P 0xb) → (k ≡ 0xf → P 0xc) → ((k ≡ 0xe → ⊥) → (k ≡ 0xf → ⊥) → P k) → P (current k)
+pick : (k : ℕ) (P : ℕ → Type 0) → (k ≡ 0xe → P (current 0xe)) → (k ≡ 0xf → P (current 0xf)) → ((k ≡ 0xe → ⊥) → (k ≡ 0xf → ⊥) → P k) → P (current k)
 unfolding current
 pick k P e f n = by (eqb k 0xe) refl (eqb k 0xf) refl
   where
@@ -55,7 +55,7 @@ pick k P e f n = by (eqb k 0xe) refl (eqb k 0xf) refl
     by false p false q = n (eqb-false k 0xe p) (eqb-false k 0xf q)
 
 same-ports : (k : ℕ) (x z a : ℤ) → adapted (codeOf (current k)) x z a ≡ adapted (codeOf k) x z a
-unfolding codeOf
+unfolding codeOf current
 same-ports k x z a =
     pick k (λ (j : ℕ). adapted (codeOf j) x z a ≡ adapted (codeOf k) x z a)
     (λ e. rw e (sym (b1-is-b x z a)))
@@ -63,6 +63,7 @@ same-ports k x z a =
     (λ e f. refl)
 
 at-most : (k : ℕ) → current k ≤ k
+unfolding current
 at-most k = pick k (λ (j : ℕ). j ≤ k) (λ e. omega arith) (λ e. omega arith) (λ e f. omega arith)
 
 -- a nibble that is neither e nor f names no retired adapter
@@ -79,7 +80,7 @@ others k e f = rw (ne-eqb k 0xe e, ne-eqb k 0xf f) (by (eqb k 0x1) (eqb k 0xa) (
     by false false false false false = refl
 
 current-none : (k : ℕ) → retired (codeOf (current k)) ≡ false
-unfolding codeOf retired
+unfolding codeOf retired current
 current-none k = pick k (λ (j : ℕ). retired (codeOf j) ≡ false) (λ e. refl) (λ e. refl) (others k)
 
 current-same : (k : ℕ) → retired (codeOf k) ≡ false → current k ≡ k
