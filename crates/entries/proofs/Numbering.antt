@@ -16,10 +16,11 @@ use Rattle.words.specs.Words.{wrap}
 use Rattle.words.proofs.Reading.{wrap-is}
 use Rattle.sums.specs.Calls.{newNumber}
 use Rattle.wdf.specs.Calls.{sectionsNumber}
+use Rattle.wdf.specs.Calls as wdf
 use Rattle.text.specs.Ranges.{signed, unsigned, lies, allLie}
 use Rattle.text.proofs.Ranges.{two}
 use Rattle.settings_text.specs.Fields.{isName}
-use Rattle.settings_text.specs.Lines.{Setting, Cic, Wdf, Dither, cicNumber, crossed, ditherNumber, formed, formOf, recordName, parameters}
+use Rattle.settings_text.specs.Lines.{Setting, Cic, Wdf, Dither, cicNumber, wdfNumber, crossed, ditherNumber, formed, formOf, recordName, parameters}
 use Rattle.settings_text.specs.Stores.{orElse, recordNumber}
 use Rattle.settings_text.specs.declared.version.Version.{Version}
 use Rattle.settings_text.specs.declared.version.Version.the-variants.{One, Two}
@@ -59,9 +60,10 @@ eight-words Two name f cs h =
     record { named = a .0; whole = words-whole 8 cs (eqb-true (length cs) 8 (c .0)) (c .1) }
 
 -- more than 8 sections: the nibbles don't matter
-many : (k a b : ℕ) → 8 < k → sectionsNumber k a ≡ sectionsNumber k b
-unfolding sectionsNumber
-many k a b h = rw (lt-ltb 8 k h)
+many : (v : Version) (k a b : ℕ) → 8 < k → wdfNumber v k a ≡ wdfNumber v k b
+unfolding sectionsNumber wdf.newNumber
+many One k a b h = rw (lt-ltb 8 k h)
+many Two k a b h = rw (lt-ltb 8 k h)
 
 -- an entry's numbers are its record's
 kind-kept : (v : Version) (s : Setting) → fitting s ≡ true → formed v s ≡ true → kindNumber v (entryOf s .kind) (map (wrap w32) (entryOf s .a))
@@ -71,14 +73,14 @@ kind-kept v (Cic name n m rate) h g = refl
 kind-kept v (Dither name f cs) h g = ap (ditherNumber f) (eight-words v name f cs g .whole)
 kind-kept v (Wdf name arch cs) h g = by (ltb 8 (length cs)) refl
   where
-    by : (t : Bool) → ltb 8 (length cs) ≡ t → sectionsNumber (length cs) (arch % 2 ^ 32) ≡ sectionsNumber (length cs) arch
-    by true e = many (length cs) (arch % 2 ^ 32) arch (ltb-true _ _ e)
+    by : (t : Bool) → ltb 8 (length cs) ≡ t → wdfNumber v (length cs) (arch % 2 ^ 32) ≡ wdfNumber v (length cs) arch
+    by true e = many v (length cs) (arch % 2 ^ 32) arch (ltb-true _ _ e)
     by false e =
         let k : length cs ≤ 8 = ltb-false 8 (length cs) e in
         let b = ltb-true arch (16 ^ length cs) h in
         let p : 16 ^ length cs ≤ 16 ^ 8 = pow-le-pow-right (omega arith) k in
         let m : arch % 2 ^ 32 ≡ arch = omega arith in
-        ap (sectionsNumber (length cs)) m
+        ap (wdfNumber v (length cs)) m
 
 pub entry-name : (s : Setting) → nameBytes (entryOf s .name) ≡ recordName s
 unfolding entryOf

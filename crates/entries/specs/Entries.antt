@@ -7,9 +7,8 @@ use lib.IntN.{ℤ, pos}
 use lib.ListN.{length, take, replicate}
 use mir.Syntax.{w32}
 use Rattle.words.specs.Words.{wrap}
-use Rattle.wdf.specs.Calls.{sectionsNumber}
 use Rattle.text.specs.Order.{precedes}
-use Rattle.settings_text.specs.Lines.{Setting, Cic, Wdf, Dither, cicNumber, ditherNumber, formOf}
+use Rattle.settings_text.specs.Lines.{Setting, Cic, Wdf, Dither, cicNumber, wdfNumber, ditherNumber, formOf}
 use Rattle.settings_text.specs.Stores.{orElse, listNumber}
 use Rattle.settings_text.specs.declared.version.Version.{Version}
 use Rattle.settings_text.specs.declared.version.Version.the-variants.{One}
@@ -80,7 +79,7 @@ storeNumber s = numberAs One s
 -- the parameter numbers of an entry, and before these 83 and 82 after k records, the last of them named `last`
 abbrev pub kindNumber : Version → Kind → List ℤ → ℕ
 kindNumber v (kinds.Cic n m rate) a = cicNumber v n m rate
-kindNumber v (kinds.Wdf k arch) a = sectionsNumber k arch
+kindNumber v (kinds.Wdf k arch) a = wdfNumber v k arch
 kindNumber v (kinds.Dither f) a = ditherNumber f a
 
 unfoldable pub numberFor : Version → ℕ → List ℕ → List ℕ → Kind → List ℤ → ℕ

@@ -4,6 +4,7 @@ use crate::settings::Name;
 use settings_text::version::Version;
 use shape::numbers::refusal_of;
 use text::comparing::comes_before;
+use wdf::filter::new_refusal;
 use wdf::filter::refusal;
 ghost use mathlib.Core.List.{map};
 ghost use mathlib.Core.Path.{_≡_};
@@ -11,7 +12,7 @@ ghost use mir.Syntax.{w32};
 ghost use Prim.Native.Nat.{_≤_};
 ghost use lib.ListN.{take};
 ghost use Rattle.words.specs.Words.{wrap};
-ghost use Rattle.settings_text.specs.Lines.{cicNumber, crossed, ditherNumber};
+ghost use Rattle.settings_text.specs.Lines.{cicNumber, wdfNumber, crossed, ditherNumber};
 ghost use Rattle.entries.specs.Entries.{nameBytes, kindNumber, numberFor};
 
 // What `Cic::new` is refused with, or 0; in form 2 with 12 for R outside 1..65,536.
@@ -33,6 +34,16 @@ fn cic_number(version: Version, order: u32, delay: u32, rate: u32) -> u32
             }
             0
         }
+    }
+}
+
+// What `Wdf::from_form1` is refused with, or 0; in form 2 what `Wdf::new` is, with 53 for B1 and C1.
+fn wdf_number(version: Version, sections: usize, architecture: u32) -> u32
+    ensures { λ r. ⌜ r ≡ wdfNumber version sections architecture ⌝ }
+{
+    match version {
+        Version::One => refusal(sections, architecture),
+        Version::Two => new_refusal(sections, architecture),
     }
 }
 
@@ -67,7 +78,7 @@ fn kind_number(version: Version, kind: Kind, a: [i32; 8]) -> u32
 {
     match kind {
         Kind::Cic(order, delay, rate) => cic_number(version, order, delay, rate),
-        Kind::Wdf(sections, architecture) => refusal(sections, architecture),
+        Kind::Wdf(sections, architecture) => wdf_number(version, sections, architecture),
         Kind::Dither(f) => dither_number(f, a),
     }
 }

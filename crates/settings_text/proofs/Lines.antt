@@ -20,12 +20,13 @@ use Rattle.text.proofs.Ranges.{two, number-again, number-only, number-plain, nu
 use Rattle.text.proofs.Ranges.{natural-text, natural-lies, text-short}
 use Rattle.text.proofs.Sameness.{same-eq}
 use Rattle.text.proofs.Spelling.{decimal-most}
-use Rattle.wdf.specs.Calls.{sectionsNumber}
+use Rattle.wdf.specs.Calls.{sectionsNumber, holdsRetired}
+use Rattle.wdf.specs.Calls as wdf
 use Rattle.settings_text.specs.Fields.{isName, nibblesOf, nibblesIn}
 use Rattle.settings_text.specs.Laws.{Lawful}
 use Rattle.settings_text.specs.Lines.{Setting, Cic, Wdf, Dither, fieldsOf, recordLine, cicBy, cicIn, counts, wdfOf, wdfBy, wdfIn}
 use Rattle.settings_text.specs.Lines.{ditherBy, ditherIn, kindIn, fieldsIn, recordIn, recordName, formed, parameters, heading}
-use Rattle.settings_text.specs.Lines.{formOf}
+use Rattle.settings_text.specs.Lines.{wdfNumber, formOf}
 use Rattle.settings_text.specs.declared.version.Version.{Version}
 use Rattle.settings_text.specs.declared.version.Version.the-variants.{One, Two}
 use Rattle.settings_text.proofs.Names.{name-short, name-plain}
@@ -92,9 +93,18 @@ cic-fine v name n m r h =
     }
 
 -- a filter that no number refuses
-pub wdf-small : (k arch : ℕ) → sectionsNumber k arch ≡ 0 → (k ≤ 8) × (arch / 16 ^ k ≡ 0)
+pub sections-fine : (v : Version) (k arch : ℕ) → wdfNumber v k arch ≡ 0 → sectionsNumber k arch ≡ 0
+unfolding wdf.newNumber
+sections-fine One k arch h = h
+sections-fine Two k arch h = by (sectionsNumber k arch) (eqb (sectionsNumber k arch) 0) refl h
+  where
+    by : (n : ℕ) (t : Bool) → eqb n 0 ≡ t → cond t (cond (holdsRetired k arch) 53 0) n ≡ 0 → n ≡ 0
+    by n true e g = eqb-true n 0 e
+    by n false e g = g
+
+pub wdf-small : (v : Version) (k arch : ℕ) → wdfNumber v k arch ≡ 0 → (k ≤ 8) × (arch / 16 ^ k ≡ 0)
 unfolding sectionsNumber
-wdf-small k arch h = by (ltb 8 k) refl (eqb (arch / 16 ^ k) 0) refl h
+wdf-small v k arch h = by (ltb 8 k) refl (eqb (arch / 16 ^ k) 0) refl (sections-fine v k arch h)
   where
     by : (t : Bool) → ltb 8 k ≡ t → (u : Bool) → eqb (arch / 16 ^ k) 0 ≡ u → cond {A = ℕ} t 50 (cond u 0 51) ≡ 0 → (k ≤ 8) ×
         (arch / 16 ^ k ≡ 0)
@@ -110,12 +120,12 @@ below (suc k) arch h =
     let p = pow-suc 16 k in
     omega arith
 
-wdf-fine : (v : Version) (name : List ℕ) (arch : ℕ) (cs : List ℤ) → formed v (Wdf name arch cs) ≡ true → sectionsNumber (length cs) arch ≡ 0
+wdf-fine : (v : Version) (name : List ℕ) (arch : ℕ) (cs : List ℤ) → formed v (Wdf name arch cs) ≡ true → wdfNumber v (length cs) arch ≡ 0
     → Fine v (Wdf name arch cs)
 unfolding formed fieldsOf wdfIn
 wdf-fine v name arch cs h e =
     let a = two (isName name) (allLie signed cs) h in
-    let b = wdf-small (length cs) arch e in
+    let b = wdf-small v (length cs) arch e in
     let l = below (length cs) arch (b .1) in
     let few = b .0 in
     let g = numbers-again signed (omega arith) (omega arith) cs (a .1) in

@@ -2,7 +2,7 @@
 -- That holds of any two lawful forms; what the two forms add stands at the end.
 use native.Mathlib.Omega.{arith}
 use mathlib.Core.Path.{_≡_, refl, sym, ap, _∙_}
-use mathlib.Core.Bool.{Bool, true, false, cond, _&&_, _||_}
+use mathlib.Core.Bool.{Bool, true, false, cond, _&&_, _||_, true≢false}
 use mathlib.Core.List.{List, [], _∷_, map}
 use mathlib.Core.Option.{Option, none, some}
 use Prim.Native.Nat.{ℕ, zero, suc, _+_, _-_, _*_, _≤_}
@@ -18,16 +18,21 @@ use Rattle.text.specs.Ranges.{unsigned, lies, allLie, both}
 use Rattle.text.specs.Same.{same}
 use Rattle.text.proofs.Ranges.{two, both-some}
 use Rattle.text.proofs.Sameness.{same-eq}
+use Rattle.wdf.specs.Calls.{sectionsNumber}
+use Rattle.wdf.specs.Calls as wdf
+use Rattle.wdf.specs.Retired.{moved}
+use Rattle.wdf.proofs.Retired.{moved-number, moved-none, moved-same}
 use Rattle.settings_text.specs.Fields.{isName}
 use Rattle.settings_text.specs.Laws.{Lawful}
-use Rattle.settings_text.specs.Lines.{Setting, Cic, Wdf, Dither, recordName, formed, cicNumber, parameters, heading, formOf, form1, form2}
+use Rattle.settings_text.specs.Lines.{Setting, Cic, Wdf, Dither, recordName, formed, cicNumber, wdfNumber, parameters, heading, formOf, form1, form2}
 use Rattle.settings_text.specs.Moves.{Moved, Text, Refused, placed, placedText, movedBy, move, raised, lowered, forth, back}
-use Rattle.settings_text.specs.Moves.{andThen, isDither, anyDither, refusedWith, ForthAndBack, BackRefused, OtherFormRefused}
+use Rattle.settings_text.specs.Moves.{andThen, isDither, anyDither, refusedWith, renewed, isRetired, anyRetired}
+use Rattle.settings_text.specs.Moves.{ForthAndBack, OnlyRetired, BackRefused, OtherFormRefused}
 use Rattle.settings_text.specs.Stores.{Form, Found, Good, Bad, orElse, recordNumber, listedNumber, listFrom, listNumber}
 use Rattle.settings_text.specs.Stores.{textOf, linesIn, openedBy, readOf}
 use Rattle.settings_text.specs.declared.version.Version.{Version}
 use Rattle.settings_text.specs.declared.version.Version.the-variants.{One, Two}
-use Rattle.settings_text.proofs.Lines.{lawful}
+use Rattle.settings_text.proofs.Lines.{lawful, sections-fine}
 use Rattle.settings_text.proofs.Stores.{read-back, one-text, both-zero, write-zero, no-parameter}
 
 -- a record in its place in the other form
@@ -69,9 +74,10 @@ module _ {A B : Type 0} (from : Form A) (to : Form B) (place : A → Option B) (
       → placed place ss ≡ some ts → readOf to (textOf to ts) ≡ Good ts
   moved-reads l1 l2 text ss ts e p = read-back to l2 ts (list-kept ss ts 0 [] (one-text from l1 text ss e .1) p)
 
-  module _ (return : B → Option A) (again : (s : A) (t : B) → from .formed s ≡ true → place s ≡ some t → return t ≡ some s) where
+  module _ (return : B → Option A) (tidy : A → A)
+      (again : (s : A) (t : B) → from .formed s ≡ true → place s ≡ some t → return t ≡ some (tidy s)) where
     placed-again : (ss : List A) (ts : List B) (k : ℕ) (last : List ℕ) → listFrom from k last ss ≡ 0 → placed place ss ≡ some ts
-        → placed return ts ≡ some ss
+        → placed return ts ≡ some (map tidy ss)
     unfolding listFrom
     placed-again [] ts k last e p = let q : [] ≡ ts = cc in rw (← q)
     placed-again (s ∷ ss) ts k last e p =
@@ -84,18 +90,24 @@ module _ {A B : Type 0} (from : Form A) (to : Form B) (place : A → Option B) (
           placed-again ss (b .second) (suc k) (from .recordName s) (z .1) (b .there),
         )
 
-    -- moved and moved back, a text is what it was
-    pub same-bytes : Lawful from → Lawful to → (text : List ℕ) (ss : List A) (ts : List B) → readOf from text ≡ Good ss
-        → placed place ss ≡ some ts → move to from return (textOf to ts) ≡ Text text
+    -- moved and moved back, a text has its records tidied
+    pub there-and-back : Lawful from → Lawful to → (text : List ℕ) (ss : List A) (ts : List B) → readOf from text ≡ Good ss
+        → placed place ss ≡ some ts → move to from return (textOf to ts) ≡ Text (textOf from (map tidy ss))
     unfolding move
-    same-bytes l1 l2 text ss ts e p =
-        let o = one-text from l1 text ss e in
-        rw (moved-reads l1 l2 text ss ts e p, placed-again ss ts 0 [] (o .1) p) (ap Text (sym (o .0)))
+    there-and-back l1 l2 text ss ts e p = rw (moved-reads l1 l2 text ss ts e p, placed-again ss ts 0 [] (one-text from l1 text ss e .1) p)
 
 -- where each record has a place
 pub all-placed : {A B : Type 0} (up : A → B) (ss : List A) → placed (λ s. some (up s)) ss ≡ some (map up ss)
 all-placed up [] = refl
 all-placed up (s ∷ ss) = rw (all-placed up ss)
+
+-- records that are other ones have another text
+pub same-records : {A : Type 0} (form : Form A) → Lawful form → (ss ts : List A) → listNumber form ss ≡ 0 → listNumber form ts ≡ 0
+    → textOf form ss ≡ textOf form ts → ss ≡ ts
+same-records {A} form l ss ts e f g = good (sym (read-back form l ss e) ∙ ap (readOf form) g ∙ read-back form l ts f)
+  where
+    good : _≡_ {A = Found A} (Good ss) (Good ts) → ss ≡ ts
+    good h = cc
 
 -- one text is not of two forms with different first lines
 pub other-form : {A B : Type 0} (from : Form A) (to : Form B) → same (to .heading) (from .heading) ≡ false → (text : List ℕ)
@@ -156,6 +168,11 @@ three-lie n m r q h l =
     let c = two (lies unsigned (pos m)) (allLie unsigned (pos r ∷ [])) (b .1) in
     rw (b .0, c .0, le-leb q 4294967295 (omega arith))
 
+-- a moved architecture is refused by no number
+moved-fine : (k arch : ℕ) → sectionsNumber k arch ≡ 0 → wdfNumber Two k (moved k arch) ≡ 0
+unfolding wdf.newNumber
+moved-fine k arch e = rw (moved-number k arch, e, moved-none k arch)
+
 raised-kept : (s : Setting) → formed One s ≡ true → parameters One s ≡ 0 → Kept (formOf One) (formOf Two) s (raised s)
 unfolding formOf formed parameters raised
 raised-kept (Cic name n m rate) h e =
@@ -165,7 +182,7 @@ raised-kept (Cic name n m rate) h e =
       formed = rw (a .0, three-lie n m rate (suc rate) (a .1) (omega (arith, number-parts n m rate e .1)));
       parameters = factor-zero n m rate e;
     }
-raised-kept (Wdf name arch cs) h e = record { name = refl; formed = h; parameters = e }
+raised-kept (Wdf name arch cs) h e = record { name = refl; formed = h; parameters = moved-fine (length cs) arch e }
 raised-kept (Dither name f cs) h e = absurd (let z : _≡_ {A = ℕ} 0 1 = cc in omega arith)
 
 pub forth-keeps : Keeps (formOf One) (formOf Two) (λ s. some (raised s))
@@ -182,29 +199,86 @@ back-keeps (Cic name n m r) t h e p =
       formed = rw (a .0, three-lie n m r (r - 1) (a .1) (omega (arith, factor-parts n m r e .1 .1)));
       parameters = rate-zero n m r e;
     })
-back-keeps (Wdf name arch cs) t h e p = let q : Wdf name arch cs ≡ t = cc in rw (← q) (record { name = refl; formed = h; parameters = e })
+back-keeps (Wdf name arch cs) t h e p = let q : Wdf name arch cs ≡ t = cc in rw (← q)
+    (record { name = refl; formed = h; parameters = sections-fine Two (length cs) arch e })
 back-keeps (Dither name f cs) t h e p = absurd (let z : _≡_ {A = ℕ} 0 1 = cc in omega arith)
 
-raised-again : (s t : Setting) → formed One s ≡ true → _≡_ {A = Option Setting} (some (raised s)) (some t) → lowered t ≡ some s
-unfolding formed raised lowered
+raised-again : (s t : Setting) → formed One s ≡ true → _≡_ {A = Option Setting} (some (raised s)) (some t) → lowered t ≡ some (renewed s)
+unfolding formed raised lowered renewed
 raised-again (Cic name n m rate) t h p =
     let q : Cic name n m (suc rate) ≡ t = cc in
     let e : suc rate - 1 ≡ rate = omega arith in
     rw (← q) (ap (λ (k : ℕ). some (Cic name n m k)) e)
-raised-again (Wdf name arch cs) t h p = let q : Wdf name arch cs ≡ t = cc in rw (← q)
+raised-again (Wdf name arch cs) t h p = let q : Wdf name (moved (length cs) arch) cs ≡ t = cc in rw (← q)
 raised-again (Dither name f cs) t h p = absurd (let z : _≡_ {A = ℕ} 0 1 = cc in omega arith)
 
-form-again : (s t : Setting) → formOf One .formed s ≡ true → _≡_ {A = Option Setting} (some (raised s)) (some t) → lowered t ≡ some s
+form-again : (s t : Setting) → formOf One .formed s ≡ true → _≡_ {A = Option Setting} (some (raised s)) (some t) → lowered t ≡ some (renewed s)
 unfolding formOf
 form-again s t h p = raised-again s t h p
 
--- A12: forth and back gives the same bytes
+-- A13: forth and back gives b and c where e and f stood
 pub forth-and-back : ForthAndBack
 unfolding move
 forth-and-back text ss e =
     let p = all-placed raised ss in
     let keeps = forth-keeps in
-    rw (e, p) (same-bytes form1 form2 (λ s. some (raised s)) keeps lowered form-again (lawful One) (lawful Two) text ss (map raised ss) e p)
+    rw (e, p)
+    (there-and-back form1 form2 (λ s. some (raised s)) keeps lowered renewed form-again (lawful One) (lawful Two) text ss (map raised ss) e p)
+
+-- what holds no e and f is not changed by it, and what holds one is
+renewed-same : (s : Setting) → isRetired s ≡ false → renewed s ≡ s
+unfolding renewed
+renewed-same (Cic name n m rate) h = refl
+renewed-same (Wdf name arch cs) h = ap (λ (m : ℕ). Wdf name m cs) (moved-same (length cs) arch h)
+renewed-same (Dither name f cs) h = refl
+
+none-retired : (s : Setting) → isRetired (renewed s) ≡ false
+unfolding renewed
+none-retired (Cic name n m rate) = refl
+none-retired (Wdf name arch cs) = moved-none (length cs) arch
+none-retired (Dither name f cs) = refl
+
+neither : (t u : Bool) → (t || u) ≡ false → (t ≡ false) × (u ≡ false)
+neither true u h = absurd (true≢false h)
+neither false u h = (refl, h)
+
+all-same : (ss : List Setting) → anyRetired ss ≡ false → map renewed ss ≡ ss
+all-same [] h = refl
+all-same (s ∷ ss) h =
+    let b = neither (isRetired s) (anyRetired ss) h in
+    rw (renewed-same s (b .0), all-same ss (b .1))
+
+all-none : (ss : List Setting) → anyRetired (map renewed ss) ≡ false
+all-none [] = refl
+all-none (s ∷ ss) = rw (none-retired s) (all-none ss)
+
+-- with b and c in their places, records of form 1 are records of form 1
+renewed-kept : (s : Setting) → formed One s ≡ true → parameters One s ≡ 0 → Kept (formOf One) (formOf One) s (renewed s)
+unfolding formOf formed parameters renewed
+renewed-kept (Cic name n m rate) h e = record { name = refl; formed = h; parameters = e }
+renewed-kept (Wdf name arch cs) h e = record { name = refl; formed = h; parameters = moved-number (length cs) arch ∙ e }
+renewed-kept (Dither name f cs) h e = absurd (let z : _≡_ {A = ℕ} 0 1 = cc in omega arith)
+
+renewed-keeps : Keeps (formOf One) (formOf One) (λ s. some (renewed s))
+unfolding formOf
+renewed-keeps s t h e p = let q : renewed s ≡ t = cc in rw (← q) (renewed-kept s h e)
+
+-- A13: the same bytes, but for a file that holds e or f, and only such
+pub only-retired : OnlyRetired
+only-retired text ss e =
+    let o = one-text form1 (lawful One) text ss e in
+    let there = forth-and-back text ss e in (
+      λ h. there ∙ ap Text (ap (textOf form1) (all-same ss h) ∙ sym (o .0)),
+      λ h same.
+          let keeps = renewed-keeps in
+          let n = list-kept form1 form1 (λ s. some (renewed s)) keeps ss (map renewed ss) 0 [] (o .1) (all-placed renewed ss) in
+          let t : textOf form1 (map renewed ss) ≡ textOf form1 ss = text-is (sym there ∙ same) ∙ o .0 in
+          let r = same-records form1 (lawful One) (map renewed ss) ss n (o .1) t in
+          true≢false (sym h ∙ ap anyRetired (sym r) ∙ all-none ss),
+    )
+  where
+    text-is : {a b : List ℕ} → Text a ≡ Text b → a ≡ b
+    text-is h = cc
 
 -- a record without a place is a `dither`
 abbrev pub missing : Option (List Setting) → Bool

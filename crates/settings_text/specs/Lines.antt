@@ -1,4 +1,4 @@
--- 02, A7 and A12: a record's line, and the two forms.
+-- 02, A7, A12 and A13: a record's line, and the two forms.
 use mathlib.Core.Bool.{Bool, true, false, cond, _&&_}
 use mathlib.Core.List.{List, [], _∷_}
 use mathlib.Core.Option.{Option, none, some}
@@ -14,6 +14,7 @@ use Rattle.text.specs.Parts.{parted, joinedBy}
 use Rattle.text.specs.Ranges.{unsigned, signed, allLie, numberIn, numbersIn, texts}
 use Rattle.text.specs.Same.{same}
 use Rattle.wdf.specs.Calls.{sectionsNumber}
+use Rattle.wdf.specs.Calls as wdf
 use Rattle.settings_text.specs.Stores.{Form, orElse}
 use Rattle.settings_text.specs.Fields.{isName, nibblesOf, nibblesIn}
 use Rattle.settings_text.specs.declared.version.Version.{Version}
@@ -125,10 +126,15 @@ crossed (c ∷ lower ∷ upper ∷ rest) = crossed (lower ∷ upper ∷ rest)
 unfoldable pub ditherNumber : ℕ → List ℤ → ℕ
 ditherNumber f cs = cond (leb 1 f && leb f 31) (cond (crossed cs) 41 0) 40
 
--- the parameter numbers; those of a `wdf` are those of `Wdf::new`
+-- those of a `wdf`: of `Wdf::from_form1`, and in form 2 of `Wdf::new`, which refuses e and f with 53, after 51
+abbrev pub wdfNumber : Version → ℕ → ℕ → ℕ
+wdfNumber One k arch = sectionsNumber k arch
+wdfNumber Two k arch = wdf.newNumber k arch
+
+-- the parameter numbers
 unfoldable pub parameters : Version → Setting → ℕ
 parameters v (Cic name n m rate) = cicNumber v n m rate
-parameters v (Wdf name arch cs) = sectionsNumber (length cs) arch
+parameters v (Wdf name arch cs) = wdfNumber v (length cs) arch
 parameters v (Dither name f cs) = ditherNumber f cs
 
 -- first line: `set` and 1, or `set` and 2

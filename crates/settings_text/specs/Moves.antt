@@ -1,11 +1,14 @@
--- 02, A12: the move of a store from one form to another.
+-- 02, A12 and A13: the move of a store from one form to another.
 use mathlib.Core.Bool.{Bool, true, false, _||_}
-use mathlib.Core.List.{List, [], _∷_}
+use mathlib.Core.List.{List, [], _∷_, map}
 use mathlib.Core.Option.{Option, none, some}
 use mathlib.Core.Path.{_≡_}
 use Prim.Native.Nat.{ℕ, suc, _-_}
 use lib.Dec.{eqb}
+use lib.ListN.{length}
 use Rattle.text.specs.Ranges.{both}
+use Rattle.wdf.specs.Calls.{holdsRetired}
+use Rattle.wdf.specs.Retired.{moved}
 use Rattle.settings_text.specs.Lines.{Setting, Cic, Wdf, Dither, form1, form2}
 use Rattle.settings_text.specs.Stores.{Form, Found, Good, Bad, textOf, readOf}
 
@@ -34,10 +37,10 @@ module _ {A B : Type 0} (from : Form A) (to : Form B) (place : A → Option B) w
   unfoldable pub move : List ℕ → Moved
   move text = movedBy (readOf from text)
 
--- from form 1 to form 2: R is the rate + 1
+-- from form 1 to form 2: R is the rate + 1, and b and c stand in the places of e and f
 unfoldable pub raised : Setting → Setting
 raised (Cic name n m rate) = Cic name n m (suc rate)
-raised (Wdf name arch cs) = Wdf name arch cs
+raised (Wdf name arch cs) = Wdf name (moved (length cs) arch) cs
 raised (Dither name f cs) = Dither name f cs
 
 -- and back, where a `dither` record has no place
@@ -70,9 +73,32 @@ abbrev pub refusedWith : ℕ → Moved → Bool
 refusedWith n (Text text) = false
 refusedWith n (Refused line number) = eqb number n
 
--- forth and back gives the same bytes
+-- a record with b and c where e and f stood
+unfoldable pub renewed : Setting → Setting
+renewed (Cic name n m rate) = Cic name n m rate
+renewed (Wdf name arch cs) = Wdf name (moved (length cs) arch) cs
+renewed (Dither name f cs) = Dither name f cs
+
+-- e or f stands in it
+abbrev pub isRetired : Setting → Bool
+isRetired (Cic name n m rate) = false
+isRetired (Wdf name arch cs) = holdsRetired (length cs) arch
+isRetired (Dither name f cs) = false
+
+abbrev pub anyRetired : List Setting → Bool
+anyRetired [] = false
+anyRetired (s ∷ ss) = isRetired s || anyRetired ss
+
+-- forth and back gives b and c where e and f stood, and else the same
 abbrev pub ForthAndBack : Type 0
-ForthAndBack = (text : List ℕ) (ss : List Setting) → readOf form1 text ≡ Good ss → andThen (forth text) back ≡ Text text
+ForthAndBack =
+    (text : List ℕ) (ss : List Setting) → readOf form1 text ≡ Good ss → andThen (forth text) back ≡ Text (textOf form1 (map renewed ss))
+
+-- the same bytes, but for a file that holds e or f, and only such
+abbrev pub OnlyRetired : Type 0
+OnlyRetired =
+    (text : List ℕ) (ss : List Setting) → readOf form1 text ≡ Good ss
+    → (anyRetired ss ≡ false → andThen (forth text) back ≡ Text text) × (anyRetired ss ≡ true → andThen (forth text) back ≡ Text text → ⊥)
 
 -- back from a readable file is refused with 84 exactly when a `dither` record is present, and is else refused with nothing
 abbrev pub BackRefused : Type 0

@@ -7,7 +7,7 @@ returns : tie.Need-returns
 returns c = rw (c .before .before .kind .given .1) (c .cic-number .ensures)
 
 returns-2 : tie.Need-returns-2
-returns-2 c = rw (c .before .before .kind2 .given .1) (c .refusal .ensures)
+returns-2 c = rw (c .before .before .kind2 .given .1) (c .wdf-number .ensures)
 
 returns-3 : tie.Need-returns-3
 returns-3 c = rw (c .before .before .kind3 .given .1) (c .dither-number .ensures)
