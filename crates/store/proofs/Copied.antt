@@ -44,7 +44,7 @@ words-back (suc k) (z ∷ cs) l h =
 name-whole : (name : List ℕ) → length name ≤ 16 → wholeName (padded name) ≡ name
 name-whole name h = whole-name (padded name) h ∙ name-back name
 
-small : (arch k : ℕ) → k ≤ 8 → arch / 16 ^ k ≡ 0 → arch % 2 ^ 32 ≡ arch
+pub small : (arch k : ℕ) → k ≤ 8 → arch / 16 ^ k ≡ 0 → arch % 2 ^ 32 ≡ arch
 small arch k h e =
     let b = below k arch e in
     let p : 16 ^ k ≤ 16 ^ 8 = pow-le-pow-right (omega arith) h in
@@ -57,7 +57,7 @@ record-back v (Cic name n m rate) h e =
     ap (λ (x : List ℕ). Cic x n m rate) (name-whole name (name-short name (a .0)))
 record-back v (Wdf name arch cs) h e =
     let a = two (isName name) (allLie signed cs) h in
-    let w = wdf-small (length cs) arch e in
+    let w = wdf-small v (length cs) arch e in
     let few = w .0 in
     let z : length cs - 8 ≡ 0 = omega arith in
     let c : take (length cs) (map (wrap w32) (eight cs)) ++ replicate (length cs - 8) (pos 0) ≡ cs =

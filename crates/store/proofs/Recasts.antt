@@ -1,16 +1,19 @@
 -- A move recasts the entries in turn. What is recast holds the moved records, so it is written as the moved text.
 use native.Mathlib.Omega.{arith}
 use native.Mathlib.Numerals.{add-one}
+use native.Mathlib.Nat.{pow-le-pow-right}
 use mathlib.Core.Path.{_≡_, refl, sym, ap, _∙_}
 use mathlib.Core.Bool.{Bool, true, false, cond, _||_}
 use mathlib.Core.List.{List, [], _∷_, _++_, map, map-append, append-assoc, append-nil}
 use mathlib.Core.Option.{Option, none, some}
-use Prim.Native.Nat.{ℕ, zero, suc, _+_, _-_, _≤_, _<_}
+use Prim.Native.Nat.{ℕ, zero, suc, _+_, _-_, _%_, _^_, _≤_, _<_}
 use lib.Dec.{leb}
 use lib.ListN.{length, take, drop, getD, set, replicate, drop-of-length-le}
 use lib.Seq.{take-all, take-suc, drop-cons, set-at, getD-at, length-take-le}
 use borrow.Author.Tests.{lt-ltb, ne-eqb}
 use Rattle.text.specs.Writing.{overlaid}
+use Rattle.wdf.specs.Retired.{moved}
+use Rattle.wdf.proofs.Retired.{moved-at-most}
 use Rattle.text.proofs.Ranges.{both-some}
 use Rattle.settings_text.specs.Lines.{Setting, Cic, Wdf, Dither, formed, parameters, formOf}
 use Rattle.settings_text.specs.Moves.{Moved, Text, placed, placedText, move, raised, lowered, forth, back, anyDither}
@@ -18,10 +21,11 @@ use Rattle.settings_text.specs.Stores.{Found, Good, Bad, listedNumber, listFrom
 use Rattle.settings_text.specs.declared.version.Version.{Version}
 use Rattle.settings_text.specs.declared.version.Version.the-variants.{One, Two}
 use Rattle.settings_text.proofs.Forms.{only-text}
+use Rattle.settings_text.proofs.Lines.{wdf-small, below}
 use Rattle.settings_text.proofs.Moves.{Keeps, list-kept, forth-keeps, back-keeps, all-placed, missing, dither-missing, number-parts}
 use Rattle.settings_text.proofs.Stores.{both-zero, write-zero, no-parameter, numbered}
 use Rattle.entries.specs.Entries.{emptyEntry, entryOf, numberAs}
-use Rattle.store.specs.Moving.{Moves, moveEnds, thirdIn, recastEntry, recastIn, ditherKind, anyDitherIn}
+use Rattle.store.specs.Moving.{Moves, moveEnds, thirdIn, architectureIn, recastEntry, recastIn, ditherKind, anyDitherIn}
 use Rattle.store_read.specs.Reading.{found}
 use Rattle.store_write.specs.Saving.{SavesAs, textAs}
 use Rattle.store.specs.declared.moving.Move.the-variants as moves
@@ -31,7 +35,7 @@ use Rattle.store_write.specs.declared.saving.Written.the-variants as writes
 use Rattle.store_write.specs.declared.saving.Written.{Written}
 use Rattle.entries.specs.declared.settings.Entry.{Entry}
 use Rattle.entries.specs.declared.settings.Settings.{Settings}
-use Rattle.store.proofs.Copied.{settings-back, settings-number}
+use Rattle.store.proofs.Copied.{settings-back, settings-number, small}
 
 -- the entries recast so far, and those as they were
 pub record Recasting (v : Version) (old new : List Entry) (i : ℕ) : Type 0 where
@@ -196,27 +200,39 @@ module _ (from to : Version) (place : Setting → Option Setting) (keeps : Keeps
         let entries : map (recastEntry to) (map entryOf (k .ss) ++ fill) ≡ map entryOf (p .there) ++ map (recastEntry to) fill =
         map-append (recastEntry to) (map entryOf (k .ss)) fill
         ∙ ap (λ (x : List Entry). x ++ map (recastEntry to) fill) (recast-list (k .ss) (p .there) 0 [] good (p .is)) in
-        let moved : s ≡ record { count = length (p .there); entries = map entryOf (p .there) ++ map (recastEntry to) fill } =
+        let made : s ≡ record { count = length (p .there); entries = map entryOf (p .there) ++ map (recastEntry to) fill } =
         ps ∙ ap (recastIn to) (k .is) ∙ rw (entries, placed-length (k .ss) (p .there) (p .is)) in
-        let z : numberAs to s ≡ 0 = ap (numberAs to) moved ∙ settings-number to (p .there) (map (recastEntry to) fill) kept in
-        let e : textAs to s ≡ textOf (formOf to) (p .there) = ap (textAs to) moved
+        let z : numberAs to s ≡ 0 = ap (numberAs to) made ∙ settings-number to (p .there) (map (recastEntry to) fill) kept in
+        let e : textAs to s ≡ textOf (formOf to) (p .there) = ap (textAs to) made
         ∙ ap (textOf (formOf to)) (settings-back to (p .there) (map (recastEntry to) fill) kept) in
         rw (k .good, p .is) (turned s (textOf (formOf to) (p .there)) r o' z e w)
+
+-- what is moved lies in the architecture's word
+small-below : (k arch : ℕ) → k ≤ 8 → arch < 16 ^ k → moved k arch % 2 ^ 32 ≡ moved k arch
+small-below k arch h b =
+    let p : 16 ^ k ≤ 16 ^ 8 = pow-le-pow-right (omega arith) h in
+    omega (arith, moved-at-most k arch)
 
 -- the two moves
 pub each-raised : (s t : Setting) → formOf One .formed s ≡ true → formOf One .parameters s ≡ 0 → _≡_ {A = Option Setting} (some (raised s)) (some t)
     → recastEntry Two (entryOf s) ≡ entryOf t
-unfolding formOf parameters raised entryOf thirdIn
+unfolding formOf parameters raised entryOf thirdIn architectureIn
 each-raised (Cic name n m rate) t h e p =
     let q : Cic name n m (suc rate) ≡ t = cc in
     let r = number-parts n m rate e .1 in
     rw (← q, lt-ltb rate 4294967295 (omega arith), add-one)
-each-raised (Wdf name arch cs) t h e p = let q : Wdf name arch cs ≡ t = cc in rw (← q)
+each-raised (Wdf name arch cs) t h e p =
+    let q : Wdf name (moved (length cs) arch) cs ≡ t = cc in
+    let w = wdf-small One (length cs) arch e in
+    let a : arch % 2 ^ 32 ≡ arch = small arch (length cs) (w .0) (w .1) in
+    let b = below (length cs) arch (w .1) in
+    let c : moved (length cs) arch % 2 ^ 32 ≡ moved (length cs) arch = small-below (length cs) arch (w .0) b in
+    rw (← q, a, c)
 each-raised (Dither name f cs) t h e p = let q : Dither name f cs ≡ t = cc in rw (← q)
 
 pub each-lowered : (s t : Setting) → formOf Two .formed s ≡ true → formOf Two .parameters s ≡ 0 → lowered s ≡ some t
     → recastEntry One (entryOf s) ≡ entryOf t
-unfolding lowered entryOf thirdIn
+unfolding lowered entryOf thirdIn architectureIn
 each-lowered (Cic name n m r) t h e p = let q : Cic name n m (r - 1) ≡ t = cc in rw (← q)
 each-lowered (Wdf name arch cs) t h e p = let q : Wdf name arch cs ≡ t = cc in rw (← q)
 each-lowered (Dither name f cs) t h e p = absurd (let z : _≡_ {A = ℕ} 0 1 = cc in omega arith)

@@ -6,6 +6,7 @@ use Prim.Native.Nat.{ℕ, _+_, _-_}
 use lib.Dec.{leb, ltb}
 use lib.ListN.{length}
 use Rattle.text.specs.Writing.{overlaid}
+use Rattle.wdf.specs.Retired.{moved}
 use Rattle.settings_text.specs.Moves.{Moved, Text, Refused}
 use Rattle.settings_text.specs.declared.version.Version.{Version}
 use Rattle.settings_text.specs.declared.version.Version.the-variants.{One, Two}
@@ -31,9 +32,14 @@ unfoldable pub thirdIn : Version → ℕ → ℕ
 thirdIn One r = r - 1
 thirdIn Two rate = cond (ltb rate 4294967295) (rate + 1) 0
 
+-- and an architecture: b and c stand in the places of e and f in form 2
+unfoldable pub architectureIn : Version → ℕ → ℕ → ℕ
+architectureIn One k arch = arch
+architectureIn Two k arch = moved k arch
+
 abbrev pub recastKind : Version → Kind → Kind
 recastKind v (kinds.Cic n m r) = kinds.Cic n m (thirdIn v r)
-recastKind v (kinds.Wdf k arch) = kinds.Wdf k arch
+recastKind v (kinds.Wdf k arch) = kinds.Wdf k (architectureIn v k arch)
 recastKind v (kinds.Dither f) = kinds.Dither f
 
 abbrev pub recastEntry : Version → Entry → Entry

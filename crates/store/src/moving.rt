@@ -8,9 +8,10 @@ use store_read::reading::read_form2;
 use store_write::saving::Written;
 use store_write::saving::write_form1;
 use store_write::saving::write_form2;
+use wdf::filter::current_architecture;
 ghost use mathlib.Core.Path.{_≡_};
 ghost use Rattle.settings_text.specs.Moves.{forth, back};
-ghost use Rattle.store.specs.Moving.{Moves, thirdIn, recastKind, recastEntry, recastIn, ditherKind, anyDitherIn};
+ghost use Rattle.store.specs.Moving.{Moves, thirdIn, architectureIn, recastKind, recastEntry, recastIn, ditherKind, anyDitherIn};
 
 // How many bytes were written; or the line, 0 where no line is to blame, and the number of the refusal.
 pub enum Move {
@@ -38,12 +39,24 @@ fn third(version: Version, n: u32) -> u32
     }
 }
 
+// An architecture as it stands in a form: b and c in the places of e and f in form 2.
+fn architecture_in(version: Version, sections: usize, architecture: u32) -> u32
+    ensures { λ r. ⌜ r ≡ architectureIn version sections architecture ⌝ }
+{
+    match version {
+        Version::One => architecture,
+        Version::Two => current_architecture(sections, architecture),
+    }
+}
+
 fn recast_kind(version: Version, kind: Kind) -> Kind
     ensures { λ r. ⌜ r ≡ recastKind version kind ⌝ }
 {
     match kind {
         Kind::Cic(order, delay, n) => Kind::Cic(order, delay, third(version, n)),
-        Kind::Wdf(sections, architecture) => Kind::Wdf(sections, architecture),
+        Kind::Wdf(sections, architecture) => {
+            Kind::Wdf(sections, architecture_in(version, sections, architecture))
+        }
         Kind::Dither(f) => Kind::Dither(f),
     }
 }
@@ -100,7 +113,7 @@ fn has_dither(settings: Settings) -> bool
     false
 }
 
-// Moves a store of form 1 to form 2, at the start of the slice; the rest of it stays. A store that can't be read is
+// Moves a store of form 1 to form 2, with b and c in the places of e and f, at the start of the slice; the rest of it stays. A store that can't be read is
 // refused by its own number, else a short slice by 20: then nothing is written.
 pub fn move_forth(text: &[u8], out: &mut [u8]) -> Move
     ensures { λ r. ⌜ Moves (forth (now (text .entry))) (now (out .entry)) r (now (out .exit)) ⌝ }

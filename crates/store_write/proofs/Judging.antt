@@ -196,7 +196,7 @@ few-sections v k last name kind a h = by (leb 64 k) (precedes last name) h
     small : (kind : Kind) → kindNumber v kind a ≡ 0 → sections kind ≤ 8
     small (kinds.Cic n m r) e = omega arith
     small (kinds.Dither f) e = omega arith
-    small (kinds.Wdf k arch) e = wdf-small k arch e .0
+    small (kinds.Wdf k arch) e = wdf-small v k arch e .0
 
     by : (t b : Bool) → cond t 83 (cond b (kindNumber v kind a) 82) ≡ 0 → sections kind ≤ 8
     by true b e = absurd (omega arith)
