@@ -1,5 +1,6 @@
-// From a store to filters: each record of a store is made into its filter by `Cic::new` or `Wdf::new`, and the filter is
-// given a step of 1000. Prints each record's name and the first output.
+// From a store to filters: each record of a store of form 1 is made into its filter by `Cic::new` or `Wdf::from_form1`, which
+// takes the retired adapters e and f, too, and the filter is given a step of 1000. Prints each record's name and the first
+// output.
 use cic::state::Cic;
 use cic::steps::Out;
 use entries::settings::Entry;
@@ -33,7 +34,7 @@ fn first_decimated(order: u32, delay: u32, rate: u32) -> i32 {
 }
 
 fn first_passed(sections: usize, architecture: u32, a: [i32; 8]) -> i32 {
-    let made = Wdf::new(sections, architecture, a);
+    let made = Wdf::from_form1(sections, architecture, a);
     let filter = made.state;
     let stepped = filter.process(1000);
     let out = stepped.out;
@@ -63,7 +64,7 @@ fn run(entry: Entry) {
 
 fn main() {
     let read = read_form1(
-        b"set\t1\ncic\tcrankshaft\t3\t1\t63\nwdf\thalfband\t2\ta1\t-1073741824\t536870912\n",
+        b"set\t1\ncic\tcrankshaft\t3\t1\t63\nwdf\thalfband\t2\ta1\t-1073741824\t536870912\nwdf\told\t1\te\t-1073741824\n",
     );
     let settings = read.settings;
     let count = settings.count;
