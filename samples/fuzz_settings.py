@@ -1,7 +1,7 @@
 #!/usr/bin/env python3
 """Holds the program `settings` against settings_model.py on drawn stores of either form, good and damaged, each checked, copied and
 moved forth and back: whole, in random parts, and byte by byte. Every good store of form 1 that is moved forth must come back as the
-same bytes. The last ones are longer than the program's buffer.
+same bytes, and as other ones exactly where it holds e or f. The last ones are longer than the program's buffer.
 
     python3 samples/fuzz_settings.py [COUNT] [PROGRAM]     (5000 inputs; target/bin/settings, or samples/settings on another processor)
 """
@@ -32,7 +32,8 @@ def line(rng, name, wild, form, dithers):
         third = drawn(rng, form - 1, 65534 + form, wild)
         return b"cic\t%s\t%d\t%d\t%d" % (name, drawn(rng, 0, 8, wild), drawn(rng, 1, 8, wild), third)
     k = rng.choice([0, 1, 2, 8, 9, 10]) if wild and rng.random() < 0.2 else rng.randint(0, 8)
-    digits = b"".join((b"%X" if wild and rng.random() < 0.01 else b"%x") % rng.randint(0, 15) for _ in range(k)) or b"-"
+    most = 15 if rng.random() < 0.1 else 13
+    digits = b"".join((b"%X" if wild and rng.random() < 0.01 else b"%x") % rng.randint(0, most) for _ in range(k)) or b"-"
     fields = [b"wdf", name, b"%d" % k, digits] + [b"%d" % drawn(rng, -(2**31), 2**31 - 1, wild) for _ in range(k)]
     return b"\t".join(fields)
 
@@ -92,7 +93,7 @@ def cuts(rng, data):
 def main():
     count = int(sys.argv[1]) if len(sys.argv) > 1 else 5000
     program = sys.argv[2] if len(sys.argv) > 2 else os.path.join(HERE, "settings")
-    numbers, differ, round_trips = {}, 0, 0
+    numbers, differ, round_trips, others = {}, 0, 0, 0
     drawn_inputs = [(i, random.Random("settings %d" % i)) for i in range(count)]
     inputs = [(i, rng, generated(rng)) for i, rng in drawn_inputs]
     inputs += [("long %d" % i, random.Random(i), data) for i, data in enumerate(long_ones(random.Random("long")))]
@@ -109,12 +110,14 @@ def main():
                     print("input", i, "differs with", word)
         if want.startswith(b"ok\t1"):
             there = answered(program, ["forth"], cuts(rng, data))
+            again = answered(program, ["back"], cuts(rng, there))
             round_trips += 1
-            if answered(program, ["back"], cuts(rng, there)) != data:
+            others += model.holds_retired(data)
+            if again != model.back(model.forth(data)) or (again != data) != model.holds_retired(data):
                 differ += 1
                 print("input", i, "does not come back")
     told = " ".join("%d: %d" % n for n in sorted(numbers.items()))
-    print("%d inputs, %d of them forth and back: %d differ; by number %s" % (len(inputs), round_trips, differ, told))
+    print("%d inputs, %d of them forth and back, %d of those with e or f: %d differ; by number %s" % (len(inputs), round_trips, others, differ, told))
 
 
 if __name__ == "__main__":

@@ -1,4 +1,4 @@
-"""A settings store of either form in plain Python, written from document 02, A7 and A12, and not from the program. Run, it prints the stored cases
+"""A settings store of either form in plain Python, written from document 02, A7, A12 and A13, and not from the program. Run, it prints the stored cases
 of crates/settings_cases with their answers:
 
     python3 samples/settings_model.py CASES     (a file of names and texts, each ended by #)
@@ -8,6 +8,7 @@ import sys
 
 NUMBER = re.compile(rb"0|-?[1-9][0-9]*")
 NAME = re.compile(rb"[a-z]{1,16}")
+CURRENT = bytes.maketrans(b"ef", b"bc")
 
 
 def number(field, least, most):
@@ -45,7 +46,7 @@ def record(line, form=1):
 def parameters(r, form=1):
     """The first parameter number that refuses a record, or 0. A text has no nibble beyond the last section, so no 51."""
     if r[0] == "wdf":
-        return 50 if len(r[3]) > 8 else 0
+        return 50 if len(r[3]) > 8 else 53 if form == 2 and re.search(rb"[ef]", r[2]) else 0
     if r[0] == "dither":
         return 40 if not 1 <= r[2] <= 31 else 41 if r[3][6] > r[3][7] else 0
     order, delay, n = r[2:]
@@ -102,6 +103,8 @@ def moved(text, form, other):
         fields = line.split(b"\t")
         if fields[0] == b"cic":
             fields[4] = b"%d" % (int(fields[4]) + other - form)
+        if fields[0] == b"wdf" and other == 2:
+            fields[3] = fields[3].translate(CURRENT)
         lines.append(b"\t".join(fields))
     return b"\n".join(lines) + b"\n"
 
@@ -112,6 +115,11 @@ def forth(text):
 
 def back(text):
     return moved(text, 2, 1)
+
+
+def holds_retired(text):
+    """Whether a readable store of form 1 has a nibble e or f."""
+    return any(r[0] == "wdf" and re.search(rb"[ef]", r[2]) for r in read(text))
 
 
 def case(name, text):

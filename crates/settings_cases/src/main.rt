@@ -1,8 +1,8 @@
-// Every reading of document 02, A7 and A12, with a case: names and texts on standard input, each ended by `#`. A name is
+// Every reading of document 02, A7, A12 and A13, with a case: names and texts on standard input, each ended by `#`. A name is
 // answered by what the reader of form 1 finds in its text, `ok`, the form and the count of records, or `bad`, line and
 // number; where the text opens form 2, by what the reader of form 2 finds, too, and by what the move back answers. A text
-// that was read is written again and must be the same, and one of form 1 must be the same forth and back. Then lists that
-// no text can hold are written, and stores are moved into short slices.
+// that was read is written again and must be the same, and one of form 1 is told where it isn't the same forth and back.
+// Then lists that no text can hold are written, and stores are moved into short slices.
 use entries::settings::Entry;
 use entries::settings::Kind;
 use entries::settings::Name;
@@ -16,7 +16,6 @@ use store::moving::move_forth;
 use store_read::reading::form_of;
 use store_read::reading::read_store;
 use store_write::saving::Written;
-use store_write::saving::write_form1;
 use store_write::saving::write_store;
 use text::comparing::same_bytes;
 use text::parts::part_end;
@@ -190,18 +189,27 @@ fn named(bytes: [u8; 16], len: usize, kind: Kind) -> Entry {
 }
 
 // A list whose entries are all the same, written into the first bytes of a slice.
-fn write_into(settings: Settings, out: &mut [u8], room: usize) {
+fn write_into(version: Version, settings: Settings, out: &mut [u8], room: usize) {
     if out.len() < room {
         return;
     }
-    print_written(write_form1(settings, &mut out[..room]));
+    print_written(write_store(version, settings, &mut out[..room]));
 }
 
-fn write_list(count: usize, entry: Entry, room: usize) {
+fn write_list_in(version: Version, count: usize, entry: Entry, room: usize) {
     let entries = [entry; 64];
     let settings = Settings { count, entries };
     let mut out = [0u8; 200];
-    write_into(settings, &mut out, room);
+    write_into(version, settings, &mut out, room);
+}
+
+fn write_list(count: usize, entry: Entry, room: usize) {
+    write_list_in(Version::One, count, entry, room);
+}
+
+fn write_wdf2(sections: usize, architecture: u32) {
+    let entry = named(*b"abcaaaaaaaaaaaaa", 3, Kind::Wdf(sections, architecture));
+    write_list_in(Version::Two, 1, entry, 200);
 }
 
 fn write_cases() {
@@ -241,6 +249,19 @@ fn write_cases() {
         named(*b"abcaaaaaaaaaaaaa", 3, Kind::Cic(3, 1, 65536)),
         200,
     );
+}
+
+fn retired_cases() {
+    print(b"form 2, b");
+    write_wdf2(1, 0xb);
+    print(b"form 2, e");
+    write_wdf2(1, 0xe);
+    print(b"form 2, f");
+    write_wdf2(2, 0xfc);
+    print(b"form 2, e and a nibble beyond the last");
+    write_wdf2(1, 0x1e);
+    print(b"form 2, e and nine sections");
+    write_wdf2(9, 0xe);
 }
 
 // A store moved into the first bytes of a slice.
@@ -293,5 +314,6 @@ fn main() {
     let n = io::read_full(STDIN_FILENO, &mut file);
     show_all(&file[..n]);
     write_cases();
+    retired_cases();
     move_cases();
 }
