@@ -30,7 +30,7 @@ use Rattle.store_write.specs.declared.saving.Written.{Written}
 use Rattle.store_write.specs.declared.saving.Written.the-variants.{Bytes, Refused}
 use Rattle.entries.specs.declared.settings.Settings.{Settings}
 use Rattle.store.proofs.Copied.{copy-same}
-use Rattle.settings.specs.Answers.{okForm, okAnswer, badAnswer, checked, copied, movedAnswer, Gave}
+use Rattle.settings.specs.Answers.{okForm, okAnswer, badAnswer, checked, copied, moveAnswer, Gave}
 
 form-short : (v : Version) → length (okForm v) ≡ 5
 form-short One = refl
@@ -144,7 +144,7 @@ module _ (v : Version) (text : List ℕ) (r : Read) (e : r ≡ found (readOf (fo
         omega arith
 
 -- a move's text stands at the buffer's start; a refusal leaves the buffer as it was
-pub moved-bytes : (m : Moved) (o : List ℕ) (r : Move) (o' : List ℕ) (n : ℕ) → Moves m o r o' → r ≡ moves.Bytes n → Gave o (movedAnswer m o) n o'
+pub moved-bytes : (m : Moved) (o : List ℕ) (r : Move) (o' : List ℕ) (n : ℕ) → Moves m o r o' → r ≡ moves.Bytes n → Gave o (moveAnswer m o) n o'
 moved-bytes (asked.Refused line k) o r o' n w e = absurd
     (let q : moves.Bytes n ≡ moves.Refused line k = sym e ∙ w .answer in let z : _≡_ {A = ℕ} 0 1 = cc in omega arith)
 moved-bytes (asked.Text t) o r o' n w e = by (leb (length t) (length o)) refl (w .answer) (w .written)
@@ -163,7 +163,7 @@ moved-bytes (asked.Text t) o r o' n w e = by (leb (length t) (length o)) refl (w
         (let q : moves.Bytes n ≡ moves.Refused 0 20 = sym e ∙ a in let z : _≡_ {A = ℕ} 0 1 = cc in omega arith)
 
 pub moved-bad : (m : Moved) (o : List ℕ) (r : Move) (o' : List ℕ) (line n : ℕ) → Moves m o r o' → r ≡ moves.Refused line n
-    → (o' ≡ o) × (badAnswer line n ≡ movedAnswer m o)
+    → (o' ≡ o) × (badAnswer line n ≡ moveAnswer m o)
 moved-bad (asked.Refused k j) o r o' line n w e =
     let q : moves.Refused line n ≡ moves.Refused k j = sym e ∙ w .answer in
     let x : line ≡ k = cc in

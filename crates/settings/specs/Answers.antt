@@ -40,8 +40,8 @@ abbrev pub foundIn : List ℕ → Found Setting
 foundIn text = readOf (formOf (versionOf text)) text
 
 -- with `forth` or `back`: the moved text, or line 0 where no line is to blame; 20 where the buffer is short
-abbrev pub movedAnswer : Moved → List ℕ → List ℕ
-movedAnswer m o = moveEnds m o badAnswer (λ text. text)
+abbrev pub moveAnswer : Moved → List ℕ → List ℕ
+moveAnswer m o = moveEnds m o badAnswer (λ text. text)
 
 -- bytes were put at a buffer's start, and none past its end
 pub record Gave (o bs : List ℕ) (r : ℕ) (o' : List ℕ) : Type 0 where

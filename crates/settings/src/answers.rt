@@ -15,7 +15,7 @@ ghost use lib.ListN.{length};
 ghost use Rattle.text.specs.Writing.{Puts};
 ghost use Rattle.settings_text.specs.Lines.{versionOf};
 ghost use Rattle.settings_text.specs.Moves.{forth, back};
-ghost use Rattle.settings.specs.Answers.{Gave, okForm, okAnswer, badAnswer, checked, copied, foundIn, movedAnswer};
+ghost use Rattle.settings.specs.Answers.{Gave, okForm, okAnswer, badAnswer, checked, copied, foundIn, moveAnswer};
 
 // `ok` and the form.
 fn put_form(version: Version, out: &mut [u8]) -> usize
@@ -86,7 +86,7 @@ pub(crate) fn put_copied(text: &[u8], out: &mut [u8]) -> usize
 // The answer of `forth`.
 pub(crate) fn put_forth(text: &[u8], out: &mut [u8]) -> usize
     requires { ⌜ 36 ≤ length (now out) ⌝ }
-    ensures { λ r. ⌜ Gave (now (out .entry)) (movedAnswer (forth (now (text .entry))) (now (out .entry))) r (now (out .exit)) ⌝ }
+    ensures { λ r. ⌜ Gave (now (out .entry)) (moveAnswer (forth (now (text .entry))) (now (out .entry))) r (now (out .exit)) ⌝ }
 {
     match move_forth(text, out) {
         Move::Bytes(n) => n,
@@ -97,7 +97,7 @@ pub(crate) fn put_forth(text: &[u8], out: &mut [u8]) -> usize
 // The answer of `back`.
 pub(crate) fn put_back(text: &[u8], out: &mut [u8]) -> usize
     requires { ⌜ 36 ≤ length (now out) ⌝ }
-    ensures { λ r. ⌜ Gave (now (out .entry)) (movedAnswer (back (now (text .entry))) (now (out .entry))) r (now (out .exit)) ⌝ }
+    ensures { λ r. ⌜ Gave (now (out .entry)) (moveAnswer (back (now (text .entry))) (now (out .entry))) r (now (out .exit)) ⌝ }
 {
     match move_back(text, out) {
         Move::Bytes(n) => n,

@@ -5,7 +5,7 @@
 // line alone, with line 0 where no line is to blame. Any other argument is told on standard error which there are.
 //
 // Of a longer input the first 16,384 bytes are taken: line 66 ends within the first 10,471 or is too long, and no line
-// behind it is looked at. `checked`, `copied` and `movedAnswer` of specs/Answers say what is written; here are the reads
+// behind it is looked at. `checked`, `copied` and `moveAnswer` of specs/Answers say what is written; here are the reads
 // and the writes. A read that fails ends the program with nothing written.
 mod answers;
 
