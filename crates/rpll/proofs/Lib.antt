@@ -1,3 +1,4 @@
 pub mod Ranges
 pub mod Rounding
 pub mod Coasting
+pub mod Blocks

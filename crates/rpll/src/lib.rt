@@ -1,5 +1,6 @@
 // The reciprocal phase-locked loop: from the timestamps of a reference, the phase and frequency of its own steps
 // against that reference, 2^32 to a turn. Port of the crate's rpll.rs. Callers cite specs/Loops.
+use blocks::Verdict;
 use words::casts::i32_as_u32;
 use words::casts::i32_as_u64;
 use words::casts::u32_as_i32;
@@ -17,7 +18,11 @@ use words::unsigned::mul_u64;
 use words::unsigned::sub_u32;
 ghost use mathlib.Core.Path.{_≡_};
 ghost use Prim.Native.Nat.{_+_, _<_, _≤_};
-ghost use Rattle.rpll.specs.Loops.{configNumber, lockedOf, errorOf, advancedOf, takenOf, estimatedOf, processedOf};
+ghost use lib.ListN.{length};
+ghost use Rattle.blocks.specs.Scan.{scan, ends};
+ghost use Rattle.blocks.specs.declared.Verdict.the-variants.{Refused};
+ghost use Rattle.rpll.specs.Loops.{configNumber, lockedOf, errorOf, advancedOf, takenOf, updatedOf, estimatedOf, processedOf};
+ghost use Rattle.rpll.specs.Blocks.{stampOf, stamps, phaseAfter, frequencyAfter, LoopBlocked};
 
 pub struct RPLL {
     // The previous timestamp.
@@ -55,6 +60,11 @@ pub enum Estimate {
 pub struct Processed {
     pub state: RPLL,
     pub estimate: Estimate,
+}
+
+pub struct ProcessedBlock {
+    pub state: RPLL,
+    pub verdict: Verdict,
 }
 
 // The frequency loop: ff corrected by what its phase over dx counter cycles lacks to the reference's 2^dt2 turns.
@@ -152,6 +162,18 @@ impl RPLLConfig {
         }
     }
 
+    // A step, with the timestamp x where there is one.
+    fn updated(self, s: RPLL, there: bool, x: i32) -> RPLL
+        requires { ⌜ configNumber self ≡ 0 ⌝ }
+        ensures { λ r. ⌜ r ≡ updatedOf self s (stampOf there x) ⌝ }
+    {
+        let ahead = s.advanced();
+        if there {
+            return self.taken(ahead, x);
+        }
+        ahead
+    }
+
     // Advances the loop by a step and takes a timestamp where there is one. At most one comes in a step.
     // 60, 61 or 62 where the configuration is out of range: the state comes back as it was.
     pub fn process(self, state: RPLL, x: Timestamp) -> Processed
@@ -170,6 +192,84 @@ impl RPLLConfig {
         };
         given(self.taken(ahead, x))
     }
+
+    // Takes the steps in turn, step i with the timestamp xs[i] where there[i], else without, and writes the phases and
+    // the frequencies, the latter read as signed. 31 where the slices differ in length, else the configuration's
+    // number: nothing is written.
+    pub fn block(
+        self,
+        state: RPLL,
+        there: &[bool],
+        xs: &[i32],
+        ys: &mut [i32],
+        fs: &mut [i32],
+    ) -> ProcessedBlock
+        ensures { λ r. ⌜ LoopBlocked self state (now (there .entry)) (now (xs .entry)) (now (ys .entry)) (now (fs .entry))
+            (r .state) (r .verdict) (now (ys .exit)) (now (fs .exit)) ⌝ }
+    {
+        if there.len() != xs.len() {
+            return refused_block(state, 31);
+        }
+        if xs.len() != ys.len() {
+            return refused_block(state, 31);
+        }
+        if ys.len() != fs.len() {
+            return refused_block(state, 31);
+        }
+        let number = self.refusal();
+        if number != 0 {
+            return refused_block(state, number);
+        }
+        let after = lock_all(self, state, there, xs, ys, fs);
+        ProcessedBlock {
+            state: after,
+            verdict: Verdict::Done,
+        }
+    }
+}
+
+// The state as it was, and the number.
+fn refused_block(state: RPLL, number: u32) -> ProcessedBlock
+    ensures { λ r. ⌜ (r .state ≡ state) × (r .verdict ≡ Refused number) ⌝ }
+{
+    ProcessedBlock {
+        state,
+        verdict: Verdict::Refused(number),
+    }
+}
+
+// The steps of a block, the state's four numbers as locals.
+fn lock_all(
+    c: RPLLConfig,
+    s: RPLL,
+    there: &[bool],
+    xs: &[i32],
+    ys: &mut [i32],
+    fs: &mut [i32],
+) -> RPLL
+    requires { ⌜ (configNumber c ≡ 0) × (length (now there) ≡ length (now xs)) × (length (now xs) ≡ length (now ys))
+        × (length (now ys) ≡ length (now fs)) ⌝ }
+    ensures { λ r. ⌜ (r ≡ ends (phaseAfter c) (updatedOf c) s (stamps (now (there .entry)) (now (xs .entry))))
+        × (now (ys .exit) ≡ scan (phaseAfter c) (updatedOf c) s (stamps (now (there .entry)) (now (xs .entry))))
+        × (now (fs .exit) ≡ scan (frequencyAfter c) (updatedOf c) s (stamps (now (there .entry)) (now (xs .entry)))) ⌝ }
+{
+    let mut last = s.x;
+    let mut ff = s.ff;
+    let mut f = s.f;
+    let mut y = s.y;
+    let mut i: usize = 0;
+    while i < xs.len() {
+        let before = RPLL { x: last, ff, f, y };
+        let t = c.updated(before, there[i], xs[i]);
+        last = t.x;
+        ff = t.ff;
+        f = t.f;
+        y = t.y;
+        ys[i] = y;
+        fs[i] = u32_as_i32(f);
+        i += 1;
+    }
+    RPLL { x: last, ff, f, y }
 }
 
 // The state with its phase and its frequency, the latter read as signed.
