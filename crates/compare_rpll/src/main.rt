@@ -1,6 +1,8 @@
 // Runs the proved reciprocal loop over the Rust's stored answers (oracle/README.md, rpll) and prints what differs.
+use blocks::Verdict;
 use rpll::Estimate;
 use rpll::Processed;
+use rpll::ProcessedBlock;
 use rpll::RPLL;
 use rpll::RPLLConfig;
 use rpll::Timestamp;
@@ -26,6 +28,8 @@ const LINES: u32 = 1300;
 const WIDTH: u32 = 16;
 
 const CONFIGURATIONS: u32 = 16777216;
+
+const BLOCK: usize = 1000;
 
 fn configured(dt2: u32, shift_frequency: u32, shift_phase: u32) -> RPLLConfig {
     RPLLConfig {
@@ -185,12 +189,137 @@ fn long_run(w: [u32; 40]) -> u64 {
     unlike(s.frequency(), w[9])
 }
 
+// A step's flag and number, and the generator after them. A step without a timestamp has a number too.
+struct Stamp {
+    there: bool,
+    x: i32,
+    draws: u64,
+}
+
+// As `drawn_turn` draws it.
+fn drawn_stamp(draws: u64) -> Stamp {
+    let u = draw(draws);
+    if u.value % 2 == 0 {
+        return Stamp {
+            there: false,
+            x: u32_as_i32(u.value),
+            draws: u.state,
+        };
+    }
+    let x = spread(u.state);
+    Stamp {
+        there: true,
+        x: u32_as_i32(x.value),
+        draws: x.state,
+    }
+}
+
+// The flags and numbers of a block; gives the generator after them.
+fn fill(there: &mut [bool; BLOCK], xs: &mut [i32; BLOCK], draws: u64) -> u64 {
+    let mut g = draws;
+    for i in 0..BLOCK {
+        let s = drawn_stamp(g);
+        there[i] = s.there;
+        let x = s.x;
+        xs[i] = x;
+        g = s.draws;
+    }
+    g
+}
+
+// The digest d grown by a block's phases and frequencies.
+fn digest_block(d: u64, ys: &[i32; BLOCK], fs: &[i32; BLOCK]) -> u64 {
+    let mut e = d;
+    for i in 0..BLOCK {
+        e = digest(digest(e, i32_as_u32(ys[i])), i32_as_u32(fs[i]));
+    }
+    e
+}
+
+fn block(
+    c: RPLLConfig,
+    s: RPLL,
+    there: &[bool; BLOCK],
+    xs: &[i32; BLOCK],
+    ys: &mut [i32; BLOCK],
+    fs: &mut [i32; BLOCK],
+) -> ProcessedBlock {
+    c.block(s, there, xs, ys, fs)
+}
+
+// A thousand drawn steps as a block.
+fn drawn_block(r: Running, c: RPLLConfig) -> Running {
+    let mut there = [false; BLOCK];
+    let mut xs = [0i32; BLOCK];
+    let mut ys = [0i32; BLOCK];
+    let mut fs = [0i32; BLOCK];
+    let draws = fill(&mut there, &mut xs, r.draws);
+    let s = r.state;
+    let done = block(c, s, &there, &xs, &mut ys, &mut fs);
+    let state = done.state;
+    Running {
+        state,
+        draws,
+        next: r.next,
+        digest: digest_block(r.digest, &ys, &fs),
+    }
+}
+
+// A line's run from zero, by blocks.
+fn run_by_blocks(w: [u32; 40], blocks: u32) -> Running {
+    let mut r = Running {
+        state: zero(),
+        draws: double(0, w[4]),
+        next: w[4],
+        digest: 0,
+    };
+    for _ in 0..blocks {
+        r = drawn_block(r, configuration(w));
+    }
+    r
+}
+
+// 1 where the digest of a run by blocks differs from that of the Rust's steps.
+fn block_run(w: [u32; 40]) -> u64 {
+    let r = run_by_blocks(w, w[5] / 1000);
+    let s = r.state;
+    if digest_words(r.digest, &words_of(s)) != double(w[6], w[7]) {
+        return 1;
+    }
+    0
+}
+
+// 1 where a block of unlike lengths is not refused with 31, in a configuration that is refused too.
+fn unlike_differs(there: &[bool], xs: &[i32], ys: &mut [i32], fs: &mut [i32]) -> u64 {
+    let r = configured(31, 0, 0).block(zero(), there, xs, ys, fs);
+    let verdict = r.verdict;
+    match verdict {
+        Verdict::Done => 1,
+        Verdict::Refused(k) => unlike(k, 31),
+    }
+}
+
+// Each of the four slices one shorter than the others.
+fn lengths_differ() -> u64 {
+    let there = [true; 3];
+    let xs = [7i32; 3];
+    let mut ys = [0i32; 3];
+    let mut fs = [0i32; 3];
+    let mut two = [0i32; 2];
+    let flags = unlike_differs(&there[1..], &xs, &mut ys, &mut fs);
+    let stamps = unlike_differs(&there, &xs[1..], &mut ys, &mut fs);
+    let phases = unlike_differs(&there, &xs, &mut two, &mut fs);
+    let frequencies = unlike_differs(&there, &xs, &mut ys, &mut two);
+    add_u64(add_u64(flags, stamps), add_u64(phases, frequencies))
+}
+
 // 1 where the line differs from what the proved function gives.
 fn differs(w: [u32; 40]) -> u64 {
-    if w[0] == 1 {
-        return step(w);
+    match w[0] {
+        1 => step(w),
+        2 => add_u64(long_run(w), block_run(w)),
+        _ => long_run(w),
     }
-    long_run(w)
 }
 
 // How many cases a line stands for: the steps of a run, else one.
@@ -266,7 +395,7 @@ fn main() {
     let n = io::read_full(0, &mut space);
     let text = &space[..n];
     compare(text, 1, b"RPLL step");
-    compare(text, 2, b"RPLL, runs");
+    compare(text, 2, b"RPLL, runs, by steps and by blocks");
     compare(
         text,
         3,
@@ -282,5 +411,10 @@ fn main() {
         b"RPLL configurations refused with 60, 61, 62 or not at all",
         CONFIGURATIONS as u64,
         refusals_differ(s),
+    );
+    report(
+        b"RPLL block of unlike lengths, refused with 31",
+        4,
+        lengths_differ(),
     );
 }

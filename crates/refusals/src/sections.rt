@@ -1,4 +1,4 @@
-// Numbers 50 to 65: wave digital sections and coefficients, the reciprocal loop, and the scale.
+// Numbers 31 and 50 to 65: wave digital sections and coefficients, the reciprocal loop and its block, and the scale.
 use crate::print::refusal;
 use crate::print::row;
 use rpll::Estimate;
@@ -55,6 +55,37 @@ fn loops(dt2: u8, shift_frequency: u8, shift_phase: u8) -> u32 {
         Estimate::Given(_, _) => 0,
         Estimate::Refused(n) => n,
     }
+}
+
+fn loop_block(there: &[bool], xs: &[i32], ys: &mut [i32], fs: &mut [i32]) -> u32 {
+    let config = RPLLConfig {
+        dt2: 8,
+        shift_frequency: 9,
+        shift_phase: 8,
+    };
+    let state = RPLL {
+        x: 0,
+        ff: 0,
+        f: 0,
+        y: 0,
+    };
+    let done = config.block(state, there, xs, ys, fs);
+    let verdict = done.verdict;
+    refusal(verdict)
+}
+
+fn print_loop_block() {
+    let there = [true; 3];
+    let xs = [0; 3];
+    let mut ys = [0; 3];
+    let mut two = [0; 2];
+    let mut three = [0; 3];
+    row(
+        b"a loop's block of 3 with frequencies into 2",
+        loop_block(&there, &xs, &mut ys, &mut two),
+        b"into 3",
+        loop_block(&there, &xs, &mut ys, &mut three),
+    );
 }
 
 pub(crate) fn print_all() {
@@ -144,6 +175,7 @@ pub(crate) fn print_all() {
         b"39",
         loops(8, 9, 39),
     );
+    print_loop_block();
     row(b"shift 0", scale(0), b"1", scale(1));
     row(b"shift 33", scale(33), b"32", scale(32));
 }
