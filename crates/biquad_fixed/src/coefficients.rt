@@ -46,6 +46,21 @@ impl Biquad {
         0
     }
 
+    // The same coefficients, their fraction bits by the number f: where f is written out, so is each shift by it.
+    pub(crate) fn at(self, f: u32) -> Biquad
+        requires { ⌜ self .f ≡ f ⌝ }
+        ensures { λ r. ⌜ r ≡ self ⌝ }
+    {
+        Biquad {
+            b0: self.b0,
+            b1: self.b1,
+            b2: self.b2,
+            a1: self.a1,
+            a2: self.a2,
+            f,
+        }
+    }
+
     // The inputs' part of the sum, modulo 2^64.
     pub fn inputs(self, x0: i32, x1: i32, x2: i32) -> i64
         ensures { λ r. ⌜ r ≡ wrap w64 (forward self x0 x1 x2) ⌝ }
@@ -71,6 +86,21 @@ impl BiquadClamp {
             return 41;
         }
         0
+    }
+
+    // The same, the fraction bits by the number f.
+    pub(crate) fn at(self, f: u32) -> BiquadClamp
+        requires { ⌜ self .coeff .f ≡ f ⌝ }
+        ensures { λ r. ⌜ r ≡ self ⌝ }
+    {
+        let given = self.coeff;
+        let coeff = given.at(f);
+        BiquadClamp {
+            coeff,
+            u: self.u,
+            min: self.min,
+            max: self.max,
+        }
     }
 
     // The output y with the offset added, modulo 2^32, and held to the limits.

@@ -12,9 +12,9 @@ use words::signed::add_i64;
 use words::signed::product;
 ghost use mathlib.Core.Path.{_≡_};
 ghost use lib.ListN.{length};
-ghost use Rattle.blocks.specs.Scan.{scan, ends};
 ghost use Rattle.blocks.specs.Blocks.{Blocked};
 ghost use Rattle.biquad_fixed.specs.Forms.{ditherSum, ditherOut, ditherNext, ditherHeld, ditherOnward};
+ghost use Rattle.biquad_fixed.specs.Inner.{Ran};
 ghost use Rattle.biquad_fixed.specs.Answers.{fractionNumber, clampNumber, ditherOf, ditherClampOf};
 
 // x1 and y1 are the latest, x2 and y2 those before; e is the error that is fed back.
@@ -186,16 +186,30 @@ impl DirectForm1Dither {
     }
 }
 
-// The steps of a block in turn.
+// The steps of a block in turn, with a loop of its own for each number of fraction bits from 28 to 31.
 fn turn_all(s: DirectForm1Dither, c: Biquad, xs: &[i32], ys: &mut [i32]) -> DirectForm1Dither
     requires { ⌜ (length (now xs) ≡ length (now ys)) × (fractionNumber 1 c ≡ 0) ⌝ }
-    ensures { λ r. ⌜ (r ≡ ends (ditherOut c) (ditherNext c) s (now (xs .entry)))
-        × (now (ys .exit) ≡ scan (ditherOut c) (ditherNext c) s (now (xs .entry))) ⌝ }
+    ensures { λ r. ⌜ Ran (ditherOut c) (ditherNext c) s (now (xs .entry)) r (now (ys .exit)) ⌝ }
 {
+    let f = c.f;
+    match f {
+        28 => turn_at(s, c, 28, xs, ys),
+        29 => turn_at(s, c, 29, xs, ys),
+        30 => turn_at(s, c, 30, xs, ys),
+        31 => turn_at(s, c, 31, xs, ys),
+        _ => turn_at(s, c, f, xs, ys),
+    }
+}
+
+fn turn_at(s: DirectForm1Dither, c: Biquad, f: u32, xs: &[i32], ys: &mut [i32]) -> DirectForm1Dither
+    requires { ⌜ (length (now xs) ≡ length (now ys)) × (fractionNumber 1 c ≡ 0) × (c .f ≡ f) ⌝ }
+    ensures { λ r. ⌜ Ran (ditherOut c) (ditherNext c) s (now (xs .entry)) r (now (ys .exit)) ⌝ }
+{
+    let known = c.at(f);
     let mut t = s;
     let mut i: usize = 0;
     while i < xs.len() {
-        let turned = t.turn(c, xs[i]);
+        let turned = t.turn(known, xs[i]);
         let y = turned.y;
         ys[i] = y;
         let next = turned.state;
@@ -205,7 +219,7 @@ fn turn_all(s: DirectForm1Dither, c: Biquad, xs: &[i32], ys: &mut [i32]) -> Dire
     t
 }
 
-// The clamped steps of a block in turn.
+// The clamped steps of a block in turn, with a loop of its own for each number of fraction bits from 28 to 31.
 fn turn_clamp_all(
     s: DirectForm1Dither,
     c: BiquadClamp,
@@ -213,13 +227,34 @@ fn turn_clamp_all(
     ys: &mut [i32],
 ) -> DirectForm1Dither
     requires { ⌜ (length (now xs) ≡ length (now ys)) × (clampNumber 1 c ≡ 0) ⌝ }
-    ensures { λ r. ⌜ (r ≡ ends (ditherHeld c) (ditherOnward c) s (now (xs .entry)))
-        × (now (ys .exit) ≡ scan (ditherHeld c) (ditherOnward c) s (now (xs .entry))) ⌝ }
+    ensures { λ r. ⌜ Ran (ditherHeld c) (ditherOnward c) s (now (xs .entry)) r (now (ys .exit)) ⌝ }
 {
+    let coeff = c.coeff;
+    let f = coeff.f;
+    match f {
+        28 => turn_clamp_at(s, c, 28, xs, ys),
+        29 => turn_clamp_at(s, c, 29, xs, ys),
+        30 => turn_clamp_at(s, c, 30, xs, ys),
+        31 => turn_clamp_at(s, c, 31, xs, ys),
+        _ => turn_clamp_at(s, c, f, xs, ys),
+    }
+}
+
+fn turn_clamp_at(
+    s: DirectForm1Dither,
+    c: BiquadClamp,
+    f: u32,
+    xs: &[i32],
+    ys: &mut [i32],
+) -> DirectForm1Dither
+    requires { ⌜ (length (now xs) ≡ length (now ys)) × (clampNumber 1 c ≡ 0) × (c .coeff .f ≡ f) ⌝ }
+    ensures { λ r. ⌜ Ran (ditherHeld c) (ditherOnward c) s (now (xs .entry)) r (now (ys .exit)) ⌝ }
+{
+    let known = c.at(f);
     let mut t = s;
     let mut i: usize = 0;
     while i < xs.len() {
-        let turned = t.turn_clamp(c, xs[i]);
+        let turned = t.turn_clamp(known, xs[i]);
         let y = turned.y;
         ys[i] = y;
         let next = turned.state;

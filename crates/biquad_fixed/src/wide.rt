@@ -17,9 +17,9 @@ ghost use lib.IntN.{pos, _+ℤ_, _*ℤ_};
 ghost use lib.ListN.{length};
 ghost use mir.Syntax.{w32, w64};
 ghost use Rattle.words.specs.Words.{word, wrap, floorDiv};
-ghost use Rattle.blocks.specs.Scan.{scan, ends};
 ghost use Rattle.blocks.specs.Blocks.{Blocked};
 ghost use Rattle.biquad_fixed.specs.Forms.{wideSum, wideOut, wideNext, overwritten, wideHeld, wideOnward};
+ghost use Rattle.biquad_fixed.specs.Inner.{Ran};
 ghost use Rattle.biquad_fixed.specs.Answers.{fractionNumber, clampNumber, wideOf, wideClampOf};
 
 // x1 and y1 are the latest, x2 and y2 those before. An output's high word is what was given out.
@@ -212,16 +212,30 @@ impl DirectForm1Wide {
     }
 }
 
-// The steps of a block in turn.
+// The steps of a block in turn, with a loop of its own for each number of fraction bits from 28 to 31.
 fn turn_all(s: DirectForm1Wide, c: Biquad, xs: &[i32], ys: &mut [i32]) -> DirectForm1Wide
     requires { ⌜ (length (now xs) ≡ length (now ys)) × (fractionNumber 0 c ≡ 0) ⌝ }
-    ensures { λ r. ⌜ (r ≡ ends (wideOut c) (wideNext c) s (now (xs .entry)))
-        × (now (ys .exit) ≡ scan (wideOut c) (wideNext c) s (now (xs .entry))) ⌝ }
+    ensures { λ r. ⌜ Ran (wideOut c) (wideNext c) s (now (xs .entry)) r (now (ys .exit)) ⌝ }
 {
+    let f = c.f;
+    match f {
+        28 => turn_at(s, c, 28, xs, ys),
+        29 => turn_at(s, c, 29, xs, ys),
+        30 => turn_at(s, c, 30, xs, ys),
+        31 => turn_at(s, c, 31, xs, ys),
+        _ => turn_at(s, c, f, xs, ys),
+    }
+}
+
+fn turn_at(s: DirectForm1Wide, c: Biquad, f: u32, xs: &[i32], ys: &mut [i32]) -> DirectForm1Wide
+    requires { ⌜ (length (now xs) ≡ length (now ys)) × (fractionNumber 0 c ≡ 0) × (c .f ≡ f) ⌝ }
+    ensures { λ r. ⌜ Ran (wideOut c) (wideNext c) s (now (xs .entry)) r (now (ys .exit)) ⌝ }
+{
+    let known = c.at(f);
     let mut t = s;
     let mut i: usize = 0;
     while i < xs.len() {
-        let turned = t.turn(c, xs[i]);
+        let turned = t.turn(known, xs[i]);
         let y = turned.y;
         ys[i] = y;
         let next = turned.state;
@@ -231,16 +245,37 @@ fn turn_all(s: DirectForm1Wide, c: Biquad, xs: &[i32], ys: &mut [i32]) -> Direct
     t
 }
 
-// The clamped steps of a block in turn.
+// The clamped steps of a block in turn, with a loop of its own for each number of fraction bits from 28 to 31.
 fn turn_clamp_all(s: DirectForm1Wide, c: BiquadClamp, xs: &[i32], ys: &mut [i32]) -> DirectForm1Wide
     requires { ⌜ (length (now xs) ≡ length (now ys)) × (clampNumber 0 c ≡ 0) ⌝ }
-    ensures { λ r. ⌜ (r ≡ ends (wideHeld c) (wideOnward c) s (now (xs .entry)))
-        × (now (ys .exit) ≡ scan (wideHeld c) (wideOnward c) s (now (xs .entry))) ⌝ }
+    ensures { λ r. ⌜ Ran (wideHeld c) (wideOnward c) s (now (xs .entry)) r (now (ys .exit)) ⌝ }
 {
+    let coeff = c.coeff;
+    let f = coeff.f;
+    match f {
+        28 => turn_clamp_at(s, c, 28, xs, ys),
+        29 => turn_clamp_at(s, c, 29, xs, ys),
+        30 => turn_clamp_at(s, c, 30, xs, ys),
+        31 => turn_clamp_at(s, c, 31, xs, ys),
+        _ => turn_clamp_at(s, c, f, xs, ys),
+    }
+}
+
+fn turn_clamp_at(
+    s: DirectForm1Wide,
+    c: BiquadClamp,
+    f: u32,
+    xs: &[i32],
+    ys: &mut [i32],
+) -> DirectForm1Wide
+    requires { ⌜ (length (now xs) ≡ length (now ys)) × (clampNumber 0 c ≡ 0) × (c .coeff .f ≡ f) ⌝ }
+    ensures { λ r. ⌜ Ran (wideHeld c) (wideOnward c) s (now (xs .entry)) r (now (ys .exit)) ⌝ }
+{
+    let known = c.at(f);
     let mut t = s;
     let mut i: usize = 0;
     while i < xs.len() {
-        let turned = t.turn_clamp(c, xs[i]);
+        let turned = t.turn_clamp(known, xs[i]);
         let y = turned.y;
         ys[i] = y;
         let next = turned.state;
