@@ -24,6 +24,7 @@ use words::casts::i64_as_u64;
 use words::casts::u32_as_i32;
 use words::casts::u64_as_i64;
 use words::casts::u64_as_u32;
+use words::unsigned::add_u32;
 use words::unsigned::add_u64;
 
 const LINES: u32 = 900;
@@ -346,6 +347,19 @@ fn drawn_run(w: [u32; 40]) -> u64 {
     unlike_double(digest_run(w[0], r), double(w[4], w[5]))
 }
 
+// The same in blocks of 1000.
+fn drawn_blocks(w: [u32; 40]) -> u64 {
+    let given = drawn(w[2]);
+    let words = given.words;
+    let r = run(
+        add_u32(w[0], 4),
+        filter_of(words, w[1]),
+        started(words, given.state),
+        w[3] / 1000,
+    );
+    unlike_double(digest_run(w[0], r), double(w[4], w[5]))
+}
+
 // A tame run from zero, in blocks of 1000.
 fn tame_run(w: [u32; 40]) -> u64 {
     let first = started([0; 40], double(0, w[10]));
@@ -360,7 +374,7 @@ fn differs(w: [u32; 40]) -> u64 {
         2 => wide_case(w, true),
         3 => dither_case(w, false),
         4 => dither_case(w, true),
-        5..=8 => drawn_run(w),
+        5..=8 => add_u64(drawn_run(w), drawn_blocks(w)),
         _ => tame_run(w),
     }
 }
@@ -477,10 +491,10 @@ fn main() {
     compare(text, 2, b"wide clamped step");
     compare(text, 3, b"dither step");
     compare(text, 4, b"dither clamped step");
-    compare(text, 5, b"wide, runs");
-    compare(text, 6, b"wide clamped, runs");
-    compare(text, 7, b"dither, runs");
-    compare(text, 8, b"dither clamped, runs");
+    compare(text, 5, b"wide, runs by steps and by blocks");
+    compare(text, 6, b"wide clamped, runs by steps and by blocks");
+    compare(text, 7, b"dither, runs by steps and by blocks");
+    compare(text, 8, b"dither clamped, runs by steps and by blocks");
     compare(text, 9, b"wide, tame runs in blocks");
     compare(text, 10, b"wide clamped, tame runs in blocks");
     compare(text, 11, b"dither, tame runs in blocks");
