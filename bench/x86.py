@@ -130,6 +130,24 @@ def linker():
     return script("ld", '[ "$1" != -flavor ] || shift 2\nexec %s\n' % words)
 
 
+def marks(program, words, stdout):
+    """The instruction counts at each mark of a program: under the emulator where the machine has one or is no x86-64, else by valgrind's
+    callgrind, which begins a new file at each call of `bench_mark`."""
+    if shutil.which("qemu-x86_64") or not NATIVE:
+        return counts(program, words, stdout=stdout)
+    said = os.path.join(WORK, "marks")
+    for old in glob.glob(said + "*"):
+        os.remove(old)
+    valgrind = ["valgrind", "--quiet", "--tool=callgrind", "--dump-before=bench_mark", "--callgrind-out-file=" + said]
+    subprocess.run(valgrind + [program] + words, stdout=stdout, stderr=subprocess.DEVNULL, check=True)
+    total, found = 0, []
+    for number in range(1, len(glob.glob(said + ".*")) + 1):
+        with open("%s.%d" % (said, number)) as part:
+            total += int(re.search(r"^totals: (\d+)", part.read(), re.M).group(1))
+        found.append(total)
+    return found
+
+
 def counts(program, words, stdin=None, stdout=None):
     """Runs a program under the emulator and gives the instruction counts that it wrote: at each getpid, and at its end."""
     need("cc", "apt-get install gcc")

@@ -1,4 +1,5 @@
 -- The fresh filters that the exports start from, and the steps that they take one by one.
+use mathlib.Core.Bool.{Bool}
 use mathlib.Core.List.{List}
 use Prim.Native.Nat.{ℕ}
 use lib.IntN.{ℤ, pos}
@@ -34,10 +35,8 @@ use Rattle.pll.specs.declared.PLL.{PLL}
 use Rattle.pll.specs.declared.PLLState.{PLLState}
 use Rattle.rpll.specs.declared.RPLL.{RPLL}
 use Rattle.rpll.specs.declared.RPLLConfig.{RPLLConfig}
-use Rattle.rpll.specs.declared.Timestamp.the-variants as Timestamp
-use Rattle.rpll.specs.declared.Estimate.{Estimate}
-use Rattle.rpll.specs.declared.Estimate.the-variants as Estimate
-use Rattle.rpll.specs.Loops.{processedOf}
+use Rattle.rpll.specs.Loops.{updatedOf}
+use Rattle.rpll.specs.Blocks.{stamps, phaseAfter, frequencyAfter, blockNumber}
 
 -- What a block leaves in the lent slice ys: the outputs, or all as it was where the slices or the filter (k) refuse.
 abbrev pub blockLeft : {S A B : Type 0} → ℕ → (S → A → B) → (S → A → S) → S → List A → List B → List B
@@ -117,12 +116,9 @@ configured dt2 frequency phase = record { dt2 = dt2; «shift_frequency» = frequ
 abbrev pub zeroRpll : RPLL
 zeroRpll = record { x = pos 0; ff = 0; f = 0; y = pos 0 }
 
-unfoldable pub phaseIn : Estimate → ℤ
-phaseIn (Estimate.Given y f) = y
-phaseIn (Estimate.Refused k) = pos 0
+-- What a reciprocal loop's block leaves in the slices lent for phases and for frequencies.
+abbrev pub phasesLeft : RPLLConfig → List Bool → List ℤ → List ℤ → List ℤ → List ℤ
+phasesLeft c there xs ys fs = unless (blockNumber c there xs ys fs) ys (scan (phaseAfter c) (updatedOf c) zeroRpll (stamps there xs))
 
-abbrev pub loopOut : RPLLConfig → RPLL → ℤ → ℤ
-loopOut c s x = phaseIn (processedOf c s (Timestamp.At x) .estimate)
-
-abbrev pub loopNext : RPLLConfig → RPLL → ℤ → RPLL
-loopNext c s x = processedOf c s (Timestamp.At x) .state
+abbrev pub frequenciesLeft : RPLLConfig → List Bool → List ℤ → List ℤ → List ℤ → List ℤ
+frequenciesLeft c there xs ys fs = unless (blockNumber c there xs ys fs) fs (scan (frequencyAfter c) (updatedOf c) zeroRpll (stamps there xs))

@@ -1,10 +1,8 @@
 // Phase words and phase-locked loops.
 use pll::PLL;
 use pll::PLLState;
-use rpll::Estimate;
 use rpll::RPLL;
 use rpll::RPLLConfig;
-use rpll::Timestamp;
 use unwrap::clamp_wrap::ClampWrap;
 use unwrap::scale::Scaled;
 use unwrap::scale::saturating_scale;
@@ -15,8 +13,8 @@ ghost use lib.ListN.{length};
 ghost use Rattle.blocks.specs.Scan.{scan};
 ghost use Rattle.unwrap.specs.Phases.{clampOut, clampNext, stepOf, grown};
 ghost use Rattle.pll.specs.Loops.{trackedPhase, trackedNext};
-ghost use Rattle.bench_exports.specs.Fresh.{blockLeft, blockLeftBy, zeroClamp, zeroUnwrapper, zeroPll, loopOf, configured, zeroRpll};
-ghost use Rattle.bench_exports.specs.Fresh.{phaseIn, loopOut, loopNext, valueIn, scaleOut, scaleNext};
+ghost use Rattle.bench_exports.specs.Fresh.{blockLeft, blockLeftBy, zeroClamp, zeroUnwrapper, zeroPll, loopOf, configured};
+ghost use Rattle.bench_exports.specs.Fresh.{phasesLeft, frequenciesLeft, valueIn, scaleOut, scaleNext};
 
 // No input yet, no clamp.
 fn unclamped_wrap() -> ClampWrap
@@ -69,43 +67,22 @@ pub extern "C" fn bench_pll(b0: i32, b1: i32, a1: i32, xs: &[i32], ys: &mut [i32
     lead_lag(b0, b1, a1).block(state, xs, ys);
 }
 
-// The phase, or 0.
-fn phase(e: Estimate) -> i32
-    ensures { λ r. ⌜ r ≡ phaseIn e ⌝ }
-{
-    match e {
-        Estimate::Given(y, _) => y,
-        Estimate::Refused(_) => 0,
-    }
-}
-
-fn lock_all(c: RPLLConfig, s: RPLL, xs: &[i32], ys: &mut [i32])
-    requires { ⌜ length (now xs) ≡ length (now ys) ⌝ }
-    ensures { λ _. ⌜ now (ys .exit) ≡ scan (loopOut c) (loopNext c) s (now (xs .entry)) ⌝ }
-{
-    let mut t = s;
-    let mut i: usize = 0;
-    while i < xs.len() {
-        let x = xs[i];
-        let step = c.process(t, Timestamp::At(x));
-        let estimate = step.estimate;
-        let y = phase(estimate);
-        ys[i] = y;
-        let next = step.state;
-        t = next;
-        i += 1;
-    }
-}
-
-// A reciprocal loop's steps: every number is a timestamp, and the phases are written.
+// A reciprocal loop's block.
 #[no_mangle]
-pub extern "C" fn bench_rpll(dt2: u8, frequency: u8, lock: u8, xs: &[i32], ys: &mut [i32])
-    ensures { λ _. ⌜ now (ys .exit) ≡ blockLeftBy (λ c. 0) loopOut loopNext (configured dt2 frequency lock) zeroRpll
-        (now (xs .entry)) (now (ys .entry)) ⌝ }
+pub extern "C" fn bench_rpll(
+    dt2: u8,
+    frequency: u8,
+    lock: u8,
+    there: &[bool],
+    xs: &[i32],
+    ys: &mut [i32],
+    fs: &mut [i32],
+)
+    ensures { λ _. ⌜ (now (ys .exit) ≡ phasesLeft (configured dt2 frequency lock) (now (there .entry)) (now (xs .entry))
+        (now (ys .entry)) (now (fs .entry)))
+        × (now (fs .exit) ≡ frequenciesLeft (configured dt2 frequency lock) (now (there .entry)) (now (xs .entry))
+        (now (ys .entry)) (now (fs .entry))) ⌝ }
 {
-    if xs.len() != ys.len() {
-        return;
-    }
     let config = RPLLConfig {
         dt2,
         shift_frequency: frequency,
@@ -117,7 +94,7 @@ pub extern "C" fn bench_rpll(dt2: u8, frequency: u8, lock: u8, xs: &[i32], ys: &
         f: 0,
         y: 0,
     };
-    lock_all(config, state, xs, ys);
+    config.block(state, there, xs, ys, fs);
 }
 
 // The value, or 0.

@@ -1,6 +1,6 @@
 //! Runs each filter's block in the proved library and in the crate, on the same inputs, by turns; stops where their outputs differ.
 //!   harness            a line per row: name, inputs or outputs a call, nanoseconds of the proved and of the crate, the least of many
-//!   harness --count    a line per row, name and size; around each call a getpid, at which the emulator's plugin notes its count
+//!   harness --count    a line per row, name and size; around each call a mark, at which the counts are noted (../../x86.py)
 mod proved;
 mod theirs;
 
@@ -45,11 +45,11 @@ impl Bench {
         theirs(&mut b);
         assert!(a == b, "{name}: the two differ");
         if self.count {
-            mark();
+            bench_mark();
             proved(black_box(&mut a));
-            mark();
+            bench_mark();
             theirs(black_box(&mut b));
-            mark();
+            bench_mark();
             println!("{name}\t{size}");
         } else {
             let mut best = [f64::MAX; 2];
@@ -73,8 +73,10 @@ impl Bench {
     }
 }
 
-/// A getpid, at which the plugin notes its count.
-fn mark() {
+/// The emulator's plugin notes its count at the getpid, callgrind at the call.
+#[no_mangle]
+#[inline(never)]
+pub extern "C" fn bench_mark() {
     let _ = std::process::id();
 }
 
@@ -181,6 +183,9 @@ fn others(bench: &Bench, xs: &[i32]) {
     bench.row("ClampWrap", n, n, |y| proved::clamp_wrap(xs, y), |y| theirs::clamp_wrap(xs, y));
     bench.row("Unwrapper", n, n, |y| proved::unwrapper(xs, y), |y| theirs::unwrapper(xs, y));
     let r = [8, 20, 19];
-    bench.row("RPLL, single steps", n, n, |y| proved::rpll(&r, xs, y), |y| theirs::rpll(&r, xs, y));
+    let always = vec![true; n];
+    let drawn: Vec<bool> = us.iter().map(|u| u >> 31 == 0).collect();
+    bench.row("RPLL, a timestamp each step", n, 2 * n, |y| proved::rpll(&r, &always, xs, y), |y| theirs::rpll(&r, &always, xs, y));
+    bench.row("RPLL, half the steps without", n, 2 * n, |y| proved::rpll(&r, &drawn, xs, y), |y| theirs::rpll(&r, &drawn, xs, y));
     bench.row("saturating_scale", n, n, |y| proved::scale(5, 16, xs, y), |y| theirs::scale(5, 16, xs, y));
 }

@@ -19,7 +19,7 @@ extern "C" {
     fn bench_pll(b0: i32, b1: i32, a1: i32, x: *const i32, n: usize, y: *mut i32, m: usize);
     fn bench_clamp_wrap(x: *const i32, n: usize, y: *mut i32, m: usize);
     fn bench_unwrapper(x: *const i32, n: usize, y: *mut i32, m: usize);
-    fn bench_rpll(dt2: u8, frequency: u8, lock: u8, x: *const i32, n: usize, y: *mut i32, m: usize);
+    fn bench_rpll(dt2: u8, frequency: u8, lock: u8, t: *const bool, k: usize, x: *const i32, n: usize, y: *mut i32, m: usize, f: *mut i32, l: usize);
     fn bench_scale(hi: i32, shift: u32, x: *const i32, n: usize, y: *mut i32, m: usize);
 }
 
@@ -86,8 +86,10 @@ pub fn unwrapper(x: &[i32], y: &mut [i32]) {
 pub fn steps(order: usize, delay: usize, rate: u32, x: &[i32], y: &mut [i32]) {
     call!(bench_steps(order, delay, rate), x, y)
 }
-pub fn rpll(c: &[u8; 3], x: &[i32], y: &mut [i32]) {
-    call!(bench_rpll(c[0], c[1], c[2]), x, y)
+/// The first half of y is lent for phases, the second for frequencies.
+pub fn rpll(c: &[u8; 3], there: &[bool], x: &[i32], y: &mut [i32]) {
+    let (y, f) = y.split_at_mut(x.len());
+    unsafe { bench_rpll(c[0], c[1], c[2], there.as_ptr(), there.len(), x.as_ptr(), x.len(), y.as_mut_ptr(), y.len(), f.as_mut_ptr(), f.len()) }
 }
 pub fn scale(hi: i32, shift: u32, x: &[i32], y: &mut [i32]) {
     call!(bench_scale(hi, shift), x, y)

@@ -180,15 +180,16 @@ pub fn steps<const N: usize, const M: usize>(rate: u32, x: &[i32], y: &mut [i32]
     each(x, y, |x| Process::<i32, Option<i32>>::process(&mut filter, x).unwrap_or(0))
 }
 
-/// Every input is a timestamp.
+/// An input is a timestamp where its flag says so. The first half of y takes the phases, the second the frequencies.
 #[inline(never)]
-pub fn rpll(c: &[u8; 3], x: &[i32], y: &mut [i32]) {
+pub fn rpll(c: &[u8; 3], there: &[bool], x: &[i32], y: &mut [i32]) {
     let filter = RPLLConfig { dt2: c[0], shift_frequency: c[1], shift_phase: c[2] };
     let mut state = RPLL::default();
-    each(x, y, |x| {
-        filter.process(&mut state, Some(W(x)));
-        state.phase().0
-    })
+    let (y, f) = y.split_at_mut(x.len());
+    for ((there, x), (y, f)) in there.iter().zip(x).zip(y.iter_mut().zip(f)) {
+        let out = filter.process(&mut state, there.then_some(W(*x)));
+        (*y, *f) = (out.state.0, out.step.0);
+    }
 }
 
 #[inline(never)]
