@@ -6,6 +6,7 @@
 mod cascade;
 mod decimating;
 mod interpolating;
+pub mod lent;
 pub mod questions;
 pub mod runs;
 pub mod settling;
