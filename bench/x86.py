@@ -148,6 +148,15 @@ def marks(program, words, stdout):
     return found
 
 
+def total(program, words, stdin=None, stdout=None):
+    """The instructions of a whole run: under the emulator where the machine has one or is no x86-64, else by callgrind."""
+    if shutil.which("qemu-x86_64") or not NATIVE:
+        return counts(program, words, stdin, stdout)[-1]
+    valgrind = ["valgrind", "--tool=callgrind", "--callgrind-out-file=/dev/null", program]
+    said = subprocess.run(valgrind + words, stdin=stdin, stdout=stdout, stderr=subprocess.PIPE, text=True, check=True).stderr
+    return int(re.search(r"Collected : (\d+)", said).group(1))
+
+
 def counts(program, words, stdin=None, stdout=None):
     """Runs a program under the emulator and gives the instruction counts that it wrote: at each getpid, and at its end."""
     need("cc", "apt-get install gcc")

@@ -3,7 +3,7 @@
 
     rt check replay && python3 bench/replay/bench.py
 
-Programs are compiled for x86-64, and their instructions are counted under an emulator, the machine's own or the one that ../x86.py fetches. On another
+Programs are compiled for x86-64, and their instructions are counted under an emulator, the machine's own or the one that ../x86.py fetches, or by valgrind's callgrind. On another
 processor the twin's rustc is fetched too; on x86-64 it wants rustc. The time under an emulator says nothing, so for the bytes a second the program's LLVM module is compiled for this processor by
 the toolchain's own clang at -O3, and both programs run natively: the same module and flags, another back end.
 """
@@ -88,7 +88,7 @@ def best(program, path):
 
 def instructions(program, path, want):
     with open(path, "rb") as recorded, tempfile.TemporaryFile() as gave:
-        count = x86.counts(program, [], recorded, gave)[-1]
+        count = x86.total(program, [], recorded, gave)
         gave.seek(0)
         if gave.read() != want:
             sys.exit("%s gives something else under the emulator" % program)
@@ -132,7 +132,7 @@ def measure(name, bits, rate, work, native, counted):
     print("%s, rate %2d, %d bytes" % (name, rate, size))
     print("  proved %.0f MB/s, Rust %.0f MB/s, time %.2f of the Rust's" % (size / fast[0] / 1e6, size / fast[1] / 1e6, fast[0] / fast[1]))
     a, b = [instructions(p, path, outputs[0]) for p in counted]
-    print("  x86-64 instructions a byte under the emulator: proved %.1f, Rust %.1f, %.2f of the Rust's" % (a / size, b / size, a / b))
+    print("  x86-64 instructions a byte: proved %.1f, Rust %.1f, %.2f of the Rust's" % (a / size, b / size, a / b))
     print("  peak memory of the proved program: %d KB on 2 MB, %d KB on 20 MB" % (memory(native[0], small), memory(native[0], path)))
 
 

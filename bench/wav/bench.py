@@ -9,7 +9,6 @@ x86-64 and under an emulator elsewhere (../x86.py). On x86-64 it prints nanoseco
 samples. Wants rustc, and valgrind.
 """
 import os
-import re
 import subprocess
 import sys
 
@@ -32,13 +31,7 @@ def built():
 
 
 def instructions(program, name, count):
-    words = [name, str(count)]
-    if not x86.NATIVE:
-        return x86.counts(program, words)[-1]
-    x86.need("valgrind", "apt-get install valgrind")
-    valgrind = ["valgrind", "--tool=callgrind", "--callgrind-out-file=/dev/null", program]
-    said = subprocess.run(valgrind + words, check=True, stderr=subprocess.PIPE, text=True).stderr
-    return int(re.search(r"Collected : (\d+)", said).group(1))
+    return x86.total(program, [name, str(count)])
 
 
 def more(program, name):
