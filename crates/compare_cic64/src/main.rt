@@ -8,6 +8,7 @@ use crate::word::digest_word;
 use crate::word::spread_word;
 use crate::word::word_of;
 use blocks::Verdict;
+use cic64::lent::LentCic;
 use cic64::questions::Fitting;
 use cic64::questions::Interpolated;
 use cic64::questions::Told;
@@ -17,6 +18,7 @@ use cic64::runs::settled_number;
 use cic64::state::Cic;
 use cic64::steps::Out;
 use cic64::steps::Sample;
+use cic64::steps::Stepped;
 use rust_answers::lines::double;
 use rust_answers::lines::line;
 use rust_answers::lines::report;
@@ -176,10 +178,48 @@ fn misnumbered(out: Out, number: u64) -> u64 {
     }
 }
 
+// A step whose arrays are lent.
+fn lent_step(s: Cic, x: Word) -> Stepped {
+    let mut integrators = s.integrators;
+    let mut combs = s.combs;
+    let numbers = LentCic {
+        order: s.order,
+        delay: s.delay,
+        rate: s.rate,
+        countdown: s.countdown,
+        unsettled: s.unsettled,
+        inputs: s.inputs,
+        hold: s.hold,
+    };
+    let t = numbers.decimate(&mut integrators, &mut combs, x);
+    let after = t.numbers;
+    let out = t.out;
+    let state = Cic {
+        order: after.order,
+        delay: after.delay,
+        rate: after.rate,
+        countdown: after.countdown,
+        unsettled: after.unsettled,
+        inputs: after.inputs,
+        hold: after.hold,
+        integrators,
+        combs,
+    };
+    Stepped { state, out }
+}
+
+// By value and on lent arrays in turn.
+fn stepped(s: Cic, x: Word, draws: u64) -> Stepped {
+    if draws / 65536 % 2 == 0 {
+        return lent_step(s, x);
+    }
+    s.decimate(x)
+}
+
 fn decimate_turn(r: Running) -> Running {
     let x = spread_word(r.draws);
     let s = r.state;
-    let t = s.decimate(x.value);
+    let t = stepped(s, x.value, x.state);
     let state = t.state;
     let out = t.out;
     let inputs = add_u64(r.inputs, 1);
@@ -705,7 +745,11 @@ fn main() {
     let mut space = [0u8; 250000];
     let n = io::read_full(0, &mut space);
     let text = &space[..n];
-    compare(text, 1, b"decimator steps, whole state after each");
+    compare(
+        text,
+        1,
+        b"decimator steps, by value or on lent arrays, whole state after each",
+    );
     compare(text, 2, b"interpolator steps, whole state after each");
     compare(text, 3, b"decimator blocks, whole state after each");
     compare(text, 4, b"interpolator blocks, whole state after each");
