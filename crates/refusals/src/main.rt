@@ -21,6 +21,7 @@ fn main() {
     fractions::print_all();
     limits::print_all();
     sections::print_all();
+    sections::print_block();
     lines::print_all();
     waves::print_all();
 }

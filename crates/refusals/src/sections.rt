@@ -1,4 +1,4 @@
-// Numbers 31 and 50 to 65: wave digital sections and coefficients, the reciprocal loop and its block, and the scale.
+// Numbers 50 to 65, and 31 of a loop: wave digital sections and coefficients, the reciprocal loop, and the scale.
 use crate::print::refusal;
 use crate::print::row;
 use rpll::Estimate;
@@ -74,7 +74,7 @@ fn loop_block(there: &[bool], xs: &[i32], ys: &mut [i32], fs: &mut [i32]) -> u32
     refusal(verdict)
 }
 
-fn print_loop_block() {
+pub(crate) fn print_block() {
     let there = [true; 3];
     let xs = [0; 3];
     let mut ys = [0; 3];
@@ -175,7 +175,6 @@ pub(crate) fn print_all() {
         b"39",
         loops(8, 9, 39),
     );
-    print_loop_block();
     row(b"shift 0", scale(0), b"1", scale(1));
     row(b"shift 33", scale(33), b"32", scale(32));
 }

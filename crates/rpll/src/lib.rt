@@ -21,7 +21,8 @@ ghost use Prim.Native.Nat.{_+_, _<_, _≤_};
 ghost use lib.ListN.{length};
 ghost use Rattle.blocks.specs.Scan.{scan, ends};
 ghost use Rattle.blocks.specs.declared.Verdict.the-variants.{Refused};
-ghost use Rattle.rpll.specs.Loops.{configNumber, lockedOf, errorOf, advancedOf, takenOf, updatedOf, estimatedOf, processedOf};
+ghost use Rattle.rpll.specs.Loops.{configNumber, lockedOf, errorOf, advancedOf, takenOf, updatedOf};
+ghost use Rattle.rpll.specs.Loops.{estimatedOf, processedOf};
 ghost use Rattle.rpll.specs.Blocks.{stampOf, stamps, phaseAfter, frequencyAfter, LoopBlocked};
 
 pub struct RPLL {
