@@ -49,7 +49,7 @@ pick : (k : ℕ) (P : ℕ → Type 0) → (k ≡ 0xe → P (current 0xe)) → (k
 unfolding current
 pick k P e f n = by (eqb k 0xe) refl (eqb k 0xf) refl
   where
-    by : (t : Bool) → eqb k 0xe ≡ t → (u : Bool) → eqb k 0xf ≡ u → P (cond t 0xb (cond u 0xc k))
+    by : (t : Bool) → eqb k 0xe ≡ t → (u : Bool) → eqb k 0xf ≡ u → P (cond t (current 0xe) (cond u (current 0xf) k))
     by true p u q = e (eqb-true k 0xe p)
     by false p true q = f (eqb-true k 0xf q)
     by false p false q = n (eqb-false k 0xe p) (eqb-false k 0xf q)
