@@ -138,18 +138,15 @@ struct Running {
     digest: u64,
 }
 
-// A filter with drawn coefficients and cells.
+// A filter with drawn coefficients and cells, made form 1's way, since B1 and C1 are among its adapters.
 fn started(sections: usize, architecture: u32, seed: u32) -> Running {
     let mut a = [0i32; 8];
     let mut z = [0i32; 8];
     let second = fill(&mut a, seed as u64);
     let draws = fill(&mut z, second);
-    let state = Wdf {
-        sections,
-        architecture,
-        a,
-        z,
-    };
+    let made = Wdf::from_form1(sections, architecture, a);
+    let mut state = made.state;
+    state.z = z;
     Running {
         state,
         draws,

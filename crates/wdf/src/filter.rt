@@ -72,7 +72,8 @@ fn has_retired(sections: usize, architecture: u32) -> bool
     false
 }
 
-// The number of the first test that a new filter fails, or 0: 50 and 51 as above, 53 where a section's adapter is B1 or C1.
+// The number of the first test that a new filter fails, or 0: 50 and 51 as above, 53 where a section's adapter is B1
+// or C1.
 pub fn new_refusal(sections: usize, architecture: u32) -> u32
     ensures { λ r. ⌜ r ≡ newNumber sections architecture ⌝ }
 {
