@@ -57,43 +57,32 @@ fn value(out: Output) -> i16 {
 fn cells(s: Dsm) -> [u32; 16] {
     let a = s.accumulators;
     let c = s.retained;
-    [
-        a[0],
-        a[1],
-        a[2],
-        a[3],
-        a[4],
-        a[5],
-        a[6],
-        a[7],
-        word_of(c[0]),
-        word_of(c[1]),
-        word_of(c[2]),
-        word_of(c[3]),
-        word_of(c[4]),
-        word_of(c[5]),
-        word_of(c[6]),
-        word_of(c[7]),
-    ]
+    let mut w = [0u32; 16];
+    for j in 0..8 {
+        w[j] = a[j];
+        w[j + 8] = word_of(c[j]);
+    }
+    w
+}
+
+// The state that a line gives: its order, the accumulators, then the retained cells.
+fn state_of(w: [u32; 40]) -> Dsm {
+    let mut accumulators = [0u32; 8];
+    let mut retained = [0i16; 8];
+    for j in 0..8 {
+        accumulators[j] = w[j + 2];
+        retained[j] = small(w[j + 10]);
+    }
+    Dsm {
+        order: size(w[1]),
+        accumulators,
+        retained,
+    }
 }
 
 // A step from any accepted state.
 fn step(w: [u32; 40]) -> u64 {
-    let s = Dsm {
-        order: size(w[1]),
-        accumulators: [w[2], w[3], w[4], w[5], w[6], w[7], w[8], w[9]],
-        retained: [
-            small(w[10]),
-            small(w[11]),
-            small(w[12]),
-            small(w[13]),
-            small(w[14]),
-            small(w[15]),
-            small(w[16]),
-            small(w[17]),
-        ],
-    };
-    let r = s.process(w[18]);
+    let r = state_of(w).process(w[18]);
     let after = r.state;
     let out = r.out;
     let y = value(out);
@@ -110,9 +99,8 @@ fn step(w: [u32; 40]) -> u64 {
 fn from_zero(w: [u32; 40]) -> u64 {
     let made = Dsm::new(size(w[1]));
     let s = made.state;
-    let xs = [w[2], w[3], w[4], w[5], w[6], w[7], w[8], w[9], w[10], w[11]];
     let mut ys = [-32768i16; 10];
-    s.block(&xs, &mut ys);
+    s.block(&w[2..12], &mut ys);
     let range = s.output_range();
     let OutputRange::Between(low, high) = range else {
         return 1;
@@ -122,34 +110,20 @@ fn from_zero(w: [u32; 40]) -> u64 {
 
 // Ten outputs as they are.
 fn exact_words(ys: &[i16; 10]) -> [u32; 10] {
-    [
-        word_of(ys[0]),
-        word_of(ys[1]),
-        word_of(ys[2]),
-        word_of(ys[3]),
-        word_of(ys[4]),
-        word_of(ys[5]),
-        word_of(ys[6]),
-        word_of(ys[7]),
-        word_of(ys[8]),
-        word_of(ys[9]),
-    ]
+    let mut w = [0u32; 10];
+    for j in 0..10 {
+        w[j] = word_of(ys[j]);
+    }
+    w
 }
 
 // Ten outputs as the crate's i8 has them.
 fn narrow_words(ys: &[i16; 10]) -> [u32; 10] {
-    [
-        in_i8(ys[0]),
-        in_i8(ys[1]),
-        in_i8(ys[2]),
-        in_i8(ys[3]),
-        in_i8(ys[4]),
-        in_i8(ys[5]),
-        in_i8(ys[6]),
-        in_i8(ys[7]),
-        in_i8(ys[8]),
-        in_i8(ys[9]),
-    ]
+    let mut w = [0u32; 10];
+    for j in 0..10 {
+        w[j] = in_i8(ys[j]);
+    }
+    w
 }
 
 // 1 where the outputs are not those of the line, or one of the two words is not among them.
@@ -170,16 +144,11 @@ fn outputs(w: [u32; 40], ys: &[i16; 10], low: u32, high: u32) -> u64 {
 
 // How many of ten words are not y.
 fn others(y: u32, v: &[u32; 10]) -> u64 {
-    unlike(y, v[0])
-        + unlike(y, v[1])
-        + unlike(y, v[2])
-        + unlike(y, v[3])
-        + unlike(y, v[4])
-        + unlike(y, v[5])
-        + unlike(y, v[6])
-        + unlike(y, v[7])
-        + unlike(y, v[8])
-        + unlike(y, v[9])
+    let mut n: u64 = 0;
+    for j in 0..10 {
+        n = add_u64(n, unlike(y, v[j]));
+    }
+    n
 }
 
 // A modulator that runs: what the differences saw last, the generator, digests of the outputs as they are and as the
@@ -318,16 +287,11 @@ fn narrowed(w: [u32; 40]) -> u64 {
 }
 
 fn narrowed_of_ten(w: [u32; 40]) -> u64 {
-    unlike(w[12], w[22])
-        + unlike(w[13], w[23])
-        + unlike(w[14], w[24])
-        + unlike(w[15], w[25])
-        + unlike(w[16], w[26])
-        + unlike(w[17], w[27])
-        + unlike(w[18], w[28])
-        + unlike(w[19], w[29])
-        + unlike(w[20], w[30])
-        + unlike(w[21], w[31])
+    let mut n: u64 = 0;
+    for j in 0..10 {
+        n = add_u64(n, unlike(w[j + 12], w[j + 22]));
+    }
+    n
 }
 
 fn tell(narrow: u64) {
