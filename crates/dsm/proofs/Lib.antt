@@ -5,4 +5,4 @@ pub mod Shapes
 pub mod Refusals
 pub mod Running
 pub mod Ways
-pub mod Settled
+pub mod Blocking

@@ -6,7 +6,7 @@ use native.Mathlib.Omega.{arith}
 use lib.IntN.{ℤ, pos, _+ℤ_, _-ℤ_}
 use lib.ListN.{length, take, drop, length-append}
 use lib.Seq.{drop-at, length-take-le, length-front}
-use Rattle.dsm.specs.Modulator.{accumulated, carries, retaining, output, keeping, modulatorOut, nextOf, IdleAtZero}
+use Rattle.dsm.specs.Modulator.{accumulated, carries, retaining, keeping}
 
 pub length-accumulated : (x : ℕ) (l : List ℕ) → length (accumulated x l) ≡ length l
 unfolding accumulated
@@ -52,7 +52,3 @@ module _ (n x : ℕ) (l : List ℕ) (room : n ≤ length l) where
 
   pub beyond : drop n (accumulated x (take n l) ++ drop n l) ≡ drop n l
   beyond = drop-at (accumulated x (take n l)) (drop n l) n (length-accumulated x (take n l) ∙ length-take-le n l room)
-
-pub idle-at-zero : IdleAtZero
-unfolding accumulated carries output keeping modulatorOut nextOf
-idle-at-zero s x h = (rw h, rw h)

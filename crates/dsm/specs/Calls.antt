@@ -79,11 +79,3 @@ pub record Runs (s : Dsm) (xs : List ℕ) (ys : List ℤ) (r : Made) (zs : List 
   pub written : zs ≡ unless (runNumber s xs ys) ys (scan modulatorOut nextOf s xs)
   pub keeps : Keeps s (r .state)
   pub range : r .verdict ≡ Done → (i : ℕ) → i < length zs → InRange (s .order) (getD zs i (pos 0))
-
--- 01, 'Promises that bite': any two results that a promise allows are equal.
-abbrev pub StepSettled : Type 0
-StepSettled = (s : Dsm) (x : ℕ) (q r : Stepped) → Steps s x q → Steps s x r → q ≡ r
-
-abbrev pub RunSettled : Type 0
-RunSettled = (s : Dsm) (xs : List ℕ) (ys : List ℤ) (q r : Made) (us vs : List ℤ)
-    → Runs s xs ys q us → Runs s xs ys r vs → (q ≡ r) × (us ≡ vs)

@@ -1,5 +1,4 @@
 -- 01, 'The modulator': what a step does, and the ranges.
-use mathlib.Core.Path.{_≡_}
 use mathlib.Core.Bool.{Bool, true, _&&_}
 use mathlib.Core.List.{List, [], _∷_, _++_}
 use Prim.Native.Nat.{ℕ, zero, suc, _+_, _/_, _%_, _^_}
@@ -73,7 +72,3 @@ greatest (suc k) = pos (2 ^ k)
 pub record InRange (K : ℕ) (y : ℤ) : Type 0 where
   pub low : least K ≤ℤ y
   pub high : y ≤ℤ greatest K
-
--- K = 0 gives 0 and leaves the state.
-abbrev pub IdleAtZero : Type 0
-IdleAtZero = (s : Dsm) (x : ℕ) → s .order ≡ 0 → (modulatorOut s x ≡ pos 0) × (nextOf s x ≡ s)

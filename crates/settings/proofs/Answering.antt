@@ -29,7 +29,7 @@ use Rattle.store_read.specs.declared.reading.Read.{Read}
 use Rattle.store_write.specs.declared.saving.Written.{Written}
 use Rattle.store_write.specs.declared.saving.Written.the-variants.{Bytes, Refused}
 use Rattle.entries.specs.declared.settings.Settings.{Settings}
-use Rattle.store.proofs.Copied.{copy-same}
+use Rattle.store_laws.proofs.Copied.{copy-same}
 use Rattle.settings.specs.Answers.{okForm, okAnswer, badAnswer, checked, copied, moveAnswer, Gave}
 
 form-short : (v : Version) → length (okForm v) ≡ 5

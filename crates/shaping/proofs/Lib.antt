@@ -1,3 +1,4 @@
+pub mod Settled
 pub mod Balance
 pub mod Totals
 pub mod Ends

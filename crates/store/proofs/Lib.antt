@@ -1,3 +1,2 @@
 pub mod Theorems
-pub mod Copied
 pub mod Recasts

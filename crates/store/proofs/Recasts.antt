@@ -35,7 +35,7 @@ use Rattle.store_write.specs.declared.saving.Written.the-variants as writes
 use Rattle.store_write.specs.declared.saving.Written.{Written}
 use Rattle.entries.specs.declared.settings.Entry.{Entry}
 use Rattle.entries.specs.declared.settings.Settings.{Settings}
-use Rattle.store.proofs.Copied.{settings-back, settings-number, small}
+use Rattle.store_laws.proofs.Copied.{settings-back, settings-number, small}
 
 -- the entries recast so far, and those as they were
 pub record Recasting (v : Version) (old new : List Entry) (i : ℕ) : Type 0 where

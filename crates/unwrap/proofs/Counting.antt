@@ -1,4 +1,4 @@
--- Turn count and phase make up the unwrapped value: y less its phase is a whole number of turns.
+-- The turn count as the code finds it: y less its phase is a whole number of turns.
 use mathlib.Core.Path.{_≡_, refl, sym, ap, _∙_}
 use mathlib.Core.Bool.{Bool, true, false}
 use Prim.Native.Nat.{_^_, _<_, _≤_}
@@ -12,13 +12,12 @@ use mir.Val.{SFits}
 use Rattle.words.specs.Words as W
 use Rattle.words.specs.Words.{word, wrap, floorDiv}
 use Rattle.words.proofs.Reading.{wrap-is}
-use Rattle.words.proofs.Sums.{Same, equal, _and_, wrapped, same-add, wrap-same}
 use Rattle.words.proofs.Sizes.{high-fits}
-use Rattle.words.proofs.Floors.{halves, floor-exact, wrap-low, wrap-high, same-scaled}
-use Rattle.unwrap.specs.Phases.{phaseOf, turnsOf, MadeUp}
+use Rattle.words.proofs.Floors.{halves, floor-exact, wrap-low, wrap-high}
+use Rattle.unwrap.specs.Phases.{phaseOf, turnsOf}
 
 -- the whole turns of y less its phase: one more where the phase lies below zero
-abbrev onward : Bool → ℤ → ℤ
+abbrev pub onward : Bool → ℤ → ℤ
 onward true f = f +ℤ pos 1
 onward false f = f
 
@@ -26,7 +25,7 @@ high-sign : (y : ℤ) → 2 ^ 31 ≤ word w32 y → ltZ (phaseOf y) (pos 0) ≡ 
 unfolding W.wrap
 high-sign y l = rw (le-ltb (word w32 y) (2 ^ 31) l)
 
-apart : (y : ℤ) (b : Bool) → ltZ (phaseOf y) (pos 0) ≡ b → y -ℤ phaseOf y ≡ onward b (floorDiv y (2 ^ 32)) *ℤ pos (2 ^ 32)
+pub apart : (y : ℤ) (b : Bool) → ltZ (phaseOf y) (pos 0) ≡ b → y -ℤ phaseOf y ≡ onward b (floorDiv y (2 ^ 32)) *ℤ pos (2 ^ 32)
 apart y b t = pick (ltb (word w32 y) (2 ^ 31)) refl b t
   where
     F : ℤ
@@ -56,7 +55,7 @@ apart y b t = pick (ltb (word w32 y) (2 ^ 31)) refl b t
     pick true e c s = rw (sym s ∙ low-sign (ltb-true (word w32 y) (2 ^ 31) e)) (low (ltb-true (word w32 y) (2 ^ 31) e))
     pick false e c s = rw (sym s ∙ high-sign y (ltb-false (word w32 y) (2 ^ 31) e)) (high (ltb-false (word w32 y) (2 ^ 31) e))
 
-turns-are : (y : ℤ) (b : Bool) → ltZ (phaseOf y) (pos 0) ≡ b → turnsOf y ≡ wrap w32 (onward b (floorDiv y (2 ^ 32)))
+pub turns-are : (y : ℤ) (b : Bool) → ltZ (phaseOf y) (pos 0) ≡ b → turnsOf y ≡ wrap w32 (onward b (floorDiv y (2 ^ 32)))
 unfolding turnsOf
 turns-are y b t =
     ap (wrap w32) (ap (λ (z : ℤ). floorDiv z (2 ^ 32)) (apart y b t) ∙ floor-exact (onward b (floorDiv y (2 ^ 32))) (2 ^ 32) (omega arith))
@@ -67,13 +66,3 @@ one-more y t = sym (turns-are y true t)
 
 pub as-it-is : (y : ℤ) → SFits w64 y → ltZ (phaseOf y) (pos 0) ≡ false → floorDiv y (2 ^ 32) ≡ turnsOf y
 as-it-is y f t = sym (turns-are y false t ∙ wrap-is w32 (floorDiv y (2 ^ 32)) (high-fits y f))
-
--- the turns are told modulo 2 ^ 32, so they make up y modulo 2 ^ 64
-alike : (y : ℤ) (b : Bool) → ltZ (phaseOf y) (pos 0) ≡ b → Same w64 (turnsOf y *ℤ pos (2 ^ 32) +ℤ phaseOf y) y
-alike y b t =
-    let T : ℤ = onward b (floorDiv y (2 ^ 32)) in
-    same-add (same-scaled w32 w64 32 refl (equal (turns-are y b t) and wrapped w32 T)) (equal refl)
-    and equal (ap (λ (z : ℤ). z +ℤ phaseOf y) (sym (apart y b t)) ∙ -ℤ-+ℤ-cancel y (phaseOf y))
-
-pub made-up : MadeUp
-made-up y f = wrap-same (alike y (ltZ (phaseOf y) (pos 0)) refl) ∙ wrap-is w64 y f

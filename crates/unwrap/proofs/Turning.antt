@@ -4,7 +4,7 @@ use mathlib.Core.Bool.{Bool, true, false}
 use Prim.Native.Nat.{ℕ, zero, suc, _+_, _-_, _%_, _^_, _<_, _≤_}
 use native.Mathlib.Omega.{arith}
 use lib.Dec.{ltb, leb·suc-suc}
-use lib.IntN.{ℤ, pos, negsuc, subℕ, _+ℤ_, _-ℤ_, _*ℤ_, +ℤ-invr, +ℤ-comm, +ℤ-idr, -ℤ-+ℤ-cancel, +ℤ-negℤ-cancel}
+use lib.IntN.{ℤ, pos, negsuc, subℕ, _-ℤ_, _*ℤ_, +ℤ-invr}
 use lib.Signed.{mag, ltZ}
 use mir.Syntax.{w32}
 use mir.Val.{SFits}
@@ -12,12 +12,11 @@ use mir.ValLaws.{toZ-pos}
 use borrow.Author.Tests.{ltb-true, ltb-false, lt-ltb, le-ltb}
 use Rattle.words.specs.Words as W
 use Rattle.words.specs.Words.{wrap}
-use Rattle.words.proofs.Reading.{wrap-is, wrap-fits}
-use Rattle.words.proofs.Sums.{equal, turn, _and_, wrapped, same-add, turns, same-is}
+use Rattle.words.proofs.Reading.{wrap-is}
 use Rattle.words.proofs.Sizes.{mag-minus}
 use Rattle.unwrap.specs.declared.wrapping.Wrap.{Wrap}
 use Rattle.unwrap.specs.declared.wrapping.Wrap.the-variants.{Negative, None, Positive}
-use Rattle.unwrap.specs.Phases.{signOf, caseOf, differenceOf, DeltaIs, OnlySign}
+use Rattle.unwrap.specs.Phases.{signOf, caseOf, differenceOf}
 
 -- the code's tests: whether the wrapped number lies below zero, and whether the number does
 abbrev pub byTests : Bool → Bool → Wrap
@@ -98,10 +97,10 @@ minus-below (negsuc m) (pos (suc n)) = refl
 minus-below (negsuc m) (negsuc n) = sub-below (suc n) (suc m) ∙ leb·suc-suc (suc n) m
 
 module _ (y x : ℤ) (hy : SFits w32 y) (hx : SFits w32 x) where
-  within : mag (y -ℤ x) < 2 ^ 32
+  pub within : mag (y -ℤ x) < 2 ^ 32
   within = let k = mag-minus y x in let p = hy .sfits in let q = hx .sfits in omega arith
 
-  sign-is : (differenceOf y x) .wrap ≡ wraps (y -ℤ x) within .sign
+  pub sign-is : (differenceOf y x) .wrap ≡ wraps (y -ℤ x) within .sign
   unfolding differenceOf
   sign-is = ap caseOf (wraps (y -ℤ x) within .apart) ∙ case-turns (wraps (y -ℤ x) within .sign)
 
@@ -109,25 +108,3 @@ module _ (y x : ℤ) (hy : SFits w32 y) (hx : SFits w32 x) where
   pub tested : (b d : Bool) → ltZ (wrap w32 (y -ℤ x)) (pos 0) ≡ b → ltZ y x ≡ d
       → _≡_ {A = Wrap} (byTests b d) (differenceOf y x .wrap)
   tested b d p q = sym (sign-is ∙ sym (wraps (y -ℤ x) within .tests) ∙ rw (p, minus-below y x, q))
-
--- delta is what the wrap added, and the difference
-pub delta-is : DeltaIs
-unfolding differenceOf
-delta-is y x hy hx =
-    let t = wraps (y -ℤ x) (within y x hy hx) in
-    sym (-ℤ-+ℤ-cancel (wrap w32 (y -ℤ x)) (y -ℤ x))
-    ∙ ap (λ (d : ℤ). d +ℤ (y -ℤ x)) (t .apart ∙ ap (λ (s : Wrap). signOf s *ℤ pos (2 ^ 32)) (sym (sign-is y x hy hx)))
-    ∙ +ℤ-comm (signOf (differenceOf y x .wrap) *ℤ pos (2 ^ 32)) (y -ℤ x)
-
--- what fits is the wrapped difference, so it is as many turns away
-pub only-sign : OnlySign
-unfolding differenceOf
-only-sign y x hy hx s f =
-    let d : ℤ = y -ℤ x +ℤ signOf s *ℤ pos (2 ^ 32) in
-    let e : d ≡ wrap w32 (y -ℤ x) =
-    same-is (same-add {a = y -ℤ x} (equal refl) (turns w32 (signOf s)) and equal (+ℤ-idr (y -ℤ x)) and turn (wrapped w32 (y -ℤ x))) f
-    (wrap-fits w32 (y -ℤ x)) in
-    sym (case-turns s)
-    ∙ ap caseOf
-    (sym (+ℤ-negℤ-cancel (signOf s *ℤ pos (2 ^ 32)) (y -ℤ x))
-    ∙ ap (λ (z : ℤ). z -ℤ (y -ℤ x)) (+ℤ-comm (signOf s *ℤ pos (2 ^ 32)) (y -ℤ x) ∙ e))

@@ -1,9 +1,7 @@
 -- 01, 'Phase words': the wrapped difference and its sign, the unwrapper, the clamp.
-use mathlib.Core.Path.{_≡_}
 use Prim.Native.Nat.{zero, suc, _^_}
-use lib.IntN.{ℤ, pos, negsuc, _+ℤ_, _-ℤ_, _*ℤ_}
+use lib.IntN.{ℤ, pos, negsuc, _+ℤ_, _-ℤ_}
 use mir.Syntax.{w32, w64}
-use mir.Val.{SFits}
 use Rattle.words.specs.Words.{wrap, floorDiv}
 use Rattle.unwrap.specs.declared.wrapping.Wrap.{Wrap}
 use Rattle.unwrap.specs.declared.wrapping.Wrap.the-variants.{Negative, None, Positive}
@@ -29,14 +27,6 @@ caseOf (negsuc n) = Negative
 unfoldable pub differenceOf : ℤ → ℤ → Difference
 differenceOf y x = record { delta = wrap w32 (y -ℤ x); wrap = caseOf (wrap w32 (y -ℤ x) -ℤ (y -ℤ x)) }
 
--- For any two words the sign is -1, 0 or 1 with delta = y - x + sign · 2 ^ 32, as whole numbers,
-abbrev pub DeltaIs : Type 0
-DeltaIs = (y x : ℤ) → SFits w32 y → SFits w32 x → differenceOf y x .delta ≡ y -ℤ x +ℤ signOf (differenceOf y x .wrap) *ℤ pos (2 ^ 32)
-
--- and the only one for which that is a word.
-abbrev pub OnlySign : Type 0
-OnlySign = (y x : ℤ) → SFits w32 y → SFits w32 x → (s : Wrap) → SFits w32 (y -ℤ x +ℤ signOf s *ℤ pos (2 ^ 32)) → s ≡ differenceOf y x .wrap
-
 -- the sign of the sum
 abbrev pub joined : Wrap → Wrap → Wrap
 joined a b = caseOf (signOf a +ℤ signOf b)
@@ -57,10 +47,6 @@ unwrappedOf u x = record { state = grown u x; dx = stepOf u x }
 -- the turn count: what is left of y without its phase, over 2 ^ 32, modulo 2 ^ 32
 unfoldable pub turnsOf : ℤ → ℤ
 turnsOf y = wrap w32 (floorDiv (y -ℤ phaseOf y) (2 ^ 32))
-
--- Turn count and phase satisfy y = count · 2 ^ 32 + phase, the count modulo 2 ^ 32: so modulo 2 ^ 64, which settles a y of 64 bits.
-abbrev pub MadeUp : Type 0
-MadeUp = (y : ℤ) → SFits w64 y → wrap w64 (turnsOf y *ℤ pos (2 ^ 32) +ℤ phaseOf y) ≡ y
 
 -- the least word and the greatest: - 2 ^ 31 and 2 ^ 31 - 1
 abbrev pub leastWord : ℤ

@@ -1,10 +1,9 @@
 -- 02, A11: saturating_scale is (hi · 2 ^ 32 + lo) divided by 2 ^ shift, rounded down, then clamped to the i32 range, for shifts 1 .. 32.
-use mathlib.Core.Path.{_≡_}
 use mathlib.Core.Bool.{cond, _||_}
 use Prim.Native.Nat.{ℕ, _^_}
 use lib.Dec.{ltb, eqb}
 use lib.IntN.{ℤ, pos, _+ℤ_, _*ℤ_}
-use lib.Signed.{ltZ, _≤ℤ_}
+use lib.Signed.{ltZ}
 use Rattle.words.specs.Words.{floorDiv}
 use Rattle.unwrap.specs.Phases.{leastWord, greatestWord}
 use Rattle.unwrap.specs.declared.scale.Scaled.{Scaled}
@@ -24,8 +23,3 @@ scaledTo shift v = clamped (floorDiv v (2 ^ shift))
 -- for all shifts 1 .. 32; 65: any other shift
 unfoldable pub scaledOf : ℤ → ℤ → ℕ → Scaled
 scaledOf lo hi shift = cond (eqb shift 0 || ltb 32 shift) (Refused 65) (Value (scaledTo shift (wideValue lo hi)))
-
--- It is monotone in hi · 2 ^ 32 + lo at each shift.
-abbrev pub Monotone : Type 0
-Monotone = (shift : ℕ) (lo hi lo′ hi′ y y′ : ℤ) → wideValue lo hi ≤ℤ wideValue lo′ hi′
-    → scaledOf lo hi shift ≡ Value y → scaledOf lo′ hi′ shift ≡ Value y′ → y ≤ℤ y′

@@ -25,7 +25,7 @@ use Rattle.settings_text.proofs.Names.{name-short}
 use Rattle.settings_text.proofs.Stores.{both-zero, write-zero, no-parameter}
 use Rattle.entries.specs.Entries.{padTo, eight, padded, nameBytes, wholeName, entryOf, settingBy, entrySetting, recordsIn}
 use Rattle.entries.specs.Entries.{numberAs, emptyEntry}
-use Rattle.store.specs.Laws.{CopySame}
+use Rattle.store_laws.specs.Laws.{CopySame}
 use Rattle.store_read.specs.Reading.{found}
 use Rattle.entries.specs.declared.settings.Entry.{Entry}
 use Rattle.entries.specs.declared.settings.Kind.the-variants as kinds

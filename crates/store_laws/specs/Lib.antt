@@ -1,0 +1,2 @@
+-- What a reader must believe: what holds of reading and writing together.
+pub mod Laws
