@@ -42,12 +42,11 @@ fn interpolate_block(input: &[i32], out: &mut [i32]) -> u32 {
     }
 }
 
-pub(crate) fn print_all() {
+fn print_outputs() {
     let short = [1i32, 2];
     let input = [1i32, 2, 3];
     let mut one = [0i32; 1];
     let mut two = [0i32; 2];
-    let mut three = [0i32; 3];
     row(
         b"3 inputs at R 2 into 1 output",
         decimate_block(&input, &mut one),
@@ -60,6 +59,9 @@ pub(crate) fn print_all() {
         b"2 of 2",
         settled_number(&short, 2),
     );
+}
+
+fn print_samples() {
     row(
         b"a sample at countdown 1",
         interpolate(1, Sample::Given(5)),
@@ -72,10 +74,21 @@ pub(crate) fn print_all() {
         b"one",
         interpolate(0, Sample::Given(5)),
     );
+}
+
+fn print_inputs() {
+    let short = [1i32, 2];
+    let mut three = [0i32; 3];
     row(
         b"3 outputs at R 2 from 1 input",
         interpolate_block(&[1], &mut three),
         b"from 2",
         interpolate_block(&short, &mut three),
     );
+}
+
+pub(crate) fn print_all() {
+    print_outputs();
+    print_samples();
+    print_inputs();
 }

@@ -43,7 +43,7 @@ fn unterminated(input: &[u8], out: &mut [u8]) -> u32 {
     }
 }
 
-pub(crate) fn print_all() {
+fn print_opening() {
     row(
         b"'x 3' before a cic line",
         line(false, b"x\t3"),
@@ -56,6 +56,9 @@ pub(crate) fn print_all() {
         b"the first",
         line(false, b"cic\t1\t1\t1"),
     );
+}
+
+fn print_long() {
     let long = [b'x'; 65];
     row(
         b"65 bytes",
@@ -63,6 +66,9 @@ pub(crate) fn print_all() {
         b"64 bytes",
         line(true, &long[..64]),
     );
+}
+
+fn print_fields() {
     row(
         b"line 'X 3'",
         line(true, b"X\t3"),
@@ -87,6 +93,10 @@ pub(crate) fn print_all() {
         b"'x 2147483647'",
         line(true, b"x\t2147483647"),
     );
+}
+
+// A last line without its newline.
+fn print_last() {
     let mut cut = [0u8; 600];
     let mut whole = [0u8; 600];
     row(
@@ -95,4 +105,11 @@ pub(crate) fn print_all() {
         b"with one",
         unterminated(b"cic\t1\t1\t1\n", &mut whole),
     );
+}
+
+pub(crate) fn print_all() {
+    print_opening();
+    print_long();
+    print_fields();
+    print_last();
 }

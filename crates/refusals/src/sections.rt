@@ -88,7 +88,7 @@ pub(crate) fn print_block() {
     );
 }
 
-pub(crate) fn print_all() {
+fn print_sections() {
     row(b"9 sections", sections(9, 0), b"8", sections(8, 0));
     row(
         b"nibble 1 past 1 section",
@@ -96,6 +96,9 @@ pub(crate) fn print_all() {
         b"0",
         sections(1, 0x01),
     );
+}
+
+fn print_coefficients() {
     row(
         b"coefficient C at 5e-324",
         coefficient(Tpa::C, 5e-324),
@@ -120,6 +123,10 @@ pub(crate) fn print_all() {
         b"X at infinity",
         coefficient(Tpa::X, 1.0 / 0.0),
     );
+}
+
+// Nibbles e and f, and the coefficients of B1 and C1.
+fn print_retired() {
     row(
         b"nibble e for a section",
         sections(1, 0xe),
@@ -150,6 +157,9 @@ pub(crate) fn print_all() {
         b"C at a NaN",
         coefficient(Tpa::C, 0.0 / 0.0),
     );
+}
+
+fn print_loops() {
     row(b"dt2 31", loops(31, 32, 31), b"30", loops(30, 32, 31));
     row(
         b"dt2 8, shift_frequency 8",
@@ -175,6 +185,17 @@ pub(crate) fn print_all() {
         b"39",
         loops(8, 9, 39),
     );
+}
+
+fn print_scale() {
     row(b"shift 0", scale(0), b"1", scale(1));
     row(b"shift 33", scale(33), b"32", scale(32));
+}
+
+pub(crate) fn print_all() {
+    print_sections();
+    print_coefficients();
+    print_retired();
+    print_loops();
+    print_scale();
 }

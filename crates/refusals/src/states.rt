@@ -121,7 +121,7 @@ fn print_inputs() {
     );
 }
 
-pub(crate) fn print_all() {
+fn print_makers() {
     row(b"order 9", new(9, 1, 0), b"order 8", new(8, 1, 0));
     row(b"delay 0", new(1, 0, 0), b"delay 1", new(1, 1, 0));
     row(b"delay 9", new(1, 9, 0), b"delay 8", new(1, 8, 0));
@@ -137,6 +137,9 @@ pub(crate) fn print_all() {
         b"countdown 65535",
         resume(65535),
     );
+}
+
+fn print_questions() {
     row(
         b"outputs of 28 inputs at rate 65536",
         length(65536),
@@ -151,7 +154,9 @@ pub(crate) fn print_all() {
         b"at 3",
         asked(3),
     );
-    print_inputs();
+}
+
+fn print_fits() {
     row(b"fit of 0 bits in 32", fit(32, 0), b"of 1 bit", fit(32, 1));
     row(
         b"fit of 33 bits in 32",
@@ -166,4 +171,11 @@ pub(crate) fn print_all() {
         fit(64, 64),
     );
     row(b"fit of 1 bit in 33", fit(33, 1), b"in 64", fit(64, 1));
+}
+
+pub(crate) fn print_all() {
+    print_makers();
+    print_questions();
+    print_inputs();
+    print_fits();
 }

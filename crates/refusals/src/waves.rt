@@ -37,7 +37,7 @@ fn sample(x: i32) -> u32 {
     refusal(verdict)
 }
 
-pub(crate) fn print_all() {
+fn print_headers() {
     row(
         b"rate 2147483648 in a header",
         asked(2147483648, 0),
@@ -62,6 +62,9 @@ pub(crate) fn print_all() {
         b"of 48",
         told(48),
     );
+}
+
+fn print_parts() {
     row(b"a part of 3 bytes", part(b"abc"), b"of 4", part(b"abcd"));
     row(
         b"a part of 6 bytes into 2 samples",
@@ -71,4 +74,9 @@ pub(crate) fn print_all() {
     );
     row(b"sample 32768", sample(32768), b"32767", sample(32767));
     row(b"sample -32769", sample(-32769), b"-32768", sample(-32768));
+}
+
+pub(crate) fn print_all() {
+    print_headers();
+    print_parts();
 }
