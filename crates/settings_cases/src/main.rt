@@ -212,43 +212,58 @@ fn write_wdf2(sections: usize, architecture: u32) {
     write_list_in(Version::Two, 1, entry, 200);
 }
 
+fn write_case(case: &[u8], count: usize, first: Entry, room: usize) {
+    print(case);
+    write_list(count, first, room);
+}
+
+// A record of the name 'abc'.
+fn abc(kind: Kind) -> Entry {
+    named(*b"abcaaaaaaaaaaaaa", 3, kind)
+}
+
+fn write_counts() {
+    let cic = abc(Kind::Cic(3, 1, 63));
+    write_case(b"empty list", 0, cic, 200);
+    write_case(b"empty list, short slice", 0, cic, 5);
+    write_case(b"one record", 1, cic, 21);
+    write_case(b"one record, short slice", 1, cic, 20);
+}
+
+fn write_name(case: &[u8], name: [u8; 16], length: usize) {
+    write_case(case, 1, named(name, length, Kind::Cic(3, 1, 63)), 200);
+}
+
+fn write_names() {
+    write_name(b"no name", *b"abcaaaaaaaaaaaaa", 0);
+    write_name(b"name of 17", *b"abcaaaaaaaaaaaaa", 17);
+    write_name(b"capital in a name", *b"aBcaaaaaaaaaaaaa", 3);
+    write_name(b"capital behind a name", *b"abcDaaaaaaaaaaaa", 3);
+}
+
+fn write_twice() {
+    let cic = abc(Kind::Cic(3, 1, 63));
+    write_case(b"name twice", 2, cic, 200);
+    write_case(b"name twice, short slice", 2, cic, 0);
+}
+
+fn write_kind(case: &[u8], kind: Kind) {
+    write_case(case, 1, abc(kind), 200);
+}
+
+fn write_kinds() {
+    write_kind(b"nine sections", Kind::Wdf(9, 0));
+    write_kind(b"a nibble beyond the last", Kind::Wdf(1, 0x10));
+    write_kind(b"one section", Kind::Wdf(1, 0xf));
+    write_kind(b"a dither in form 1", Kind::Dither(1));
+    write_kind(b"rate too great", Kind::Cic(3, 1, 65536));
+}
+
 fn write_cases() {
-    let cic = Kind::Cic(3, 1, 63);
-    let abc = named(*b"abcaaaaaaaaaaaaa", 3, cic);
-    print(b"empty list");
-    write_list(0, abc, 200);
-    print(b"empty list, short slice");
-    write_list(0, abc, 5);
-    print(b"one record");
-    write_list(1, abc, 21);
-    print(b"one record, short slice");
-    write_list(1, abc, 20);
-    print(b"no name");
-    write_list(1, named(*b"abcaaaaaaaaaaaaa", 0, cic), 200);
-    print(b"name of 17");
-    write_list(1, named(*b"abcaaaaaaaaaaaaa", 17, cic), 200);
-    print(b"capital in a name");
-    write_list(1, named(*b"aBcaaaaaaaaaaaaa", 3, cic), 200);
-    print(b"capital behind a name");
-    write_list(1, named(*b"abcDaaaaaaaaaaaa", 3, cic), 200);
-    print(b"name twice");
-    write_list(2, abc, 200);
-    print(b"name twice, short slice");
-    write_list(2, abc, 0);
-    print(b"nine sections");
-    write_list(1, named(*b"abcaaaaaaaaaaaaa", 3, Kind::Wdf(9, 0)), 200);
-    print(b"a nibble beyond the last");
-    write_list(1, named(*b"abcaaaaaaaaaaaaa", 3, Kind::Wdf(1, 0x10)), 200);
-    print(b"one section");
-    write_list(1, named(*b"abcaaaaaaaaaaaaa", 3, Kind::Wdf(1, 0xf)), 200);
-    print(b"a dither in form 1");
-    write_list(1, named(*b"abcaaaaaaaaaaaaa", 3, Kind::Dither(1)), 200);
-    print(b"rate too great");
-    write_list(
-        1,
-        named(*b"abcaaaaaaaaaaaaa", 3, Kind::Cic(3, 1, 65536)),
-        200,
-    );
+    write_counts();
+    write_names();
+    write_twice();
+    write_kinds();
 }
 
 fn retired_cases() {
@@ -279,7 +294,7 @@ fn back_into(text: &[u8], out: &mut [u8], room: usize) {
     print_moved(move_back(text, &mut out[..room]));
 }
 
-fn move_cases() {
+fn forth_cases() {
     let mut out = [0u8; 64];
     print(b"forth");
     forth_into(b"set\t1\ncic\ta\t3\t1\t99\n", &mut out, 20);
@@ -289,6 +304,10 @@ fn move_cases() {
     forth_into(b"set\t1\ncic\ta\t3\t1\t65536\n", &mut out, 0);
     print(b"forth from form 2");
     forth_into(b"set\t2\ncic\ta\t3\t1\t100\n", &mut out, 64);
+}
+
+fn back_cases() {
+    let mut out = [0u8; 64];
     print(b"back");
     back_into(b"set\t2\ncic\ta\t3\t1\t100\n", &mut out, 19);
     print(b"back, short slice");
@@ -315,5 +334,6 @@ fn main() {
     show_all(&file[..n]);
     write_cases();
     retired_cases();
-    move_cases();
+    forth_cases();
+    back_cases();
 }
