@@ -21,9 +21,9 @@ use Rattle.text.proofs.Putting.{written, then-puts, wrote-same}
 use Rattle.text.proofs.Spelling.{spelt-short, decimal-most, signed-most}
 use Rattle.wdf.specs.declared.quantize.Quantized.{Quantized}
 use Rattle.wdf.specs.declared.quantize.Quantized.the-variants.{Refused}
-use Rattle.coefficients.specs.declared.answers.Adapter.{Adapter}
-use Rattle.coefficients.specs.declared.answers.Adapter.the-variants.{Named, Unknown}
-use Rattle.coefficients.specs.Lines.{adapterOf, poleBits, lineBits, bitsLine, refusedLine}
+use Rattle.coefficient_lines.specs.declared.adapter.Adapter.{Adapter}
+use Rattle.coefficient_lines.specs.declared.adapter.Adapter.the-variants.{Named, Unknown}
+use Rattle.coefficient_lines.specs.Lines.{adapterOf, poleBits, lineBits, bitsLine, refusedLine}
 
 module _ (l : List ℕ) where
   pub line-long : 64 < length l → Refused 72 ≡ lineBits l

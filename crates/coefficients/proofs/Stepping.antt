@@ -15,9 +15,10 @@ use Rattle.text.proofs.Putting.{wrote-same, wrote-length, nothing, then}
 use Rattle.wdf.specs.declared.quantize.Quantized.{Quantized}
 use Rattle.wdf.specs.declared.quantize.Quantized.the-variants.{Refused}
 use Rattle.coefficients.specs.declared.parts.Place.{Place}
-use Rattle.coefficients.specs.Lines.{lineBits, answerBytes, refusedLine}
-use Rattle.coefficients.specs.Parts.{Standing, oneMore, isAccepted, endedBy, byteAfter, byteGiven, partAfter, partGiven, standingOf}
-use Rattle.coefficients.specs.Parts.{lastGiven, AnyParts}
+use Rattle.coefficient_lines.specs.Lines.{lineBits, answerBytes, refusedLine}
+use Rattle.coefficient_lines.specs.Parts.{Standing, oneMore, isAccepted, endedBy, byteAfter, byteGiven, partAfter, partGiven}
+use Rattle.coefficient_lines.specs.Parts.{lastGiven}
+use Rattle.coefficients.specs.Places.{standingOf}
 
 -- ---- a byte
 
@@ -71,11 +72,6 @@ not-on true h = absurd (false≢true h)
 pub not-off : (t : Bool) → not t ≡ false → t ≡ true
 not-off true h = refl
 not-off false h = absurd (true≢false h)
-
-pub stopped : (s : Standing) (bs : List ℕ) → s .going ≡ false → (partGiven s bs ≡ []) × (partAfter s bs ≡ s)
-unfolding partGiven partAfter
-stopped s [] h = (refl, refl)
-stopped s (b ∷ bs) h = (rw h, rw h)
 
 module _ (s : Standing) (b : ℕ) (bs : List ℕ) (h : s .going ≡ true) where
   given-on : partGiven s (b ∷ bs) ≡ byteGiven s b ++ partGiven (byteAfter s b) bs
@@ -144,31 +140,3 @@ module _ (p : Place) (line : List ℕ) (within : p .len ≤ length line) where
   pub last-cut : p .going ≡ true → (p .len ≡ 0 → ⊥) → lastGiven (standingOf p line) ≡ refusedLine (oneMore (p .lines)) 77
   unfolding lastGiven
   last-cut h e = rw (h, ne-eqb (length (take (p .len) line)) 0 (λ z. e (sym size ∙ z)))
-
--- ---- any parts give what the whole gives
-
-given-parts : (s : Standing) (xs ys : List ℕ) → partGiven s (xs ++ ys) ≡ partGiven s xs ++ partGiven (partAfter s xs) ys
-unfolding partGiven partAfter
-given-parts s [] ys = refl
-given-parts s (b ∷ xs) ys = by (s .going) refl (given-parts (byteAfter s b) xs ys)
-  where
-    by : (t : Bool) → s .going ≡ t
-        → partGiven (byteAfter s b) (xs ++ ys) ≡ partGiven (byteAfter s b) xs ++ partGiven (partAfter (byteAfter s b) xs) ys
-        → cond t (byteGiven s b ++ partGiven (byteAfter s b) (xs ++ ys)) []
-        ≡ cond t (byteGiven s b ++ partGiven (byteAfter s b) xs) [] ++ partGiven (cond t (partAfter (byteAfter s b) xs) s) ys
-    by true e h = ap (λ (k : List ℕ). byteGiven s b ++ k) h ∙ sym (append-assoc (byteGiven s b) (partGiven (byteAfter s b) xs)
-        (partGiven (partAfter (byteAfter s b) xs) ys))
-    by false e h = sym (stopped s ys e .0)
-
-after-parts : (s : Standing) (xs ys : List ℕ) → partAfter s (xs ++ ys) ≡ partAfter (partAfter s xs) ys
-unfolding partAfter
-after-parts s [] ys = refl
-after-parts s (b ∷ xs) ys = by (s .going) refl (after-parts (byteAfter s b) xs ys)
-  where
-    by : (t : Bool) → s .going ≡ t → partAfter (byteAfter s b) (xs ++ ys) ≡ partAfter (partAfter (byteAfter s b) xs) ys
-        → cond t (partAfter (byteAfter s b) (xs ++ ys)) s ≡ partAfter (cond t (partAfter (byteAfter s b) xs) s) ys
-    by true e h = h
-    by false e h = sym (stopped s ys e .1)
-
-pub any-parts : AnyParts
-any-parts s xs ys = record { given = given-parts s xs ys; after = after-parts s xs ys }

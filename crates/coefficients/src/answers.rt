@@ -1,4 +1,5 @@
 // A line and its answer.
+use coefficient_lines::adapter::Adapter;
 use rust_answers::doubles::from_bits;
 use text::comparing::same_bytes;
 use text::hex::Pattern;
@@ -15,8 +16,8 @@ ghost use mathlib.Core.Bool.{true};
 ghost use Prim.Native.Nat.{_+_, _≤_};
 ghost use lib.ListN.{length};
 ghost use Rattle.text.specs.Writing.{Wrote};
-ghost use Rattle.coefficients.specs.Lines.{letterOf, adapterOf, lineBits, poleBits, bitsLine, refusedLine, answerBytes};
-ghost use Rattle.coefficients.specs.Parts.{isAccepted};
+ghost use Rattle.coefficient_lines.specs.Lines.{letterOf, adapterOf, lineBits, poleBits, bitsLine, refusedLine, answerBytes};
+ghost use Rattle.coefficient_lines.specs.Parts.{isAccepted};
 
 // What a line is refused with: over 64 bytes, a name that is no adapter's, other than 16 hex digits behind it, no end.
 pub(crate) const LONG: u32 = 72;
@@ -26,12 +27,6 @@ const NAME: u32 = 73;
 const DIGITS: u32 = 75;
 
 pub(crate) const CUT: u32 = 77;
-
-// An adapter by its name, or a name that is none.
-pub enum Adapter {
-    Named(Tpa),
-    Unknown,
-}
 
 // The adapter that one letter names.
 fn named_by_letter(name: &[u8]) -> Adapter

@@ -1,8 +1,8 @@
 // The program that makes coefficients for people (document 02, A10): lines from standard input, answers to standard
 // output. A line is an adapter's name, a tab and the pole g as the 16 hex digits of its double. It is answered by the
 // coefficient's bits in decimal on a line, or by `bad`, line number from 1 and refusal number, and then the program
-// stops. `answersOf` of specs/Parts is what it answers to a whole input, worked out in parts.rt; here are the reads and
-// the writes. A read or a write that fails ends the program, and nothing further is written.
+// stops. `answersOf` of crate coefficient_lines is what it answers to a whole input, worked out in parts.rt; here are the
+// reads and the writes. A read or a write that fails ends the program, and nothing further is written.
 mod answers;
 mod parts;
 

@@ -9,8 +9,8 @@ ghost use mathlib.Core.Bool.{true};
 ghost use Prim.Native.Nat.{_+_, _*_, _≤_};
 ghost use lib.ListN.{length};
 ghost use Rattle.text.specs.Writing.{Wrote};
-ghost use Rattle.coefficients.specs.Lines.{answerBytes};
-ghost use Rattle.coefficients.specs.Parts.{
+ghost use Rattle.coefficient_lines.specs.Lines.{answerBytes};
+ghost use Rattle.coefficient_lines.specs.Parts.{
   oneMore,
   isAccepted,
   byteAfter,
@@ -18,8 +18,8 @@ ghost use Rattle.coefficients.specs.Parts.{
   partAfter,
   partGiven,
   lastGiven,
-  standingOf,
 };
+ghost use Rattle.coefficients.specs.Places.{standingOf};
 
 // Where the input stands: the length of the line so far, how many lines came before it, and whether to go on.
 pub struct Place {

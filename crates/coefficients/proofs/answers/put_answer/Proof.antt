@@ -6,8 +6,8 @@ use mir.Syntax.{w32}
 use mir.ValLaws.{toZ-ofZ}
 use borrow.Author.Needs.{needs}
 use Rattle.text.proofs.Putting.{wrote-same}
-use Rattle.coefficients.specs.Lines.{answerBytes}
-use Rattle.coefficients.specs.Parts.{isAccepted}
+use Rattle.coefficient_lines.specs.Lines.{answerBytes}
+use Rattle.coefficient_lines.specs.Parts.{isAccepted}
 use Rattle.coefficients.proofs.answers.put_answer.Statement.{statement}
 use Rattle.coefficients.proofs.answers.put_answer.Tie as tie
 

@@ -5,8 +5,9 @@ use Prim.Native.Nat.{_≤_, _-_, _*_, _+_}
 use native.Mathlib.Omega.{arith}
 use lib.ListN.{length, drop}
 use borrow.Author.Needs.{needs}
-use Rattle.coefficients.specs.Parts.{standingOf}
-use Rattle.coefficients.proofs.Stepping.{Along, along-start, along-byte, part-place, part-given, stopped, over-part}
+use Rattle.coefficient_lines.proofs.Stepping.{stopped}
+use Rattle.coefficients.specs.Places.{standingOf}
+use Rattle.coefficients.proofs.Stepping.{Along, along-start, along-byte, part-place, part-given, over-part}
 use Rattle.coefficients.proofs.Stepping.{not-on, not-off}
 use Rattle.text.proofs.Putting.{wrote-same, nothing}
 use Rattle.coefficients.proofs.parts.take_part.Statement.{statement}

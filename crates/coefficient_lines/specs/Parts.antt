@@ -5,12 +5,11 @@ use mathlib.Core.List.{List, [], _∷_, _++_}
 use mathlib.Core.Option.{Option, some, none}
 use Prim.Native.Nat.{ℕ, _+_, min}
 use lib.Dec.{ltb, eqb}
-use lib.ListN.{length, take}
+use lib.ListN.{length}
 use Rattle.text.specs.Letters.{newline}
 use Rattle.wdf.specs.declared.quantize.Quantized.{Quantized}
 use Rattle.wdf.specs.declared.quantize.Quantized.the-variants.{Bits, Refused}
-use Rattle.coefficients.specs.declared.parts.Place.{Place}
-use Rattle.coefficients.specs.Lines.{longNumber, cutNumber, lineBits, refusedLine, answerBytes}
+use Rattle.coefficient_lines.specs.Lines.{longNumber, cutNumber, lineBits, refusedLine, answerBytes}
 
 -- how many lines came before, the line so far, and whether to go on
 pub record Standing : Type 0 where
@@ -63,10 +62,6 @@ beginning = record { lines = 0; line = []; going = true }
 -- what the program answers to a whole input, as bytes
 unfoldable pub answersOf : List ℕ → List ℕ
 answersOf input = partGiven beginning input ++ lastGiven (partAfter beginning input)
-
--- a place in the code, with the array that holds the line
-abbrev pub standingOf : Place → List ℕ → Standing
-standingOf p line = record { lines = p .lines; line = take (p .len) line; going = p .going }
 
 -- fed in parts, the program answers what it answers to the whole: proved in proofs/Stepping.antt
 pub record InParts (s : Standing) (xs ys : List ℕ) : Type 0 where

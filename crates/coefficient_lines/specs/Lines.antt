@@ -17,8 +17,8 @@ use Rattle.wdf.specs.Quantize.{quantized}
 use Rattle.wdf.specs.declared.tpa.Tpa.the-variants.{Z, A, B, B1, X, C, C1, D}
 use Rattle.wdf.specs.declared.quantize.Quantized.{Quantized}
 use Rattle.wdf.specs.declared.quantize.Quantized.the-variants.{Bits, Refused}
-use Rattle.coefficients.specs.declared.answers.Adapter.{Adapter}
-use Rattle.coefficients.specs.declared.answers.Adapter.the-variants.{Named, Unknown}
+use Rattle.coefficient_lines.specs.declared.adapter.Adapter.{Adapter}
+use Rattle.coefficient_lines.specs.declared.adapter.Adapter.the-variants.{Named, Unknown}
 
 -- the adapter of a name
 unfoldable pub letterOf : List ℕ → Adapter

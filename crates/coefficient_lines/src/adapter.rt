@@ -1,0 +1,8 @@
+// What a line's first field names.
+use wdf::tpa::Tpa;
+
+// An adapter by its name, or a name that is none.
+pub enum Adapter {
+    Named(Tpa),
+    Unknown,
+}
