@@ -302,27 +302,47 @@ fn block_number(verdict: Verdict) -> u32 {
     }
 }
 
+fn form1_step(c: BiquadClamp) -> u32 {
+    let s = DirectForm1::default();
+    let out = s.process_clamp(c, 1.0).out;
+    step_number(out)
+}
+
+fn form2_step(c: BiquadClamp) -> u32 {
+    let s = DirectForm2Transposed::default();
+    let out = s.process_clamp(c, 1.0).out;
+    step_number(out)
+}
+
+// A block of these inputs and four outputs.
+fn form1_block(c: BiquadClamp, xs: &[f64]) -> u32 {
+    let mut ys = [2.0; 4];
+    let s = DirectForm1::default();
+    let verdict = s.block_clamp(c, xs, &mut ys).verdict;
+    block_number(verdict)
+}
+
+fn form2_block(c: BiquadClamp, xs: &[f64]) -> u32 {
+    let mut ys = [2.0; 4];
+    let s = DirectForm2Transposed::default();
+    let verdict = s.block_clamp(c, xs, &mut ys).verdict;
+    block_number(verdict)
+}
+
+fn blocks_refused(n: u64, c: BiquadClamp, xs: &[f64], number: u32) -> u64 {
+    let first = tally(n, form1_block(c, xs), number);
+    tally(first, form2_block(c, xs), number)
+}
+
 // The count n, and one more for each of six calls with these limits that has another number than this one, or than 31
 // where the slices differ in length.
 fn refused(n: u64, min: f64, max: f64, number: u32) -> u64 {
     let c = limits(min, max);
-    let s = DirectForm1::default();
-    let t = DirectForm2Transposed::default();
     let xs = [1.0; 4];
-    let mut ys = [2.0; 4];
-    let a = s.process_clamp(c, 1.0).out;
-    let b = t.process_clamp(c, 1.0).out;
-    let d = s.block_clamp(c, &xs, &mut ys).verdict;
-    let e = t.block_clamp(c, &xs, &mut ys).verdict;
-    let f = s.block_clamp(c, &xs[..3], &mut ys).verdict;
-    let g = t.block_clamp(c, &xs[..3], &mut ys).verdict;
-    let steps = tally(tally(n, step_number(a), number), step_number(b), number);
-    let blocks = tally(
-        tally(steps, block_number(d), number),
-        block_number(e),
-        number,
-    );
-    tally(tally(blocks, block_number(f), 31), block_number(g), 31)
+    let first = tally(n, form1_step(c), number);
+    let steps = tally(first, form2_step(c), number);
+    let blocks = blocks_refused(steps, c, &xs, number);
+    blocks_refused(blocks, c, &xs[..3], 31)
 }
 
 // Limits in order, equal, two zeros, crossed, and a NaN on either side.
@@ -336,21 +356,33 @@ fn refusals() -> u64 {
     refused(below, -1.0, nan, 41)
 }
 
-fn main() {
-    let mut space = [0u8; 200000];
-    let n = io::read_full(0, &mut space);
-    let text = &space[..n];
+fn compare_steps(text: &[u8]) {
     compare(text, 1, b"direct form 1, step");
     compare(text, 2, b"direct form 1 clamped, step");
     compare(text, 3, b"direct form 2 transposed, step");
     compare(text, 4, b"direct form 2 transposed clamped, step");
+}
+
+fn compare_runs(text: &[u8]) {
     compare(text, 5, b"direct form 1, runs");
     compare(text, 6, b"direct form 1 clamped, runs");
     compare(text, 7, b"direct form 2 transposed, runs");
     compare(text, 8, b"direct form 2 transposed clamped, runs");
+}
+
+fn compare_impulses(text: &[u8]) {
     compare(text, 9, b"direct form 1, impulses");
     compare(text, 10, b"direct form 1 clamped, impulses");
     compare(text, 11, b"direct form 2 transposed, impulses");
     compare(text, 12, b"direct form 2 transposed clamped, impulses");
+}
+
+fn main() {
+    let mut space = [0u8; 200000];
+    let n = io::read_full(0, &mut space);
+    let text = &space[..n];
+    compare_steps(text);
+    compare_runs(text);
+    compare_impulses(text);
     report(b"refusals 31 and 41", 36, refusals());
 }
