@@ -428,34 +428,52 @@ fn dither_block_number(f: u32, min: i32, max: i32, xs: &[i32]) -> u32 {
 
 // Steps: 40 at the bounds and before 41; equal limits are in order. Of 10 cases, how many differ from document 01.
 fn step_refusals() -> u64 {
+    dither_step_refusals(wide_step_refusals())
+}
+
+fn wide_step_refusals() -> u64 {
     let mut n: u64 = 0;
     n = tally(n, wide_number(0, -1, 1), 0);
     n = tally(n, wide_number(31, 0, 0), 0);
     n = tally(n, wide_number(32, -1, 1), 40);
     n = tally(n, wide_number(32, 1, -1), 40);
-    n = tally(n, wide_number(31, 1, -1), 41);
+    tally(n, wide_number(31, 1, -1), 41)
+}
+
+// The count before, and those of the dithered form.
+fn dither_step_refusals(before: u64) -> u64 {
+    let mut n = before;
     n = tally(n, dither_number(0, -1, 1), 40);
     n = tally(n, dither_number(1, -1, 1), 0);
     n = tally(n, dither_number(31, -1, 1), 0);
     n = tally(n, dither_number(32, 1, -1), 40);
-    n = tally(n, dither_number(1, 1, -1), 41);
-    n
+    tally(n, dither_number(1, 1, -1), 41)
 }
 
 // Blocks: 31 before 40 before 41. Of 8 cases, how many differ from document 01.
 fn block_refusals() -> u64 {
+    dither_block_refusals(wide_block_refusals())
+}
+
+fn wide_block_refusals() -> u64 {
     let two = [0i32; 2];
     let three = [0i32; 3];
     let mut n: u64 = 0;
     n = tally(n, wide_block_number(32, 1, -1, &three), 31);
     n = tally(n, wide_block_number(32, 1, -1, &two), 40);
     n = tally(n, wide_block_number(0, 1, -1, &two), 41);
-    n = tally(n, wide_block_number(0, -1, 1, &two), 0);
+    tally(n, wide_block_number(0, -1, 1, &two), 0)
+}
+
+// The count before, and those of the dithered form.
+fn dither_block_refusals(before: u64) -> u64 {
+    let two = [0i32; 2];
+    let three = [0i32; 3];
+    let mut n = before;
     n = tally(n, dither_block_number(0, 1, -1, &three), 31);
     n = tally(n, dither_block_number(0, 1, -1, &two), 40);
     n = tally(n, dither_block_number(1, 1, -1, &two), 41);
-    n = tally(n, dither_block_number(1, -1, 1, &two), 0);
-    n
+    tally(n, dither_block_number(1, -1, 1, &two), 0)
 }
 
 // How many cases a line stands for: the steps of a run, else one.
@@ -483,22 +501,34 @@ fn compare(text: &[u8], code: u32, name: &[u8]) {
     report(name, cases, differ);
 }
 
-fn main() {
-    let mut space = [0u8; 200000];
-    let n = io::read_full(0, &mut space);
-    let text = &space[..n];
+fn compare_steps(text: &[u8]) {
     compare(text, 1, b"wide step");
     compare(text, 2, b"wide clamped step");
     compare(text, 3, b"dither step");
     compare(text, 4, b"dither clamped step");
+}
+
+fn compare_runs(text: &[u8]) {
     compare(text, 5, b"wide, runs by steps and by blocks");
     compare(text, 6, b"wide clamped, runs by steps and by blocks");
     compare(text, 7, b"dither, runs by steps and by blocks");
     compare(text, 8, b"dither clamped, runs by steps and by blocks");
+}
+
+fn compare_tame_runs(text: &[u8]) {
     compare(text, 9, b"wide, tame runs in blocks");
     compare(text, 10, b"wide clamped, tame runs in blocks");
     compare(text, 11, b"dither, tame runs in blocks");
     compare(text, 12, b"dither clamped, tame runs in blocks");
+}
+
+fn main() {
+    let mut space = [0u8; 200000];
+    let n = io::read_full(0, &mut space);
+    let text = &space[..n];
+    compare_steps(text);
+    compare_runs(text);
+    compare_tame_runs(text);
     report(b"refusals of steps", 10, step_refusals());
     report(b"refusals of blocks", 8, block_refusals());
 }
