@@ -1,0 +1,106 @@
+// The recorder's program: records from standard input, answers to standard output (docs/RECORDER.md). What it works out is the
+// library's (crates/recorder); here are the reads and the writes. What a read brings is answered before the next read.
+// A read or a write that fails ends the program, and nothing further is written.
+mod desk;
+mod lines;
+mod parts;
+mod saved;
+
+use crate::desk::Desk;
+use crate::parts::at_most;
+use text::writing::put_bytes;
+ghost use Prim.Native.Nat.{_<_};
+
+// A desk after a read: how many bytes of a record are left in the buffer, whether to read on, and whether the input is over.
+struct Pumped {
+    desk: Desk,
+    left: usize,
+    more: bool,
+    over: bool,
+}
+
+// The bytes from..to moved to the front.
+fn to_front(buffer: &mut [u8], from: usize, to: usize) {
+    let end = at_most(to, buffer.len());
+    let mut i = from;
+    let mut k: usize = 0;
+    while i < end {
+        buffer[k] = buffer[i];
+        i += 1;
+        k += 1;
+    }
+}
+
+// One read, put behind the bytes that are left in `held`, and what it gives out.
+fn pump(d: Desk, fresh: &mut [u8], held: &mut [u8], left: usize, out: &mut [u8]) -> Pumped {
+    let got = libc::read(0, fresh);
+    if got < 0 {
+        return Pumped {
+            desk: d,
+            left,
+            more: false,
+            over: false,
+        };
+    }
+    if got == 0 {
+        return Pumped {
+            desk: d,
+            left,
+            more: false,
+            over: true,
+        };
+    }
+    let n = io::count(got, fresh);
+    let put = put_bytes(held, left, &fresh[..n]);
+    let have = at_most(put, held.len());
+    let r = d.run(&held[..have], out);
+    let w = at_most(r.written, out.len());
+    let written = io::write_all(1, &out[..w]);
+    let from = at_most(r.next, have);
+    to_front(held, from, have);
+    let desk = r.desk;
+    let going = desk.going;
+    Pumped {
+        desk,
+        left: have - from,
+        more: going && written,
+        over: false,
+    }
+}
+
+// The turns that are left: none where there is no more to read.
+fn turns_left(turns: u64, more: bool) -> u64
+    requires { ⌜ 0 < turns ⌝ }
+    ensures { λ r. ⌜ r < turns ⌝ }
+{
+    if more { turns - 1 } else { 0 }
+}
+
+// The whole input, read by read. A proved loop ends, and nothing says that the input does: the turns count down from a
+// number that no input uses up.
+fn record_input(fresh: &mut [u8], held: &mut [u8], out: &mut [u8]) {
+    let mut d = Desk::start();
+    let mut left: usize = 0;
+    let mut over = false;
+    let mut turns = u64::MAX;
+    while 0 < turns {
+        let p = pump(d, fresh, held, left, out);
+        let next = p.desk;
+        d = next;
+        left = p.left;
+        over = p.over;
+        turns = turns_left(turns, p.more);
+    }
+    if !over {
+        return;
+    }
+    let n = at_most(d.finish(left, out), out.len());
+    io::write_all(1, &out[..n]);
+}
+
+fn main() {
+    let mut fresh = [0u8; 6144];
+    let mut held = [0u8; 8192];
+    let mut out = [0u8; 589824];
+    record_input(&mut fresh, &mut held, &mut out);
+}
