@@ -2,6 +2,8 @@
 program against. record(input) takes and gives bytes. Each output that is told 0 is worked out a second time, as the moving sum of
 the turns since the recorder was opened, resumed or given another rate: a difference stops the model.
 """
+import functools
+
 WORD = 1 << 64
 FACTOR = 6364136223846793005
 
@@ -15,15 +17,20 @@ class Refused(Exception):
     pass
 
 
+@functools.lru_cache(None)
+def weights(window, folds):
+    """How often the folds-fold sum of the last `window` values counts each of the last inputs: the newest first."""
+    if folds == 0:
+        return [1]
+    sums = [0]
+    for w in weights(window, folds - 1) + [0] * (window - 1):
+        sums.append(sums[-1] + w)
+    return [sums[i + 1] - sums[max(0, i + 1 - window)] for i in range(len(sums) - 1)]
+
+
 def moving_sum(turns, window, folds, at):
-    """The folds-fold sum of the last `window` values, zeros before the start; by its weights, worked out by adding up."""
-    weights = [1]
-    for _ in range(folds):
-        sums = [0]
-        for w in weights + [0] * (window - 1):
-            sums.append(sums[-1] + w)
-        weights = [sums[i + 1] - sums[max(0, i + 1 - window)] for i in range(len(weights) + window - 1)]
-    return sum(w * turns[at - i] for i, w in enumerate(weights) if 0 <= at - i)
+    """The folds-fold sum of the last `window` values, zeros before the start."""
+    return sum(w * x for w, x in zip(weights(window, folds), turns[at::-1]))
 
 
 class Recorder:
@@ -114,12 +121,12 @@ def record(data):
     r, inputs, at, out = None, 0, 0, []
     try:
         while at < len(data):
+            inputs = r.inputs if r else 0
             size = 1282 if data[at] == ord("c") else 18
             line = data[at : at + size]
             if len(line) < size:
                 raise Refused(77)
             at += size
-            inputs = r.inputs if r else 0
             if size == 1282:
                 r = resumed(line)
                 continue
