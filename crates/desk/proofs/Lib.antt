@@ -1,2 +1,3 @@
 pub mod Words
 pub mod Taking
+pub mod Resumes

@@ -2,3 +2,4 @@
 pub mod Lines
 pub mod Saved
 pub mod Desks
+pub mod Resumes

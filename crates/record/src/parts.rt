@@ -1,10 +1,10 @@
 // A part of the input: its whole records taken one after the other, runs of words as blocks.
-use crate::desk::Desk;
-use crate::desk::Reply;
-use crate::desk::take_record;
 use crate::lines::gather;
 use crate::saved::put_state;
 use cic64::runs::Wrote;
+use desk::desk::Desk;
+use desk::desk::Reply;
+use desk::desk::take_record;
 use recorder::recorder::Recorder;
 use shape::numbers::lowered;
 use text::writing::put_byte;
@@ -179,51 +179,49 @@ fn take_next(d: Desk, input: &[u8], from: usize, out: &mut [u8], at: usize) -> A
     }
 }
 
-impl Desk {
-    // The whole records of a part of the input; what they give out goes to the front of out, which has 72 bytes for each of the
-    // part's. The bytes from `next` on are the beginning of a record, to be brought again with what follows.
-    pub fn run(self, input: &[u8], out: &mut [u8]) -> Advanced {
-        let mut words = [0i32; 512];
-        let mut turns = [0i64; 512];
-        let mut given = [0i64; 512];
-        let mut d = self;
-        let mut i: usize = 0;
-        let mut w: usize = 0;
-        let mut records = input.len();
-        while 0 < records {
-            let a = take_words(d, input, i, out, w, &mut words, &mut turns, &mut given);
-            let da = a.desk;
-            let b = take_next(da, input, a.next, out, a.written);
-            let db = b.desk;
-            d = db;
-            i = b.next;
-            w = b.written;
-            records = if ready(d.going, input, i) {
-                records - 1
-            } else {
-                0
-            };
-        }
-        Advanced {
-            desk: d,
-            next: i,
-            written: w,
-        }
+// The whole records of a part of the input; what they give out goes to the front of out, which has 72 bytes for each of the
+// part's. The bytes from `next` on are the beginning of a record, to be brought again with what follows.
+pub fn run(first: Desk, input: &[u8], out: &mut [u8]) -> Advanced {
+    let mut words = [0i32; 512];
+    let mut turns = [0i64; 512];
+    let mut given = [0i64; 512];
+    let mut d = first;
+    let mut i: usize = 0;
+    let mut w: usize = 0;
+    let mut records = input.len();
+    while 0 < records {
+        let a = take_words(d, input, i, out, w, &mut words, &mut turns, &mut given);
+        let da = a.desk;
+        let b = take_next(da, input, a.next, out, a.written);
+        let db = b.desk;
+        d = db;
+        i = b.next;
+        w = b.written;
+        records = if ready(d.going, input, i) {
+            records - 1
+        } else {
+            0
+        };
     }
+    Advanced {
+        desk: d,
+        next: i,
+        written: w,
+    }
+}
 
-    // The end of the input, where `left` bytes were left: `end` and the number of words, or 77, to the front of out.
-    pub fn finish(self, left: usize, out: &mut [u8]) -> usize {
-        let going = self.going;
-        if !going {
-            return 0;
-        }
-        let r = self.recorder;
-        let f = r.filter;
-        if left == 0 {
-            let a = put_bytes(out, 0, b"end\t");
-            let b = put_decimal(out, a, f.inputs);
-            return put_byte(out, b, b'\n');
-        }
-        put_bad(out, 0, f.inputs, 77)
+// The end of the input, where `left` bytes were left: `end` and the number of words, or 77, to the front of out.
+pub fn finish(d: Desk, left: usize, out: &mut [u8]) -> usize {
+    let going = d.going;
+    if !going {
+        return 0;
     }
+    let r = d.recorder;
+    let f = r.filter;
+    if left == 0 {
+        let a = put_bytes(out, 0, b"end\t");
+        let b = put_decimal(out, a, f.inputs);
+        return put_byte(out, b, b'\n');
+    }
+    put_bad(out, 0, f.inputs, 77)
 }

@@ -98,7 +98,7 @@ module _ (N M rate c u n : ℕ) where
   trace : {xs : List ℤ} {ys : List (Numbered ℤ)} → Decimates width N M rate c u n xs ys → Trace N M rate c u n xs ys
   trace d = record { decimates = d; known = λ k y e. known-by rate c u n k (y .told) (y .number) (d .numbers k y e) (d .tells k y e) (ltb k u) refl }
 
-  traces : (s : Recorder) → Decimator N M rate c u n (s .filter) → Traces N M rate c u n (s .turns) s
+  pub traces : (s : Recorder) → Decimator N M rate c u n (s .filter) → Traces N M rate c u n (s .turns) s
   traces s d ws ys t run = trace (d (turnsFrom (s .turns) ws) ys (t .filter) (goes run) .1)
 
 -- an accepted call's recorder

@@ -4,8 +4,8 @@ use Prim.Native.Nat.{_≤_, _-_}
 use native.Mathlib.Omega.{arith}
 use lib.ListN.{length}
 use borrow.Author.Needs.{needs}
-use Rattle.record.proofs.desk.Desk.run.Statement.{statement}
-use Rattle.record.proofs.desk.Desk.run.Tie as tie
+use Rattle.record.proofs.parts.run.Statement.{statement}
+use Rattle.record.proofs.parts.run.Tie as tie
 
 abbrev Inv-loop : tie.InvT-loop
 Inv-loop input out₀ words₀ turns₀ given₀ d₀ i₀ w₀ records₀ out words turns given d i w records = (length out ≡ length out₀) × (length words ≡ 512) × (length turns ≡ 512) × (length given ≡ 512)
