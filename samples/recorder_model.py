@@ -18,19 +18,20 @@ class Refused(Exception):
 
 
 @functools.lru_cache(None)
-def weights(window, folds):
-    """How often the folds-fold sum of the last `window` values counts each of the last inputs: the newest first."""
+def weights(window, folds, count):
+    """How often the folds-fold sum of the last `window` values counts each of the last `count` inputs: the newest first."""
     if folds == 0:
-        return [1]
+        return [1] + [0] * (count - 1)
     sums = [0]
-    for w in weights(window, folds - 1) + [0] * (window - 1):
+    for w in weights(window, folds - 1, count):
         sums.append(sums[-1] + w)
-    return [sums[i + 1] - sums[max(0, i + 1 - window)] for i in range(len(sums) - 1)]
+    return [sums[i + 1] - sums[max(0, i + 1 - window)] for i in range(count)]
 
 
 def moving_sum(turns, window, folds, at):
     """The folds-fold sum of the last `window` values, zeros before the start."""
-    return sum(w * x for w, x in zip(weights(window, folds), turns[at::-1]))
+    count = (at // 64 + 1) * 64
+    return sum(w * x for w, x in zip(weights(min(window, count), folds, count), turns[at::-1]))
 
 
 class Recorder:

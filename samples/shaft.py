@@ -89,7 +89,7 @@ if "--draw" in sys.argv:
     low.set_ylabel("output / gain, turns")
     low.set_ylim(top.get_ylim())
     low.set_xlabel("time, words")
-    low.legend(loc="lower left")
+    low.legend(loc="lower center")
     for ax in (top, low):
         ax.axvspan(335, 420, color="0.9")
         ax.text(377, ax.get_ylim()[1] * 0.9, "plug out", ha="center", va="top", fontsize=8)
