@@ -3,7 +3,7 @@
 
   samples/fuzz_recorder.py PROGRAM [RUNS [SEED]]
 
-A run is a whole input; many are given to the program one after the other. Prints the runs, how many were refused, by which numbers, and stops at the first that differs.
+A run is a whole input. Prints by which numbers the runs were refused (end: not), and stops at the first that differs, which it leaves in recorder.differs.
 """
 import collections, random, subprocess, sys
 from recorder_model import Recorder, record, signed
