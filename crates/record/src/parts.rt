@@ -1,11 +1,11 @@
 // A part of the input: its whole records taken one after the other, runs of words as blocks.
-use crate::lines::gather;
 use crate::saved::put_state;
 use cic64::runs::Wrote;
 use desk::desk::Desk;
 use desk::desk::Reply;
 use desk::desk::take_record;
 use recorder::recorder::Recorder;
+use word_runs::runs::gather;
 use shape::numbers::lowered;
 use text::writing::put_byte;
 use text::writing::put_bytes;
@@ -102,6 +102,21 @@ fn ready(going: bool, input: &[u8], at: usize) -> bool {
     record_length(input[at]) <= n - at
 }
 
+// The place behind so many lines, which an input of this length has.
+fn behind(from: usize, lines: usize, len: usize) -> usize {
+    if len / 18 < lines {
+        return from;
+    }
+    let long = 18 * lines;
+    if len < long {
+        return from;
+    }
+    if len - long < from {
+        return from;
+    }
+    from + long
+}
+
 // A run of words as one block; none where the recorder isn't there or refuses.
 fn take_words(
     d: Desk,
@@ -123,8 +138,11 @@ fn take_words(
     }
     let r = d.recorder;
     let f = r.filter;
-    let g = gather(input, from, add_u32(u64_as_u32(f.inputs), 1), words);
-    let count = at_most(g.count, words.len());
+    if input.len() < from {
+        return same;
+    }
+    let found = gather(&input[from..], add_u32(u64_as_u32(f.inputs), 1), words);
+    let count = at_most(found, words.len());
     if count == 0 {
         return same;
     }
@@ -142,7 +160,7 @@ fn take_words(
     };
     Advanced {
         desk,
-        next: g.next,
+        next: behind(from, count, input.len()),
         written: end,
     }
 }
