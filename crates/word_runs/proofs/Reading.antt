@@ -118,9 +118,11 @@ digit-parts line h =
 
 parts-long : (line : List ℕ) → length line ≡ 18
     → (length (numberOf line) ≡ 8) × (length (digitsOf line) ≡ 8) × (length (headOf line) ≡ 7)
-parts-long line h =
-    (simp (length-append, length-take, length-drop) (omega arith), simp (length-take, length-drop) (omega arith),
-    simp (length-take, length-drop) (omega arith))
+parts-long line h = (
+  simp (length-append, length-take, length-drop) (omega arith),
+  simp (length-take, length-drop) (omega arith),
+  simp (length-take, length-drop) (omega arith),
+)
 
 -- the letters are compared apart
 pub letters-differ : (xs ys : List ℕ) (c l : ℕ) → length xs ≡ 7 → length ys ≡ 7 → xs ++ (c ∷ []) ≡ ys ++ (l ∷ []) → (xs ≡ ys) × (c ≡ l)
