@@ -2,7 +2,6 @@
 // libraries' (crates/recorder, crates/desk); here are runs of words as blocks, the answers' text, the reads and the writes. What a read brings is answered before the next read.
 // A read or a write that fails ends the program, and nothing further is written.
 mod parts;
-mod saved;
 
 use crate::parts::at_most;
 use crate::parts::finish;

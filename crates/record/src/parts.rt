@@ -1,16 +1,16 @@
 // A part of the input: its whole records taken one after the other, runs of words as blocks.
-use crate::saved::put_state;
 use cic64::runs::Wrote;
 use desk::desk::Desk;
 use desk::desk::Reply;
 use desk::desk::take_record;
 use recorder::recorder::Recorder;
-use word_runs::runs::gather;
 use shape::numbers::lowered;
+use state_lines::put_state;
 use text::writing::put_byte;
 use text::writing::put_bytes;
 use text::writing::put_decimal;
 use text::writing::put_signed64;
+use word_runs::runs::gather;
 use words::casts::u64_as_u32;
 use words::unsigned::add_u32;
 use words::unsigned::add_u64;
