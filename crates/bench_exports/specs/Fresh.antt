@@ -12,8 +12,8 @@ use Rattle.cic.specs.Word.{wordOps}
 use Rattle.cic.specs.Reading.{cicOf}
 use Rattle.cic.specs.Answers.{steppedOf}
 use Rattle.cic.specs.declared.state.Cic.{Cic}
-use Rattle.cic.specs.declared.steps.Out.{Out}
-use Rattle.cic.specs.declared.steps.Out.the-variants as Out
+use Rattle.lent.specs.declared.steps.Out.{Out}
+use Rattle.lent.specs.declared.steps.Out.the-variants as Out
 use Rattle.cic64.specs.Word as Word64
 use Rattle.cic64.specs.Reading as Reading64
 use Rattle.cic64.specs.declared.state.Cic as Wide

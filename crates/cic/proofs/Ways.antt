@@ -14,8 +14,8 @@ use Rattle.sums.specs.State.{State}
 use Rattle.sums.specs.Calls.{currentAt}
 use Rattle.cic.specs.declared.state.Cic.{Cic}
 use Rattle.cic.specs.declared.state.Made.{Made}
-use Rattle.cic.specs.declared.questions.Interpolated.{Interpolated}
-use Rattle.cic.specs.declared.questions.Interpolated.the-variants as Interpolated
+use Rattle.lent.specs.declared.steps.Interpolated.{Interpolated}
+use Rattle.lent.specs.declared.steps.Interpolated.the-variants as Interpolated
 use Rattle.cic.specs.Reading.{cicOf}
 use Rattle.cic.specs.Answers.{madeOf, interpolatedOf}
 

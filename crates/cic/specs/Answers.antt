@@ -1,62 +1,34 @@
--- What each call answers, by its number (0: accepted) and its value. A refused question gives its number alone.
-use mathlib.Core.Option.{Option, none, some}
-use Prim.Native.Nat.{ℕ, zero, suc}
+-- What each call answers, by its number (0: accepted) and its value: the state after it, and what the crates lent and shape say it answers.
+use Prim.Native.Nat.{ℕ}
 use mathlib.Core.List.{List}
 use lib.IntN.{ℤ}
 use Rattle.blocks.specs.Verdicts.{verdictOf}
-use Rattle.sums.specs.Calls.{riseNumber, riseGiven}
-use Rattle.sums.specs.Counted.{Counted, Numbered, takeNumber, riseCounted, fillCounted, takeState, takeGiven, blockState}
+use Rattle.sums.specs.Counted.{Counted, riseCounted, fillCounted, takeState, blockState}
+use Rattle.shape.specs.Answers.{blockWrote, blockRead}
+use Rattle.lent.specs.declared.steps.Sample.{Sample}
+use Rattle.lent.specs.Answers.{stepOut, riseOut}
+pub use Rattle.lent.specs.Answers.{answerOutput, sampleOf}
+unfoldable pub use Rattle.lent.specs.Answers.{outOf, interpolatedOf}
 use Rattle.cic.specs.Word.{wordOps}
 use Rattle.cic.specs.declared.state.Cic.{Cic}
 use Rattle.cic.specs.declared.state.Made.{Made}
-use Rattle.cic.specs.declared.questions.Interpolated.{Interpolated}
-use Rattle.cic.specs.declared.questions.Interpolated.the-variants as Interpolated
-use Rattle.cic.specs.declared.steps.Output as answer
-use Rattle.cic.specs.declared.steps.Out.{Out}
-use Rattle.cic.specs.declared.steps.Out.the-variants as Out
-use Rattle.cic.specs.declared.steps.Sample.{Sample}
-use Rattle.cic.specs.declared.steps.Sample.the-variants as Sample
 use Rattle.cic.specs.declared.steps.Stepped.{Stepped}
 use Rattle.cic.specs.declared.steps.Risen.{Risen}
 use Rattle.cic.specs.declared.runs.Decimated.{Decimated}
 use Rattle.cic.specs.declared.runs.Filled.{Filled}
-use Rattle.shape.specs.Answers.{blockWrote, blockRead}
 use Rattle.cic.specs.Reading.{stateOf, countedOf, cicOf}
 
 -- A maker or a call on a state.
 abbrev pub madeOf : ℕ → Counted ℤ → Made
 madeOf number c = record { state = cicOf c; verdict = verdictOf number }
 
--- Questions.
-unfoldable pub interpolatedOf : ℕ → ℤ → Interpolated
-interpolatedOf zero y = Interpolated.Value y
-interpolatedOf (suc k) y = Interpolated.Refused (suc k)
-
--- The decimator's step: one output with the count it is told and its input's number, or nothing at all.
-abbrev pub answerOutput : Numbered ℤ → answer.Output
-answerOutput y = record { value = y .value; told = y .told; number = y .number }
-
-unfoldable pub outOf : ℕ → Option (Numbered ℤ) → Out
-outOf zero (some y) = Out.Given (answerOutput y)
-outOf zero none = Out.Nothing
-outOf (suc k) y = Out.Refused (suc k)
-
+-- The decimator's step.
 abbrev pub steppedOf : Cic → ℤ → Stepped
-steppedOf s x = record {
-  state = cicOf (takeState wordOps (countedOf s) x);
-  out = outOf (takeNumber (countedOf s) 1) (takeGiven wordOps (countedOf s) x);
-}
+steppedOf s x = record { state = cicOf (takeState wordOps (countedOf s) x); out = stepOut (countedOf s) x }
 
 -- The interpolator's step, with a sample or with none.
-abbrev pub sampleOf : Sample → Option ℤ
-sampleOf (Sample.Given x) = some x
-sampleOf Sample.Missing = none
-
 abbrev pub risenOf : Cic → Sample → Risen
-risenOf s x = record {
-  state = cicOf (riseCounted wordOps (countedOf s) (sampleOf x));
-  out = interpolatedOf (riseNumber (stateOf s) (sampleOf x)) (riseGiven wordOps (stateOf s) (sampleOf x));
-}
+risenOf s x = record { state = cicOf (riseCounted wordOps (countedOf s) (sampleOf x)); out = riseOut (countedOf s) (sampleOf x) }
 
 -- The decimator's block.
 abbrev pub decimatedOf : Cic → List ℤ → List ℤ → Decimated

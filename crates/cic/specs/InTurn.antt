@@ -3,8 +3,8 @@ use mathlib.Core.List.{List, [], _∷_, _++_}
 use lib.IntN.{ℤ}
 use Rattle.sums.specs.Counted.{Numbered}
 use Rattle.cic.specs.declared.state.Cic.{Cic}
-use Rattle.cic.specs.declared.steps.Out.{Out}
-use Rattle.cic.specs.declared.steps.Out.the-variants.{Given, Nothing, Refused}
+use Rattle.lent.specs.declared.steps.Out.{Out}
+use Rattle.lent.specs.declared.steps.Out.the-variants.{Given, Nothing, Refused}
 use Rattle.cic.specs.Answers.{steppedOf}
 
 -- The state at the end,

@@ -1,6 +1,6 @@
 // Questions about a state. Each tests the state first; a refused one gives its number alone.
 use crate::state::Cic;
-use crate::word::Word;
+pub use lent::steps::Interpolated;
 use shape::numbers::refusal_of;
 pub use shape::questions::Fitting;
 pub use shape::questions::Told;
@@ -16,13 +16,7 @@ ghost use Rattle.sums.specs.Runs.{needed};
 ghost use Rattle.shape.specs.Answers.{toldOf, fittingOf};
 ghost use Rattle.cic.specs.Word.{wordOps};
 ghost use Rattle.cic.specs.Reading.{stateOf};
-ghost use Rattle.cic.specs.Answers.{interpolatedOf};
-
-// An interpolator's output, or the number of a refusal.
-pub enum Interpolated {
-    Value(Word),
-    Refused(u32),
-}
+ghost use Rattle.lent.specs.Answers.{interpolatedOf};
 
 impl Cic {
     // The number of the first test that this state fails, 10 to 13 or 15; 0 where it is accepted.

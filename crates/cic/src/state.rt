@@ -3,12 +3,11 @@ use crate::word::Word;
 use blocks::Verdict;
 use shape::numbers::greater;
 use shape::numbers::refusal_of;
-use shape::numbers::take_number;
 ghost use mathlib.Core.Path.{_≡_};
 ghost use lib.Dec.{eqb};
 ghost use Rattle.sums.specs.State.{refusal, zeroed};
 ghost use Rattle.sums.specs.Calls.{newNumber, resumeNumber, rateNumber};
-ghost use Rattle.sums.specs.Counted.{takeNumber, blankCounted, newCounted, resumeCounted, rateCounted, clearCounted};
+ghost use Rattle.sums.specs.Counted.{blankCounted, newCounted, resumeCounted, rateCounted, clearCounted};
 ghost use Rattle.cic.specs.Word.{wordOps};
 ghost use Rattle.cic.specs.Reading.{stateOf, countedOf, cicOf};
 ghost use Rattle.cic.specs.Answers.{madeOf};
@@ -124,21 +123,6 @@ impl Cic {
             state,
             verdict: Verdict::Done,
         }
-    }
-
-    // The number of a call that takes so many inputs, or 0: this state's, then 16 past 2^64 - 1.
-    pub(crate) fn taking(self, more: u64) -> u32
-        ensures { λ r. ⌜ r ≡ takeNumber (countedOf self) more ⌝ }
-    {
-        take_number(
-            self.order,
-            self.delay,
-            self.rate,
-            self.countdown,
-            self.unsettled,
-            self.inputs,
-            more,
-        )
     }
 
     // The state at another rate: cells, hold, countdown and number of inputs stay, and the next N·M outputs are

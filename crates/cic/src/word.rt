@@ -1,6 +1,4 @@
-// The word of this crate, i32, and its width, to be asked of `fit`. No other file of src/ names it.
-pub use words::word32::BITS;
-pub use words::word32::Word;
-pub(crate) use words::word32::add;
-pub(crate) use words::word32::mul;
-pub(crate) use words::word32::sub;
+// The word of the steps on lent arrays, and its width, to be asked of `fit`.
+pub use lent::word::BITS;
+pub use lent::word::Word;
+pub(crate) use lent::word::mul;

@@ -14,8 +14,8 @@ use Rattle.sums.specs.State.{State}
 use Rattle.sums.specs.Calls.{currentAt}
 use Rattle.cic64.specs.declared.state.Cic.{Cic}
 use Rattle.cic64.specs.declared.state.Made.{Made}
-use Rattle.cic64.specs.declared.questions.Interpolated.{Interpolated}
-use Rattle.cic64.specs.declared.questions.Interpolated.the-variants as Interpolated
+use Rattle.lent64.specs.declared.steps.Interpolated.{Interpolated}
+use Rattle.lent64.specs.declared.steps.Interpolated.the-variants as Interpolated
 use Rattle.cic64.specs.Reading.{cicOf}
 use Rattle.cic64.specs.Answers.{madeOf, interpolatedOf}
 

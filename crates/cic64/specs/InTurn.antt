@@ -3,8 +3,8 @@ use mathlib.Core.List.{List, [], _∷_, _++_}
 use lib.IntN.{ℤ}
 use Rattle.sums.specs.Counted.{Numbered}
 use Rattle.cic64.specs.declared.state.Cic.{Cic}
-use Rattle.cic64.specs.declared.steps.Out.{Out}
-use Rattle.cic64.specs.declared.steps.Out.the-variants.{Given, Nothing, Refused}
+use Rattle.lent64.specs.declared.steps.Out.{Out}
+use Rattle.lent64.specs.declared.steps.Out.the-variants.{Given, Nothing, Refused}
 use Rattle.cic64.specs.Answers.{steppedOf}
 
 -- The state at the end,

@@ -2,6 +2,7 @@
 use lib.IntN.{ℤ}
 use Rattle.sums.specs.State.{State}
 use Rattle.sums.specs.Counted.{Counted}
+use Rattle.lent64.specs.declared.state.LentCic.{LentCic}
 use Rattle.cic64.specs.declared.state.Cic.{Cic}
 
 abbrev pub stateOf : Cic → State ℤ
@@ -30,4 +31,16 @@ cicOf c = record {
   hold = c .state .hold;
   integrators = c .state .integrators;
   combs = c .state .combs;
+}
+
+-- All but the arrays.
+abbrev pub numbersOf : Cic → LentCic
+numbersOf s = record {
+  order = s .order;
+  delay = s .delay;
+  rate = s .rate;
+  countdown = s .countdown;
+  unsettled = s .unsettled;
+  inputs = s .inputs;
+  hold = s .hold;
 }

@@ -1,15 +1,10 @@
 // Blocks of steps, and the settled part of what a decimator's block wrote.
-use crate::decimating::decimate_run;
-use crate::interpolating::interpolate_run;
 use crate::state::Cic;
 use crate::steps::joined;
 use crate::word::Word;
 pub use shape::runs::Read;
 pub use shape::runs::Written;
 pub use shape::runs::Wrote;
-use shape::runs::block_answer;
-use shape::runs::block_number;
-use shape::runs::low_rate;
 ghost use mathlib.Core.Path.{_≡_};
 ghost use Rattle.sums.specs.Runs.{fillOut, settledNumber, settledPart};
 ghost use Rattle.sums.specs.Counted.{blockOut};
@@ -37,35 +32,14 @@ impl Cic {
         ensures { λ r. ⌜ (r ≡ decimatedOf self (now (input .entry)) (now (out .entry)))
             × (now (out .exit) ≡ blockOut wordOps (countedOf self) (now (input .entry)) (now (out .entry))) ⌝ }
     {
-        let countdown = self.countdown;
-        let unsettled = self.unsettled;
-        let number = block_number(
-            self.order,
-            self.delay,
-            self.rate,
-            countdown,
-            unsettled,
-            self.inputs,
-            input.len(),
-            out.len(),
-        );
-        if number != 0 {
-            return Decimated {
-                state: self,
-                wrote: Wrote::Refused(number),
-            };
-        }
         let mut integrators = self.integrators;
         let mut combs = self.combs;
-        let r = decimate_run(&mut integrators, &mut combs, self.numbers(), input, out);
+        let r = self.numbers()
+            .decimate_block(&mut integrators, &mut combs, input, out);
         let numbers = r.numbers;
-        let inputs = self.inputs + input.len() as u64;
-        let state = joined(numbers, inputs, integrators, combs);
-        let written = block_answer(r.count, unsettled, self.inputs, countdown);
-        Decimated {
-            state,
-            wrote: Wrote::Outputs(written),
-        }
+        let state = joined(numbers, integrators, combs);
+        let wrote = r.wrote;
+        Decimated { state, wrote }
     }
 
     // Every element of out is written, from as many inputs as are due; later ones stay unread. Refused with
@@ -74,29 +48,14 @@ impl Cic {
         ensures { λ r. ⌜ (r ≡ filledOf self (now (input .entry)) (now (out .entry)))
             × (now (out .exit) ≡ fillOut wordOps (stateOf self) (now (input .entry)) (now (out .entry))) ⌝ }
     {
-        let number = self.refusal();
-        if number != 0 {
-            return Filled {
-                state: self,
-                read: Read::Refused(number),
-            };
-        }
-        let need = low_rate(out.len(), self.countdown, self.rate);
-        if input.len() < need {
-            return Filled {
-                state: self,
-                read: Read::Refused(23),
-            };
-        }
         let mut integrators = self.integrators;
         let mut combs = self.combs;
-        let r = interpolate_run(&mut integrators, &mut combs, self.numbers(), input, out);
+        let r = self.numbers()
+            .interpolate_block(&mut integrators, &mut combs, input, out);
         let numbers = r.numbers;
-        let state = joined(numbers, self.inputs, integrators, combs);
-        Filled {
-            state,
-            read: Read::Inputs(r.count),
-        }
+        let state = joined(numbers, integrators, combs);
+        let read = r.read;
+        Filled { state, read }
     }
 }
 

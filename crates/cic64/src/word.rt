@@ -1,6 +1,4 @@
-// The word of this crate, i64, and its width, to be asked of `fit`. No other file of src/ names it.
-pub use words::word64::BITS;
-pub use words::word64::Word;
-pub(crate) use words::word64::add;
-pub(crate) use words::word64::mul;
-pub(crate) use words::word64::sub;
+// The word of the steps on lent arrays, and its width, to be asked of `fit`.
+pub use lent64::word::BITS;
+pub use lent64::word::Word;
+pub(crate) use lent64::word::mul;

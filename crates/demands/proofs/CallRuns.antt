@@ -26,8 +26,8 @@ use Rattle.sums.proofs.Alone.{leaves-fit}
 use Rattle.shape.specs.Answers.{wroteOf, readOf}
 use Rattle.cic.specs.Word.{wordOps}
 use Rattle.cic.specs.declared.state.Cic.{Cic}
-use Rattle.cic.specs.declared.steps.Sample.{Sample}
-use Rattle.cic.specs.declared.steps.Sample.the-variants as Sample
+use Rattle.lent.specs.declared.steps.Sample.{Sample}
+use Rattle.lent.specs.declared.steps.Sample.the-variants as Sample
 use Rattle.cic.specs.declared.steps.Stepped.{Stepped}
 use Rattle.cic.specs.declared.steps.Risen.{Risen}
 use Rattle.cic.specs.declared.runs.Decimated.{Decimated}

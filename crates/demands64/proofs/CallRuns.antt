@@ -26,8 +26,8 @@ use Rattle.sums.proofs.Alone.{leaves-fit}
 use Rattle.shape.specs.Answers.{wroteOf, readOf}
 use Rattle.cic64.specs.Word.{wordOps}
 use Rattle.cic64.specs.declared.state.Cic.{Cic}
-use Rattle.cic64.specs.declared.steps.Sample.{Sample}
-use Rattle.cic64.specs.declared.steps.Sample.the-variants as Sample
+use Rattle.lent64.specs.declared.steps.Sample.{Sample}
+use Rattle.lent64.specs.declared.steps.Sample.the-variants as Sample
 use Rattle.cic64.specs.declared.steps.Stepped.{Stepped}
 use Rattle.cic64.specs.declared.steps.Risen.{Risen}
 use Rattle.cic64.specs.declared.runs.Decimated.{Decimated}

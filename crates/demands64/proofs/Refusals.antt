@@ -22,10 +22,10 @@ use Rattle.shape.specs.Answers.{wroteOf, readOf}
 use Rattle.cic64.specs.Word.{wordOps}
 use Rattle.cic64.specs.declared.state.Cic.{Cic}
 use Rattle.cic64.specs.declared.state.Made.{Made}
-use Rattle.cic64.specs.declared.questions.Interpolated.{Interpolated}
-use Rattle.cic64.specs.declared.questions.Interpolated.the-variants as Interpolated
-use Rattle.cic64.specs.declared.steps.Out.{Out}
-use Rattle.cic64.specs.declared.steps.Out.the-variants as Out
+use Rattle.lent64.specs.declared.steps.Interpolated.{Interpolated}
+use Rattle.lent64.specs.declared.steps.Interpolated.the-variants as Interpolated
+use Rattle.lent64.specs.declared.steps.Out.{Out}
+use Rattle.lent64.specs.declared.steps.Out.the-variants as Out
 use Rattle.cic64.specs.declared.steps.Stepped.{Stepped}
 use Rattle.cic64.specs.declared.steps.Risen.{Risen}
 use Rattle.cic64.specs.declared.runs.Decimated.{Decimated}

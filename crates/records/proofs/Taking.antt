@@ -18,9 +18,9 @@ use Rattle.cic64.specs.Reading.{countedOf, cicOf}
 use Rattle.cic64.specs.Answers.{answerOutput, outOf, steppedOf, madeOf}
 use Rattle.cic64.specs.declared.state.Cic.{Cic}
 use Rattle.cic64.specs.declared.state.Made.{Made}
-use Rattle.cic64.specs.declared.steps.Output as answer
-use Rattle.cic64.specs.declared.steps.Out.{Out}
-use Rattle.cic64.specs.declared.steps.Out.the-variants as Out
+use Rattle.lent64.specs.declared.steps.Output as answer
+use Rattle.lent64.specs.declared.steps.Out.{Out}
+use Rattle.lent64.specs.declared.steps.Out.the-variants as Out
 use Rattle.cic64.specs.declared.steps.Stepped.{Stepped}
 use Rattle.records.specs.Lines.{recordOf}
 use Rattle.records.specs.Sessions.{

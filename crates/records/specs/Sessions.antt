@@ -21,7 +21,7 @@ use Rattle.cic64.specs.Word.{wordOps}
 use Rattle.cic64.specs.Reading.{countedOf, cicOf}
 use Rattle.cic64.specs.Answers.{answerOutput}
 use Rattle.cic64.specs.declared.state.Cic.{Cic}
-use Rattle.cic64.specs.declared.steps.Output as answer
+use Rattle.lent64.specs.declared.steps.Output as answer
 use Rattle.records.specs.Lines.{faultAt, recordOf}
 use Rattle.records.specs.declared.parse.Fault.{Fault}
 use Rattle.records.specs.declared.parse.Record.{Record}

@@ -6,7 +6,7 @@ use mir.Val.{SFits}
 use mir.ValLaws.{toZ-ofZ}
 use borrow.Author.Needs.{needs}
 use Rattle.words.proofs.Reading.{read}
-use Rattle.cic64.specs.declared.steps.Output as answer
+use Rattle.lent64.specs.declared.steps.Output as answer
 use Rattle.records.proofs.session.output_in.Statement.{statement}
 use Rattle.records.proofs.session.output_in.Tie as tie
 
