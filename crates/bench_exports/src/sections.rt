@@ -167,14 +167,14 @@ fn bounded(
 
 #[no_mangle]
 pub extern "C" fn bench_wide(
+    xs: &[i32],
+    ys: &mut [i32],
     b0: i32,
     b1: i32,
     b2: i32,
     a1: i32,
     a2: i32,
     f: u32,
-    xs: &[i32],
-    ys: &mut [i32],
 )
     ensures { λ _. ⌜ now (ys .exit) ≡ blockLeftBy (fractionNumber 0) wideOut wideNext (wordBiquad b0 b1 b2 a1 a2 f) zeroWide
         (now (xs .entry)) (now (ys .entry)) ⌝ }
@@ -191,14 +191,14 @@ pub extern "C" fn bench_wide(
 
 #[no_mangle]
 pub extern "C" fn bench_dither(
+    xs: &[i32],
+    ys: &mut [i32],
     b0: i32,
     b1: i32,
     b2: i32,
     a1: i32,
     a2: i32,
     f: u32,
-    xs: &[i32],
-    ys: &mut [i32],
 )
     ensures { λ _. ⌜ now (ys .exit) ≡ blockLeftBy (fractionNumber 1) ditherOut ditherNext (wordBiquad b0 b1 b2 a1 a2 f) zeroDither
         (now (xs .entry)) (now (ys .entry)) ⌝ }
@@ -216,6 +216,8 @@ pub extern "C" fn bench_dither(
 
 #[no_mangle]
 pub extern "C" fn bench_wide_clamp(
+    xs: &[i32],
+    ys: &mut [i32],
     b0: i32,
     b1: i32,
     b2: i32,
@@ -225,8 +227,6 @@ pub extern "C" fn bench_wide_clamp(
     u: i32,
     min: i32,
     max: i32,
-    xs: &[i32],
-    ys: &mut [i32],
 )
     ensures { λ _. ⌜ now (ys .exit) ≡ blockLeftBy (clampNumber 0) wideHeld wideOnward
         (wordClamp (wordBiquad b0 b1 b2 a1 a2 f) u min max) zeroWide (now (xs .entry)) (now (ys .entry)) ⌝ }
@@ -244,6 +244,8 @@ pub extern "C" fn bench_wide_clamp(
 
 #[no_mangle]
 pub extern "C" fn bench_dither_clamp(
+    xs: &[i32],
+    ys: &mut [i32],
     b0: i32,
     b1: i32,
     b2: i32,
@@ -253,8 +255,6 @@ pub extern "C" fn bench_dither_clamp(
     u: i32,
     min: i32,
     max: i32,
-    xs: &[i32],
-    ys: &mut [i32],
 )
     ensures { λ _. ⌜ now (ys .exit) ≡ blockLeftBy (clampNumber 1) ditherHeld ditherOnward
         (wordClamp (wordBiquad b0 b1 b2 a1 a2 f) u min max) zeroDither (now (xs .entry)) (now (ys .entry)) ⌝ }

@@ -12,10 +12,10 @@ extern "C" {
     fn bench_df2t(b0: f64, b1: f64, b2: f64, a1: f64, a2: f64, x: *const f64, n: usize, y: *mut f64, m: usize);
     fn bench_df1_clamp(b0: f64, b1: f64, b2: f64, a1: f64, a2: f64, u: f64, min: f64, max: f64, x: *const f64, n: usize, y: *mut f64, m: usize);
     fn bench_df2t_clamp(b0: f64, b1: f64, b2: f64, a1: f64, a2: f64, u: f64, min: f64, max: f64, x: *const f64, n: usize, y: *mut f64, m: usize);
-    fn bench_wide(b0: i32, b1: i32, b2: i32, a1: i32, a2: i32, f: u32, x: *const i32, n: usize, y: *mut i32, m: usize);
-    fn bench_dither(b0: i32, b1: i32, b2: i32, a1: i32, a2: i32, f: u32, x: *const i32, n: usize, y: *mut i32, m: usize);
-    fn bench_wide_clamp(b0: i32, b1: i32, b2: i32, a1: i32, a2: i32, f: u32, u: i32, min: i32, max: i32, x: *const i32, n: usize, y: *mut i32, m: usize);
-    fn bench_dither_clamp(b0: i32, b1: i32, b2: i32, a1: i32, a2: i32, f: u32, u: i32, min: i32, max: i32, x: *const i32, n: usize, y: *mut i32, m: usize);
+    fn bench_wide(x: *const i32, n: usize, y: *mut i32, m: usize, b0: i32, b1: i32, b2: i32, a1: i32, a2: i32, f: u32);
+    fn bench_dither(x: *const i32, n: usize, y: *mut i32, m: usize, b0: i32, b1: i32, b2: i32, a1: i32, a2: i32, f: u32);
+    fn bench_wide_clamp(x: *const i32, n: usize, y: *mut i32, m: usize, b0: i32, b1: i32, b2: i32, a1: i32, a2: i32, f: u32, u: i32, min: i32, max: i32);
+    fn bench_dither_clamp(x: *const i32, n: usize, y: *mut i32, m: usize, b0: i32, b1: i32, b2: i32, a1: i32, a2: i32, f: u32, u: i32, min: i32, max: i32);
     fn bench_pll(b0: i32, b1: i32, a1: i32, x: *const i32, n: usize, y: *mut i32, m: usize);
     fn bench_clamp_wrap(x: *const i32, n: usize, y: *mut i32, m: usize);
     fn bench_unwrapper(x: *const i32, n: usize, y: *mut i32, m: usize);
@@ -26,6 +26,13 @@ extern "C" {
 macro_rules! call {
     ($f:ident($($a:expr),*), $x:ident, $y:ident) => {
         unsafe { $f($($a,)* $x.as_ptr(), $x.len(), $y.as_mut_ptr(), $y.len()) }
+    };
+}
+
+/// The same, the slices first: behind eight numbers they would come by the stack, and cost the loop a register.
+macro_rules! lent {
+    ($f:ident($($a:expr),*), $x:ident, $y:ident) => {
+        unsafe { $f($x.as_ptr(), $x.len(), $y.as_mut_ptr(), $y.len(), $($a),*) }
     };
 }
 
@@ -63,16 +70,16 @@ pub fn df2t_clamp(c: &[f64; 8], x: &[f64], y: &mut [f64]) {
     call!(bench_df2t_clamp(c[0], c[1], c[2], c[3], c[4], c[5], c[6], c[7]), x, y)
 }
 pub fn wide(c: &[i32; 8], f: u32, x: &[i32], y: &mut [i32]) {
-    call!(bench_wide(c[0], c[1], c[2], c[3], c[4], f), x, y)
+    lent!(bench_wide(c[0], c[1], c[2], c[3], c[4], f), x, y)
 }
 pub fn dither(c: &[i32; 8], f: u32, x: &[i32], y: &mut [i32]) {
-    call!(bench_dither(c[0], c[1], c[2], c[3], c[4], f), x, y)
+    lent!(bench_dither(c[0], c[1], c[2], c[3], c[4], f), x, y)
 }
 pub fn wide_clamp(c: &[i32; 8], f: u32, x: &[i32], y: &mut [i32]) {
-    call!(bench_wide_clamp(c[0], c[1], c[2], c[3], c[4], f, c[5], c[6], c[7]), x, y)
+    lent!(bench_wide_clamp(c[0], c[1], c[2], c[3], c[4], f, c[5], c[6], c[7]), x, y)
 }
 pub fn dither_clamp(c: &[i32; 8], f: u32, x: &[i32], y: &mut [i32]) {
-    call!(bench_dither_clamp(c[0], c[1], c[2], c[3], c[4], f, c[5], c[6], c[7]), x, y)
+    lent!(bench_dither_clamp(c[0], c[1], c[2], c[3], c[4], f, c[5], c[6], c[7]), x, y)
 }
 pub fn pll(c: &[i32; 3], x: &[i32], y: &mut [i32]) {
     call!(bench_pll(c[0], c[1], c[2]), x, y)
