@@ -118,10 +118,10 @@ fn moved_architecture(sections: usize, architecture: u32) -> u32
 pub fn current_architecture(sections: usize, architecture: u32) -> u32
     ensures { λ r. ⌜ r ≡ moved sections architecture ⌝ }
 {
-    if 8 < sections {
-        return moved_architecture(8, architecture);
+    if sections <= 8 {
+        return moved_architecture(sections, architecture);
     }
-    moved_architecture(sections, architecture)
+    moved_architecture(8, architecture)
 }
 
 // The outputs of the section whose nibble is the lowest, for the input x, its cell and its coefficient.

@@ -6,12 +6,13 @@ use Rattle.wdf.proofs.filter.current_architecture.Statement.{statement}
 use Rattle.wdf.proofs.filter.current_architecture.Tie as tie
 
 returns : tie.Need-returns
-returns c =
-    let s = c .before .before in
-    c .moved-architecture .ensures ∙ moved-eight (s .args .sections) (s .args .architecture) (s .fits .architecture .fits) (c .before .if1 .taken)
+returns c = c .moved-architecture .ensures
 
 returns-2 : tie.Need-returns-2
-returns-2 c = c .moved-architecture2 .ensures
+returns-2 c =
+    let s = c .before .before in
+    c .moved-architecture2 .ensures
+    ∙ moved-eight (s .args .sections) (s .args .architecture) (s .fits .architecture .fits) (c .before .if1 .left)
 
 pub current-architecture-spec : {M : Type 1} → statement M
 current-architecture-spec =
