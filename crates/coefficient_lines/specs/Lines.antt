@@ -13,10 +13,10 @@ use Rattle.text.specs.Parts.{before, parted}
 use Rattle.text.specs.Same.{same}
 use Rattle.text.specs.declared.hex.Pattern.{Pattern}
 use Rattle.text.specs.declared.hex.Pattern.the-variants as Pattern
-use Rattle.wdf.specs.Quantize.{quantized}
-use Rattle.wdf.specs.declared.tpa.Tpa.the-variants.{Z, A, B, B1, X, C, C1, D}
-use Rattle.wdf.specs.declared.quantize.Quantized.{Quantized}
-use Rattle.wdf.specs.declared.quantize.Quantized.the-variants.{Bits, Refused}
+use Rattle.adapters.specs.Quantize.{quantized}
+use Rattle.adapters.specs.declared.tpa.Tpa.the-variants.{Z, A, B, B1, X, C, C1, D}
+use Rattle.adapters.specs.declared.quantize.Quantized.{Quantized}
+use Rattle.adapters.specs.declared.quantize.Quantized.the-variants.{Bits, Refused}
 use Rattle.coefficient_lines.specs.declared.adapter.Adapter.{Adapter}
 use Rattle.coefficient_lines.specs.declared.adapter.Adapter.the-variants.{Named, Unknown}
 

@@ -7,8 +7,8 @@ use Prim.Native.Nat.{ℕ, _+_, min}
 use lib.Dec.{ltb, eqb}
 use lib.ListN.{length}
 use Rattle.text.specs.Letters.{newline}
-use Rattle.wdf.specs.declared.quantize.Quantized.{Quantized}
-use Rattle.wdf.specs.declared.quantize.Quantized.the-variants.{Bits, Refused}
+use Rattle.adapters.specs.declared.quantize.Quantized.{Quantized}
+use Rattle.adapters.specs.declared.quantize.Quantized.the-variants.{Bits, Refused}
 use Rattle.coefficient_lines.specs.Lines.{longNumber, cutNumber, lineBits, refusedLine, answerBytes}
 
 -- how many lines came before, the line so far, and whether to go on

@@ -1,5 +1,5 @@
 // What a line's first field names.
-use wdf::tpa::Tpa;
+use adapters::tpa::Tpa;
 
 // An adapter by its name, or a name that is none.
 pub enum Adapter {

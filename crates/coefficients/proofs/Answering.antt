@@ -19,8 +19,8 @@ use Rattle.text.specs.declared.hex.Pattern.the-variants as Pattern
 use Rattle.text.proofs.Parting.{before-take}
 use Rattle.text.proofs.Putting.{written, then-puts, wrote-same}
 use Rattle.text.proofs.Spelling.{spelt-short, decimal-most, signed-most}
-use Rattle.wdf.specs.declared.quantize.Quantized.{Quantized}
-use Rattle.wdf.specs.declared.quantize.Quantized.the-variants.{Refused}
+use Rattle.adapters.specs.declared.quantize.Quantized.{Quantized}
+use Rattle.adapters.specs.declared.quantize.Quantized.the-variants.{Refused}
 use Rattle.coefficient_lines.specs.declared.adapter.Adapter.{Adapter}
 use Rattle.coefficient_lines.specs.declared.adapter.Adapter.the-variants.{Named, Unknown}
 use Rattle.coefficient_lines.specs.Lines.{adapterOf, poleBits, lineBits, bitsLine, refusedLine}

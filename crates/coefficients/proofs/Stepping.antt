@@ -12,8 +12,8 @@ use borrow.Author.Tests.{eq-eqb, ne-eqb, lt-ltb, le-ltb}
 use Rattle.text.specs.Letters.{newline}
 use Rattle.text.specs.Writing.{Wrote}
 use Rattle.text.proofs.Putting.{wrote-same, wrote-length, nothing, then}
-use Rattle.wdf.specs.declared.quantize.Quantized.{Quantized}
-use Rattle.wdf.specs.declared.quantize.Quantized.the-variants.{Refused}
+use Rattle.adapters.specs.declared.quantize.Quantized.{Quantized}
+use Rattle.adapters.specs.declared.quantize.Quantized.the-variants.{Refused}
 use Rattle.coefficients.specs.declared.parts.Place.{Place}
 use Rattle.coefficient_lines.specs.Lines.{lineBits, answerBytes, refusedLine}
 use Rattle.coefficient_lines.specs.Parts.{Standing, oneMore, isAccepted, endedBy, byteAfter, byteGiven, partAfter, partGiven}

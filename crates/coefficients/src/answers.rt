@@ -1,4 +1,6 @@
 // A line and its answer.
+use adapters::quantize::Quantized;
+use adapters::tpa::Tpa;
 use coefficient_lines::adapter::Adapter;
 use rust_answers::doubles::from_bits;
 use text::comparing::same_bytes;
@@ -9,8 +11,6 @@ use text::writing::put_byte;
 use text::writing::put_bytes;
 use text::writing::put_decimal;
 use text::writing::put_signed;
-use wdf::quantize::Quantized;
-use wdf::tpa::Tpa;
 ghost use mathlib.Core.Path.{_≡_};
 ghost use mathlib.Core.Bool.{true};
 ghost use Prim.Native.Nat.{_+_, _≤_};

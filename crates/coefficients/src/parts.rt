@@ -3,7 +3,7 @@ use crate::answers::CUT;
 use crate::answers::LONG;
 use crate::answers::line_bits;
 use crate::answers::put_answer;
-use wdf::quantize::Quantized;
+use adapters::quantize::Quantized;
 ghost use mathlib.Core.Path.{_≡_};
 ghost use mathlib.Core.Bool.{true};
 ghost use Prim.Native.Nat.{_+_, _*_, _≤_};

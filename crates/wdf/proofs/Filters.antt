@@ -14,9 +14,10 @@ use Rattle.wdf.specs.declared.filter.Wdf.{Wdf}
 use Rattle.wdf.specs.declared.filter.Out.{Out}
 use Rattle.wdf.specs.declared.filter.Out.the-variants.{Given}
 use Rattle.wdf.specs.declared.filter.Stepped.{Stepped}
-use Rattle.wdf.specs.Sections.{Section, sectionsOf, Passed, passed}
+use Rattle.sections.specs.Sections.{Section, sectionsOf, Passed, passed}
 use Rattle.wdf.specs.Calls.{number, filter, run, answer, next, stepped}
-use Rattle.wdf.proofs.Steps.{sections-length, cells-length, gives}
+use Rattle.sections.proofs.Padded.{sections-length, cells-length}
+use Rattle.wdf.proofs.Steps.{gives}
 
 -- 01: no sections, the input is the answer; nothing changes
 pub no-sections : (m : ℕ) (cs zs : List ℤ) (x : ℤ) → (answer (filter 0 m cs zs) x ≡ x) × (next (filter 0 m cs zs) x ≡ filter 0 m cs zs)

@@ -9,8 +9,8 @@ use lib.IntN.{ℤ, pos}
 use lib.ListN.{getD, drop}
 use lib.Pow.{pow-add}
 use lib.Seq.{getD-drop}
-use Rattle.wdf.specs.Adapters.{codeOf}
-use Rattle.wdf.specs.Sections.{Section, sectionsOf}
+use Rattle.adapters.specs.Adapters.{codeOf}
+use Rattle.sections.specs.Sections.{Section, sectionsOf}
 
 pub four-bits : (n : ℕ) → 2 ^ (4 * n) ≡ 16 ^ n
 four-bits zero = refl

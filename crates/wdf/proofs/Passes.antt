@@ -8,9 +8,9 @@ use native.Mathlib.Omega.{arith}
 use lib.ListN.{length, take, drop, getD, set, length-set}
 use lib.Seq.{take-suc-set, drop-set-lt, drop-drop, getD-drop, set-split}
 use lib.IntN.{ℤ, pos}
-use Rattle.wdf.specs.declared.tpa.Ports.{Ports}
-use Rattle.wdf.specs.Adapters.{adapted, codeOf}
-use Rattle.wdf.specs.Sections.{sectionsOf, Passed, passed}
+use Rattle.adapters.specs.declared.tpa.Ports.{Ports}
+use Rattle.adapters.specs.Adapters.{adapted, codeOf}
+use Rattle.sections.specs.Sections.{sectionsOf, Passed, passed}
 
 -- what the n sections from place i on make of x
 abbrev pub rest : ℕ → ℕ → ℕ → List ℤ → List ℤ → ℤ → Passed

@@ -14,16 +14,16 @@ use Rattle.blocks.specs.declared.Verdict.{Verdict}
 use Rattle.blocks.specs.Verdicts.{verdictOf}
 use Rattle.blocks.specs.Scan.{scan, ends}
 use Rattle.blocks.specs.Blocks.{unless, lengthsNumber, Blocked}
-use Rattle.wdf.specs.declared.tpa.Tpa.the-variants.{Z, A, B, X, C, D}
+use Rattle.adapters.specs.declared.tpa.Tpa.the-variants.{Z, A, B, X, C, D}
 use Rattle.wdf.specs.declared.filter.Wdf.{Wdf}
 use Rattle.wdf.specs.declared.filter.Answer.{Answer}
 use Rattle.wdf.specs.declared.filter.Stepped.{Stepped}
-use Rattle.wdf.specs.Adapters.{adapted, codeOf, retired}
-use Rattle.wdf.specs.Sections.{Section, sectionOf, sectionsOf, Passed, passed}
+use Rattle.adapters.specs.Adapters.{adapted, codeOf, retired}
+use Rattle.sections.specs.Sections.{Section, sectionOf, sectionsOf, Passed, passed}
 use Rattle.wdf.specs.Calls.{sectionsNumber, holdsRetired, newNumber, number, filter, none}
 use Rattle.wdf.specs.Calls.{madeUnless, made, madeForm1, run, answer, next, stepped}
 use Rattle.wdf.specs.Retired.{current, moved, movedWdf, movedAnswer, movedStepped, SameFilter}
-use Rattle.wdf.proofs.Adapters.{b1-is-b, c1-is-c}
+use Rattle.adapters.proofs.Adapters.{b1-is-b, c1-is-c}
 
 -- ---- the nibbles from place i on
 
@@ -103,7 +103,7 @@ module _ (n m : ℕ) where
   moved-high = let l = at-most (m % 16) in omega arith
 
 -- what lies beyond the sections stays
-moved-beyond : (n m : ℕ) → moved n m / 16 ^ n ≡ m / 16 ^ n
+pub moved-beyond : (n m : ℕ) → moved n m / 16 ^ n ≡ m / 16 ^ n
 unfolding moved
 moved-beyond zero m = refl
 moved-beyond (suc n) m =
@@ -219,11 +219,11 @@ module _ (s : Wdf) (x : ℤ) where
   moved-next =
       ap (λ (r : Passed). filter (s .sections) (moved (s .sections) (s .architecture)) (s .a) (r .cells ++ drop (s .sections) (s .z))) moved-run
 
-moved-scan : (s : Wdf) (xs : List ℤ) → scan answer next (movedWdf s) xs ≡ scan answer next s xs
+pub moved-scan : (s : Wdf) (xs : List ℤ) → scan answer next (movedWdf s) xs ≡ scan answer next s xs
 moved-scan s [] = refl
 moved-scan s (x ∷ xs) = rw (moved-answer s x, moved-next s x, moved-scan (next s x) xs)
 
-moved-ends : (s : Wdf) (xs : List ℤ) → ends answer next (movedWdf s) xs ≡ movedWdf (ends answer next s xs)
+pub moved-ends : (s : Wdf) (xs : List ℤ) → ends answer next (movedWdf s) xs ≡ movedWdf (ends answer next s xs)
 moved-ends s [] = refl
 moved-ends s (x ∷ xs) = rw (moved-next s x) (moved-ends (next s x) xs)
 

@@ -12,8 +12,8 @@ use Rattle.wdf.specs.declared.filter.Answer.{Answer}
 use Rattle.wdf.specs.declared.filter.Out.{Out}
 use Rattle.wdf.specs.declared.filter.Out.the-variants.{Given, Refused}
 use Rattle.wdf.specs.declared.filter.Stepped.{Stepped}
-use Rattle.wdf.specs.Adapters.{codeOf, retired}
-use Rattle.wdf.specs.Sections.{sectionsOf, Passed, passed}
+use Rattle.adapters.specs.Adapters.{codeOf, retired}
+use Rattle.sections.specs.Sections.{sectionsOf, Passed, passed}
 
 -- 01, refusals: 50, more than 8 sections; 51, a nonzero nibble beyond the last section; 0 where there is none
 unfoldable pub sectionsNumber : ℕ → ℕ → ℕ

@@ -1,4 +1,4 @@
--- 02, A13: the retired adapters compute what B and C compute, so b and c may stand in the places of e and f.
+-- 02, A13: the retired adapters compute what B and C compute (adapters `SameAdapters`), so b and c may stand in the places of e and f.
 use mathlib.Core.Path.{_≡_}
 use mathlib.Core.Bool.{cond}
 use mathlib.Core.List.{List}
@@ -7,17 +7,10 @@ use lib.Dec.{eqb}
 use lib.IntN.{ℤ}
 use Rattle.blocks.specs.declared.Verdict.{Verdict}
 use Rattle.blocks.specs.Blocks.{Blocked}
-use Rattle.wdf.specs.declared.tpa.Tpa.the-variants.{B, B1, C, C1}
 use Rattle.wdf.specs.declared.filter.Wdf.{Wdf}
 use Rattle.wdf.specs.declared.filter.Answer.{Answer}
 use Rattle.wdf.specs.declared.filter.Stepped.{Stepped}
-use Rattle.wdf.specs.Adapters.{adapted}
 use Rattle.wdf.specs.Calls.{number, filter, made, madeForm1, answer, next, stepped}
-
--- B1 is B and C1 is C, for all pairs and coefficients; proved in proofs/Adapters.antt
-pub record SameAdapters : Type 0 where
-  pub b1-is-b : (x0 x1 a : ℤ) → adapted B1 x0 x1 a ≡ adapted B x0 x1 a
-  pub c1-is-c : (x0 x1 a : ℤ) → adapted C1 x0 x1 a ≡ adapted C x0 x1 a
 
 -- b in the place of e and c in the place of f
 unfoldable pub current : ℕ → ℕ

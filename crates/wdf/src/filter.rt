@@ -1,12 +1,14 @@
 // The filter: an input goes through the sections in order.
-use crate::tpa::Ports;
-use crate::tpa::Tpa;
+use adapters::tpa::Ports;
+use adapters::tpa::Tpa;
 use blocks::Verdict;
+use sections::runs::run_eight;
+use sections::runs::run_two;
 ghost use mathlib.Core.Path.{_≡_};
 ghost use Prim.Native.Nat.{_%_, _≤_};
 ghost use lib.ListN.{length};
 ghost use Rattle.blocks.specs.Blocks.{Blocked};
-ghost use Rattle.wdf.specs.Adapters.{adapted, codeOf};
+ghost use Rattle.adapters.specs.Adapters.{adapted, codeOf};
 ghost use Rattle.wdf.specs.Calls.{sectionsNumber, holdsRetired, newNumber, number, filter};
 ghost use Rattle.wdf.specs.Calls.{madeUnless, made, madeForm1, answer, next, stepped};
 ghost use Rattle.wdf.specs.Retired.{current, moved};
@@ -157,70 +159,8 @@ fn pass(sections: usize, architecture: u32, a: &[i32; 8], z: &mut [i32; 8], x: i
     head.0
 }
 
-// The steps of a block in turn, over lent cells.
-fn run_any(
-    sections: usize,
-    architecture: u32,
-    a: &[i32; 8],
-    z: &mut [i32; 8],
-    xs: &[i32],
-    ys: &mut [i32],
-)
-    requires { ⌜ (sections ≤ 8) × (length (now z) ≡ 8) × (length (now xs) ≡ length (now ys)) ⌝ }
-    ensures { λ _. ⌜ Filters (filter sections architecture (now (a .entry)) (now (z .entry)))
-        (now (xs .entry)) (now (z .exit)) (now (ys .exit)) ⌝ }
-{
-    let mut i: usize = 0;
-    while i < xs.len() {
-        let x = xs[i];
-        ys[i] = pass(sections, architecture, a, z, x);
-        i += 1;
-    }
-}
-
-// The same through two sections.
-fn run_two(architecture: u32, a: &[i32; 8], z: &mut [i32; 8], xs: &[i32], ys: &mut [i32])
-    requires { ⌜ (length (now z) ≡ 8) × (length (now xs) ≡ length (now ys)) ⌝ }
-    ensures { λ _. ⌜ Filters (filter 2 architecture (now (a .entry)) (now (z .entry)))
-        (now (xs .entry)) (now (z .exit)) (now (ys .exit)) ⌝ }
-{
-    let mut i: usize = 0;
-    while i < xs.len() {
-        let x = xs[i];
-        ys[i] = pass(2, architecture, a, z, x);
-        i += 1;
-    }
-}
-
-// The same, once for each pair of the adapters A to D: in its arm the architecture is a known number, so that the
-// loop tells no section apart at run time.
-fn run_by_pair(architecture: u32, a: &[i32; 8], z: &mut [i32; 8], xs: &[i32], ys: &mut [i32])
-    requires { ⌜ (length (now z) ≡ 8) × (length (now xs) ≡ length (now ys)) ⌝ }
-    ensures { λ _. ⌜ Filters (filter 2 architecture (now (a .entry)) (now (z .entry)))
-        (now (xs .entry)) (now (z .exit)) (now (ys .exit)) ⌝ }
-{
-    match architecture {
-        0xaa => run_two(architecture, a, z, xs, ys),
-        0xab => run_two(architecture, a, z, xs, ys),
-        0xac => run_two(architecture, a, z, xs, ys),
-        0xad => run_two(architecture, a, z, xs, ys),
-        0xba => run_two(architecture, a, z, xs, ys),
-        0xbb => run_two(architecture, a, z, xs, ys),
-        0xbc => run_two(architecture, a, z, xs, ys),
-        0xbd => run_two(architecture, a, z, xs, ys),
-        0xca => run_two(architecture, a, z, xs, ys),
-        0xcb => run_two(architecture, a, z, xs, ys),
-        0xcc => run_two(architecture, a, z, xs, ys),
-        0xcd => run_two(architecture, a, z, xs, ys),
-        0xda => run_two(architecture, a, z, xs, ys),
-        0xdb => run_two(architecture, a, z, xs, ys),
-        0xdc => run_two(architecture, a, z, xs, ys),
-        0xdd => run_two(architecture, a, z, xs, ys),
-        _ => run_two(architecture, a, z, xs, ys),
-    }
-}
-
-// The steps of a block in turn, over lent cells.
+// The steps of a block in turn, over lent cells. A nibble beyond the sections is zero, and a section of it leaves all as it is: so one or
+// two sections run as two, more as eight.
 fn run_block(
     sections: usize,
     architecture: u32,
@@ -229,15 +169,15 @@ fn run_block(
     xs: &[i32],
     ys: &mut [i32],
 )
-    requires { ⌜ (sections ≤ 8) × (length (now z) ≡ 8) × (length (now xs) ≡ length (now ys)) ⌝ }
+    requires { ⌜ (sectionsNumber sections architecture ≡ 0) × (length (now z) ≡ 8) × (length (now xs) ≡ length (now ys)) ⌝ }
     ensures { λ _. ⌜ Filters (filter sections architecture (now (a .entry)) (now (z .entry)))
         (now (xs .entry)) (now (z .exit)) (now (ys .exit)) ⌝ }
 {
-    if sections == 2 {
-        run_by_pair(architecture, a, z, xs, ys);
+    if sections <= 2 {
+        run_two(architecture, a, z, xs, ys);
         return;
     }
-    run_any(sections, architecture, a, z, xs, ys);
+    run_eight(architecture, a, z, xs, ys);
 }
 
 // A filter with cells of zero, unless a number refuses it: then it is all zero.

@@ -7,7 +7,7 @@ use lib.ListN.{length, set, length-set}
 use lib.Seq.{length-take-le}
 use borrow.Author.Needs.{needs}
 use Rattle.text.proofs.Putting.{wrote-same, nothing}
-use Rattle.wdf.specs.declared.quantize.Quantized.the-variants.{Refused}
+use Rattle.adapters.specs.declared.quantize.Quantized.the-variants.{Refused}
 use Rattle.coefficients.specs.declared.parts.Place.{Place}
 use Rattle.coefficients.proofs.Stepping.{ends-newline, ends-long, ended-place, ended-given, longer-place, longer-given}
 use Rattle.coefficients.proofs.parts.take_byte.Statement.{statement}

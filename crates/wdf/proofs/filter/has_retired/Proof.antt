@@ -4,7 +4,7 @@ use mathlib.Core.Path.{_≡_, sym, _∙_}
 use Prim.Native.Nat.{_-_, _%_}
 use native.Mathlib.Nat.{sub-zero}
 use native.Mathlib.Omega.{arith}
-use Rattle.wdf.specs.Adapters.{codeOf, retired}
+use Rattle.adapters.specs.Adapters.{codeOf, retired}
 use Rattle.wdf.specs.Calls.{holdsRetired}
 use Rattle.wdf.proofs.Retired.{held, held-on, held-none}
 use Rattle.wdf.proofs.filter.has_retired.Statement.{statement}

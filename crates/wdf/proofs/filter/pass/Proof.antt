@@ -9,8 +9,8 @@ use mir.Syntax.{w32}
 use mir.Val.{toZ, ofZ}
 use mir.ValLaws.{toZ-ofZ}
 use Rattle.words.proofs.Reading.{read}
-use Rattle.wdf.specs.declared.tpa.Ports.{Ports}
-use Rattle.wdf.specs.Sections.{sectionsOf, passed}
+use Rattle.adapters.specs.declared.tpa.Ports.{Ports}
+use Rattle.sections.specs.Sections.{sectionsOf, passed}
 use Rattle.wdf.proofs.Passes.{section, Passing, begin, onward, finish}
 use Rattle.wdf.proofs.filter.pass.Statement.{statement}
 use Rattle.wdf.proofs.filter.pass.Tie as tie

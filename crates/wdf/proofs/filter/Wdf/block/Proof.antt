@@ -3,7 +3,6 @@ use borrow.Author.Needs.{needs}
 use mathlib.Core.Path.{sym, _∙_}
 use Rattle.blocks.proofs.Ways.{unlike, own, taken}
 use Rattle.wdf.specs.Calls.{number, answer, next, filter}
-use Rattle.wdf.proofs.Steps.{few}
 use Rattle.wdf.proofs.filter.Wdf.block.Statement.{statement}
 use Rattle.wdf.proofs.filter.Wdf.block.Tie as tie
 
@@ -24,8 +23,8 @@ accepted c = let after-z = c .before .before .before in after-z .before .before
 
 run-block-requires : tie.Need-run-block-requires
 run-block-requires c κs =
-    let e = accepted c in let k = e .before .refusal in let d = e .before .before in let a = d .before .args in
-    (few (a .self .sections) (a .self .architecture) (rw (k .ensures) at (e .if2 .left)), search needs, d .if1 .left)
+    let e = accepted c in let k = e .before .refusal in let d = e .before .before in
+    (rw (k .ensures) at (e .if2 .left), search needs, d .if1 .left)
 
 returns-3 : tie.Need-returns-3
 returns-3 c =

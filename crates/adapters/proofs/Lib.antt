@@ -1,0 +1,3 @@
+pub mod Adapters
+pub mod Halves
+pub mod Nearest
