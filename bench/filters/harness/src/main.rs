@@ -164,8 +164,12 @@ fn others(bench: &Bench, xs: &[i32]) {
     bench.row("modulator K 3", n, n, |y| proved::dsm(3, &us, y), |y| theirs::dsm::<3>(&us, y));
     bench.row("modulator K 8", n, n, |y| proved::dsm(8, &us, y), |y| theirs::dsm::<8>(&us, y));
     let a = -0x2345_6789;
+    bench.row("WDF, 1 section, A", n, n, |y| proved::wdf(1, 0xa, a, xs, y), |y| theirs::wdf::<1, 0xa>(a, xs, y));
     bench.row("WDF, 2 sections, A and C", n, n, |y| proved::wdf(2, 0xca, a, xs, y), |y| theirs::wdf::<2, 0xca>(a, xs, y));
     bench.row("WDF, 2 sections, B1 and C1", n, n, |y| proved::wdf(2, 0xfe, a, xs, y), |y| theirs::wdf::<2, 0xfe>(a, xs, y));
+    bench.row("WDF, 3 sections", n, n, |y| proved::wdf(3, 0xbad, a, xs, y), |y| theirs::wdf::<3, 0xbad>(a, xs, y));
+    bench.row("WDF, 4 sections", n, n, |y| proved::wdf(4, 0xcbad, a, xs, y), |y| theirs::wdf::<4, 0xcbad>(a, xs, y));
+    bench.row("WDF, 5 sections", n, n, |y| proved::wdf(5, 0xdcbad, a, xs, y), |y| theirs::wdf::<5, 0xdcbad>(a, xs, y));
     bench.row("WDF, 8 sections", n, n, |y| proved::wdf(8, 0xfe1d_cbad, a, xs, y), |y| theirs::wdf::<8, 0xfe1d_cbad>(a, xs, y));
     let fs: Vec<f64> = xs.iter().map(|x| *x as f64 / 2147483648.0).collect();
     let c = [0.25, 0.5, 0.25, 0.6, -0.3, 0.01, -0.4, 0.4];
