@@ -1,2 +1,3 @@
 pub mod StepCalls
 pub mod BlockCalls
+pub mod OneCell

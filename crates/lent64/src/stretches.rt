@@ -23,6 +23,12 @@ pub(crate) struct Numbers {
     pub hold: Word,
 }
 
+// What a stretch of a decimator's steps gives, as a step does: an output and the unsettled count that it found, or nothing.
+pub(crate) enum Gave {
+    Output(Word, usize),
+    Nothing,
+}
+
 // A block on lent arrays: the numbers after it, and how many low-rate samples it wrote or read.
 pub(crate) struct BlockEnd {
     pub numbers: Numbers,

@@ -139,6 +139,7 @@ fn main() {
     interpolators::<1, 1>(&bench, 1023, &xs);
     interpolators::<8, 8>(&bench, 0, &xs);
     interpolators::<3, 1>(&bench, 63, &xs[..256]);
+    bench.row("decimator (3,1,63), single steps on lent arrays", BLOCK, BLOCK, |y| proved::lent_steps(3, 1, 63, &xs, y), |y| theirs::steps::<3, 1>(63, &xs, y));
     bench.row("decimator (3,1,63), single steps", BLOCK, BLOCK, |y| proved::steps(3, 1, 63, &xs, y), |y| theirs::steps::<3, 1>(63, &xs, y));
     let lent = BLOCK / 64;
     bench.row("plain engine (3,1,63)", BLOCK, lent, |y| proved::fir(&xs, y), |y| {

@@ -3,6 +3,7 @@ extern "C" {
     fn bench_decimate(order: usize, delay: usize, rate: u32, x: *const i32, n: usize, y: *mut i32, m: usize);
     fn bench_fir(x: *const i32, n: usize, y: *mut i32, m: usize);
     fn bench_interpolate(order: usize, delay: usize, rate: u32, x: *const i32, n: usize, y: *mut i32, m: usize);
+    fn bench_lent_steps(order: usize, delay: usize, rate: u32, x: *const i32, n: usize, y: *mut i32, m: usize);
     fn bench_steps(order: usize, delay: usize, rate: u32, x: *const i32, n: usize, y: *mut i32, m: usize);
     fn bench_decimate64(order: usize, delay: usize, rate: u32, x: *const i64, n: usize, y: *mut i64, m: usize);
     fn bench_interpolate64(order: usize, delay: usize, rate: u32, x: *const i64, n: usize, y: *mut i64, m: usize);
@@ -89,6 +90,9 @@ pub fn clamp_wrap(x: &[i32], y: &mut [i32]) {
 }
 pub fn unwrapper(x: &[i32], y: &mut [i32]) {
     call!(bench_unwrapper(), x, y)
+}
+pub fn lent_steps(order: usize, delay: usize, rate: u32, x: &[i32], y: &mut [i32]) {
+    call!(bench_lent_steps(order, delay, rate), x, y)
 }
 pub fn steps(order: usize, delay: usize, rate: u32, x: &[i32], y: &mut [i32]) {
     call!(bench_steps(order, delay, rate), x, y)

@@ -1,25 +1,15 @@
 -- The constant is the delay: what holds with the one holds with the other.
 use borrow.Author.Needs.{needs}
 use mathlib.Core.Path.{_≡_, sym, subst}
-use Prim.Native.Nat.{ℕ, _≤_}
+use Prim.Native.Nat.{_≤_}
 use lib.ListN.{length}
 use Rattle.sums.specs.Runs.{needed}
 use Rattle.sums.proofs.Lent.{Ready, Ring, DecimateRun}
 use Rattle.lent.specs.Word.{wordOps}
-use Rattle.lent.specs.declared.stretches.Numbers.{Numbers}
 use Rattle.lent.specs.Inner.Apart.{figuresOf, apart, ringed}
+use Rattle.lent.proofs.OneCell.{delayed}
 use Rattle.lent.proofs.decimating.decimate_one_cell.Statement.{statement}
 use Rattle.lent.proofs.decimating.decimate_one_cell.Tie as tie
-
-abbrev delayed : Numbers → ℕ → Numbers
-delayed n d = record {
-  order = n .order;
-  delay = d;
-  rate = n .rate;
-  countdown = n .countdown;
-  unsettled = n .unsettled;
-  hold = n .hold;
-}
 
 decimate-stretches-requires : tie.Need-decimate-stretches-requires
 decimate-stretches-requires c κs =
