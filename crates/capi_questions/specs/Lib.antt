@@ -1,0 +1,2 @@
+-- Answers reads an answer as numbers.
+pub mod Answers

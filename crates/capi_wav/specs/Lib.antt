@@ -1,0 +1,2 @@
+-- Calls has what each call leaves and answers.
+pub mod Calls
