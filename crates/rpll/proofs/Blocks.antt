@@ -12,6 +12,7 @@ use Rattle.words.specs.Words.{wrap}
 use Rattle.blocks.specs.Scan.{scan, ends}
 use Rattle.blocks.specs.Blocks.{unless}
 use Rattle.blocks.specs.Verdicts.{verdictOf}
+use Rattle.blocks.specs.declared.Verdict.{Verdict}
 use Rattle.blocks.specs.declared.Verdict.the-variants.{Done, Refused}
 use Rattle.blocks.proofs.Turns as turns
 use Rattle.blocks.proofs.Ways as ways
@@ -106,3 +107,10 @@ module _ (c : RPLLConfig) (s : RPLL) (there : List Bool) (xs ys fs : List ℤ) w
     phases = p .1 ∙ came _ _ _ e;
     frequencies = p .2 ∙ came _ _ _ e;
   }
+
+-- two results that the block's promise allows are one
+pub settled : {c : RPLLConfig} {s t u : RPLL} {there : List Bool} {xs ys fs zs gs ws hs : List ℤ} {v w : Verdict}
+    → LoopBlocked c s there xs ys fs t v zs gs → LoopBlocked c s there xs ys fs u w ws hs
+    → (t ≡ u) × (v ≡ w) × (zs ≡ ws) × (gs ≡ hs)
+settled p q =
+    (p .state ∙ sym (q .state), p .verdict ∙ sym (q .verdict), p .phases ∙ sym (q .phases), p .frequencies ∙ sym (q .frequencies))
