@@ -23,7 +23,7 @@ i32 = signedOps w32
 
 -- A case as document 01 prints it: what goes in, then what comes out.
 pub data Figure : Type 0 where
-  -- from a state, inputs; outputs with their marks
+  -- from a state, inputs; outputs with the count that each is told
   decimator : State ℤ → List ℤ → List (Output ℤ) → Figure
   -- the program's input; its output
   program : List ℕ → List ℕ → Figure
