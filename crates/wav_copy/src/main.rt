@@ -5,7 +5,8 @@
 // at its end: until then the header's data size is taken for it, and where the pipe ends before or goes on, `bad`
 // stands behind the bytes that were there. That line is of odd length and the rest of even, so what was written is then no
 // recording: its length is not what its header says. What a read brings is written before the next read; a read or a write
-// that fails ends the program with nothing further written.
+// that fails ends the program with nothing further written, but a read that fails within the header is taken for the file's
+// end, 90.
 use libc::STDIN_FILENO;
 use libc::STDOUT_FILENO;
 use wav::header::Head;

@@ -4,7 +4,8 @@
 // A file's whole length is asked for before it is read, so a refused one gives its `bad` line alone. A pipe's is known only
 // at its end: until then the header's data size is taken for it, and where the pipe ends before or goes on, `bad` is
 // the last line, behind the lines of the samples that were there. No byte past the data size is taken for a sample. What a
-// read brings is written before the next read; a read or a write that fails ends the program with nothing further written.
+// read brings is written before the next read; a read or a write that fails ends the program with nothing further written, but
+// a read that fails within the header is taken for the file's end, 90.
 use libc::STDIN_FILENO;
 use libc::STDOUT_FILENO;
 use wav::header::Head;
