@@ -1,6 +1,9 @@
 // The example of README.md: a filter of order 3 at R = 4 runs, the encoder's plug is pulled and pushed back, the rate
 // is set anew, and of each block since then the outputs that may be believed are counted, and the encoder sample is named
 // that the first of them stands for.
+
+#![tactic(auto)]
+
 use blocks::Verdict;
 use cic::runs::{Wrote, settled_number, settled_part};
 use cic::state::Cic;

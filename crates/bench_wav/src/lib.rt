@@ -1,4 +1,7 @@
 // What bench/wav links beside the Rust: a part of a recording read, and one written, over slices.
+
+#![tactic(auto)]
+
 ghost use Rattle.std.specs.Prelude.{◌≡◌};
 ghost use Rattle.wav.specs.Samples.{read_part, read_slice, write_part, write_slice};
 

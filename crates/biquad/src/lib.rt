@@ -3,6 +3,9 @@
 // Every operation is rounded once, in the order written. Callers cite specs/Coefficients (makers, gain, offset),
 // specs/Forms (sums, clamp, states) and specs/Answers (refusals 41 and 42); proofs/Constants, ConstantBlocks,
 // Clamping and Steps say what the constants and the clamp do and that a block is its steps.
+
+#![tactic(auto)]
+
 pub mod biquad;
 pub mod biquad_clamp;
 pub mod direct_form1;

@@ -2,6 +2,9 @@
 // Port of `DirectForm1Wide` and `DirectForm1Dither` of the crate's iir/biquad.rs. Callers cite specs/Forms (a step by
 // document 01) and specs/Answers (every call by its number, state and answer). What the error feedback keeps stands in
 // crate dither_error.
+
+#![tactic(auto)]
+
 pub mod coefficients;
 pub mod dither;
 pub mod wide;

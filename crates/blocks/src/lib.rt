@@ -2,6 +2,8 @@
 // Callers cite `verdict_of` of specs/Verdicts, `scan` and `ends` of specs/Scan and `Blocked` of specs/Blocks;
 // their loops lean on proofs/Turns (a step a turn), proofs/Chains (a cell a turn) and proofs/Ways (how a call ends).
 
+#![tactic(auto)]
+
 // Whether a call was done, or the number of its refusal.
 #[derive(Drop)]
 pub enum Verdict {

@@ -1,5 +1,8 @@
 // Questions about a decimator's or interpolator's numbers, whatever its words, for C and Rust to link. Each answers the number of its refusal,
 // or 0, and is the one of the same name of the crate shape.
+
+#![tactic(auto)]
+
 ghost use Rattle.std.specs.Prelude.{◌≡◌};
 ghost use Rattle.sums.specs.State.{refusal_of};
 ghost use Rattle.sums.specs.Runs.{needed};

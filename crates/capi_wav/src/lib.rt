@@ -1,5 +1,8 @@
 // RIFF WAVE headers and samples in parts, for C and Rust to link. Each call answers the number of its refusal, or 0, and is the one of the
 // same name of the crate wav.
+
+#![tactic(auto)]
+
 ghost use Rattle.std.specs.Prelude.{◌≡◌};
 ghost use Rattle.capi_wav.specs.Calls.{verdict_number, verdict_or, head_answer, head_or, recording};
 ghost use Rattle.capi_wav.specs.Calls.{ReadsHeader, WritesHeader, ReadsPart, WritesPart};

@@ -4,6 +4,9 @@
 // specs/Answers here and specs/Answers of the crates lent and shape: `state_of` reads a `Cic` as the rules' state,
 // `cic_of` goes back, and each answer has one definition by number and value. A caller finds the answers of lent and
 // shape under `steps`, `questions` and `runs` as well.
+
+#![tactic(auto)]
+
 pub mod questions;
 pub mod runs;
 pub mod settling;

@@ -1,6 +1,9 @@
 // The modulator's outputs over given inputs (02, A14), for samples/noise.py. Standard input is words as oracle/README.md has
 // them: for each run the order, the number of inputs, and the inputs. Each run starts from zero; a line is an output and
 // the last accumulator after it.
+
+#![tactic(auto)]
+
 ghost use Rattle.std.specs.Prelude.{◌+◌, ◌<◌, ◌≤◌};
 
 use dsm::{Dsm, Output};

@@ -3,6 +3,9 @@
 // coefficient's bits in decimal on a line, or by `bad`, line number from 1 and refusal number, and then the program
 // stops. `answers_of` of crate coefficient_lines is what it answers to a whole input, worked out in parts.rt; here are the
 // reads and the writes. A read or a write that fails ends the program, and nothing further is written.
+
+#![tactic(auto)]
+
 mod answers;
 mod parts;
 

@@ -1,5 +1,8 @@
 // Runs the proved biquads over the Rust's stored answers (oracle/README.md, biquad) and prints what differs.
 // Lines of a step call the step, runs call the block.
+
+#![tactic(auto)]
+
 ghost use Rattle.std.specs.Prelude.{◌<◌};
 
 use biquad::biquad::Biquad;

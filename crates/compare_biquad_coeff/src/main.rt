@@ -1,5 +1,8 @@
 // Runs the proved pairs, makers, gain and offset of the biquad over the Rust's stored answers (oracle/README.md,
 // biquad_coeff) and prints what differs.
+
+#![tactic(auto)]
+
 ghost use Rattle.std.specs.Prelude.{◌<◌, ◌≤◌};
 
 use biquad::biquad::Biquad;

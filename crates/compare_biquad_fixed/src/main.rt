@@ -1,5 +1,8 @@
 // Runs the proved wide and dithered biquads over the Rust's stored answers (oracle/README.md, fixed) and prints
 // what differs.
+
+#![tactic(auto)]
+
 use biquad_fixed::coefficients::{Answer, Biquad, BiquadClamp};
 use biquad_fixed::dither::{DirectForm1Dither, DitherBlock, DitherStep};
 use biquad_fixed::wide::{DirectForm1Wide, WideBlock, WideStep};

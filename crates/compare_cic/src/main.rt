@@ -1,5 +1,8 @@
 // Runs the proved decimator and interpolator over the Rust's stored answers (oracle/README.md, cic) and prints what
 // differs: runs by steps and runs by blocks of drawn lengths, with the whole state after each.
+
+#![tactic(auto)]
+
 mod word;
 
 ghost use Rattle.std.specs.Prelude.{◌≤◌};

@@ -1,6 +1,9 @@
 // Runs the proved modulator over the Rust's stored answers (oracle/README.md, dsm) and prints what differs. The
 // crate's output is i8, so that it gives -128 for the 128 of K = 8 (01, 'The modulator'): these are counted, not
 // differing.
+
+#![tactic(auto)]
+
 use blocks::Verdict;
 use dsm::{Dsm, Output, OutputRange};
 use rust_answers::lines::{double, line, report, size, tally, unlike, unlike_words};

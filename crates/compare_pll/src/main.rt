@@ -1,4 +1,7 @@
 // Runs the proved loop over the Rust's stored answers (oracle/README.md, pll) and prints what differs.
+
+#![tactic(auto)]
+
 ghost use Rattle.std.specs.Prelude.{◌≤◌};
 
 use blocks::Verdict;

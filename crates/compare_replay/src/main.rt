@@ -1,5 +1,8 @@
 // Runs the table of cases on standard input (document 01, 'The replay program') through the proved replay, whole and
 // in parts of every size up to 70 bytes, and prints how many differ.
+
+#![tactic(auto)]
+
 ghost use Rattle.std.specs.Prelude.{◌≤◌, ◌<◌, length};
 
 use playback::driver::{Replay, replay_whole};

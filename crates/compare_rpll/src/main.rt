@@ -1,4 +1,7 @@
 // Runs the proved reciprocal loop over the Rust's stored answers (oracle/README.md, rpll) and prints what differs.
+
+#![tactic(auto)]
+
 use blocks::Verdict;
 use rpll::{Estimate, Processed, ProcessedBlock, RPLL, RPLLConfig, Timestamp};
 use rust_answers::lines::{double, line, report, unlike, unlike_words};

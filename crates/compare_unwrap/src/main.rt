@@ -1,5 +1,8 @@
 // Runs the proved phase words over the Rust's stored answers (oracle/README.md, unwrap) and prints what differs. The
 // crate clips a scaled word otherwise (02, A11): where that gives another number it is counted, not differing.
+
+#![tactic(auto)]
+
 ghost use Rattle.std.specs.Prelude.{◌≤◌};
 
 use rust_answers::lines::{double, line, report, unlike, unlike_double};

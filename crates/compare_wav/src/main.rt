@@ -1,6 +1,9 @@
 // Headers that sox wrote, each 44 bytes and its file's length in four more, read: what each tells, or its refusal; and the same with
 // a length of one more. The first two are of 16 bits and one channel; the others are of 24 and 32 bits, float, stereo, 8 bits, u-law and
 // big-endian (oracle/sox.py).
+
+#![tactic(auto)]
+
 ghost use Rattle.std.specs.Prelude.{◌≤◌};
 
 use libc::{STDIN_FILENO, STDOUT_FILENO};

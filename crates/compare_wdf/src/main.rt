@@ -1,5 +1,8 @@
 // Runs the proved adapters and filters over the Rust's stored answers (oracle/README.md, wdf) and prints what
 // differs.
+
+#![tactic(auto)]
+
 ghost use Rattle.std.specs.Prelude.{◌≤◌};
 
 use rust_answers::lines::{double, line, report, size, unlike, unlike_double, unlike_words};

@@ -2,6 +2,9 @@
 // Port of the crate's dsm.rs, with outputs and retained values in i16, which holds the output 128 of K = 8.
 // Callers cite specs/Modulator (a step) and specs/Calls (every call by its number, state and answer). What a run of calls
 // takes in and gives out stands in crate shaping.
+
+#![tactic(auto)]
+
 ghost use Rattle.std.specs.Prelude.{◌≡◌, true, ◌+◌, ◌-◌, ◌/◌, ◌%◌, ◌^◌, ◌<◌, ◌≤◌, length, take, pos, ◌+ℤ◌, ◌-ℤ◌};
 ghost use Rattle.std.specs.Int.Signed.{mag};
 ghost use Rattle.dsm.specs.Modulator.{inside, inside_from};

@@ -2,6 +2,9 @@
 // 190 inputs. All sums are modulo 2^32. `Fir::new` starts from zeros, `decimate` takes one input, `decimate_block` a
 // slice of them; no state is bad. Callers cite specs/Calls (each answer), which leans on specs/Ways (the table's rule)
 // and specs/Weights (what an output is). specs/Equal says that the decimator's own calls give the same outputs.
+
+#![tactic(auto)]
+
 ghost use Rattle.std.specs.Prelude.{◌≡◌, ◌<◌, ◌≤◌, ◌^◌, pos, length, get_or, take};
 ghost use Rattle.sums.specs.Runs.{needed, over};
 ghost use Rattle.fir.specs.Ways.{Table};

@@ -1,6 +1,9 @@
 // From a store to filters: each record of a store of form 1 is made into its filter by `Cic::new` or `Wdf::from_form1`, which
 // takes the retired adapters e and f, too, and the filter is given a step of 1000. Prints each record's name and the first
 // output.
+
+#![tactic(auto)]
+
 use cic::state::Cic;
 use cic::steps::Out;
 use entries::settings::{Entry, Kind};

@@ -1,5 +1,8 @@
 // A number's hex digits as letters, lower case, the first first: what `hex_word` of crate text reads.
 // Callers cite `letters_of` of specs/Letters; proofs/Spelling has the laws: the digits of a number read as it, and no others do.
+
+#![tactic(auto)]
+
 ghost use Rattle.std.specs.Prelude.{◌≡◌, ◌%◌};
 ghost use Rattle.hex_letters.specs.Letters.{letter_of, letters_of};
 

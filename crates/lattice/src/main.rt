@@ -1,6 +1,9 @@
 // A lattice filter of order 3 from its poles: a Butterworth low pass with its corner at a tenth of the sampling rate.
 // Prints the three coefficients' bits, then the answer to a step of 2^24, an output on a line: samples/draw_step.py
 // draws it. The filter is half the sum of two all-pass chains, one of a section and one of two.
+
+#![tactic(auto)]
+
 use libc::STDOUT_FILENO;
 use wdf::filter::Wdf;
 use wdf::quantize::Quantized;

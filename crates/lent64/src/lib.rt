@@ -1,6 +1,9 @@
 // Document 01's decimator and interpolator of a caller that keeps the arrays: `LentCic` is a state's numbers, and its steps and blocks take the
 // arrays lent. Words are those that src/word.rt and specs/Word name. The promises cite the rules of the crate sums (specs/Calls, Counted and
 // Runs there) of the state that specs/Reading's `counted` puts together, through specs/Answers here and in the crate shape.
+
+#![tactic(auto)]
+
 mod cascade;
 mod decimating;
 mod interpolating;

@@ -2,6 +2,9 @@
 // Callers cite `replay` of specs/Replays, the whole output as a function of the whole input; `fed_of`, `bytes_of` and
 // `finish_bytes` of specs/Places for an input in parts; `Writes` and `PartFed` there say what a call answers and leaves in
 // the lent slice. `parts` of proofs/Wholes says that the parts come to the whole. specs/Inner serves private functions.
+
+#![tactic(auto)]
+
 pub mod answers;
 pub mod driver;
 mod samples;

@@ -1,5 +1,8 @@
 // The phase-locked loop: it follows the phase and frequency of its input and settles to their complement.
 // Port of the crate's pll.rs, without the coefficients from floats. Callers cite specs/Loops.
+
+#![tactic(auto)]
+
 ghost use Rattle.std.specs.Prelude.{◌≡◌, length};
 ghost use Rattle.std.specs.Int.{w64};
 ghost use Rattle.words.specs.Words.{wrap};

@@ -1,6 +1,9 @@
 // The recorder's program: records from standard input, answers to standard output (docs/RECORDER.md). What it works out is the
 // libraries' (crates/recorder, crates/desk); here are runs of words as blocks, the answers' text, the reads and the writes. What a read brings is answered before the next read.
 // A read or a write that fails ends the program, and nothing further is written.
+
+#![tactic(auto)]
+
 mod parts;
 
 ghost use Rattle.std.specs.Prelude.{◌<◌};

@@ -2,4 +2,7 @@
 // is pulled and pushed back, changes of rate, and states saved as text.
 // Callers cite `Calls` of specs for what each call gives, and `AfterPush` and its sisters of specs/Traces for what the
 // outputs are.
+
+#![tactic(auto)]
+
 pub mod recorder;

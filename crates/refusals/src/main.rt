@@ -1,5 +1,8 @@
 // Prints document 01's bench figures beyond T1 to T10, and every number of its refusal table with a call that is
 // refused by it and a neighbour that is not.
+
+#![tactic(auto)]
+
 mod counts;
 mod figures;
 mod fractions;

@@ -1,6 +1,9 @@
 // The replay program (document 01): records from standard input, answers to standard output. What it works out is the
 // library's (crates/playback); here are the reads and the writes. What a read brings is answered before the next read.
 // A read or a write that fails ends the program, and nothing further is written.
+
+#![tactic(auto)]
+
 ghost use Rattle.std.specs.Prelude.{◌≡◌, ◌≤◌, ◌<◌, length};
 ghost use Rattle.playback.specs.Places.{place_of, replay_of, fed_of, bytes_of};
 

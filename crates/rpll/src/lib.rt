@@ -1,5 +1,8 @@
 // The reciprocal phase-locked loop: from the timestamps of a reference, the phase and frequency of its own steps
 // against that reference, 2^32 to a turn. Port of the crate's rpll.rs. Callers cite specs/Loops.
+
+#![tactic(auto)]
+
 ghost use Rattle.std.specs.Prelude.{◌≡◌, ◌+◌, ◌<◌, ◌≤◌, length};
 ghost use Rattle.blocks.specs.Scan.{scan, ends};
 ghost use Rattle.blocks.specs.declared.Verdict.TheVariants.{Refused};

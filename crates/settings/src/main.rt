@@ -7,6 +7,9 @@
 // Of a longer input the first 16,384 bytes are taken: line 66 ends within the first 10,471 or is too long, and no line
 // behind it is looked at. `checked`, `copied` and `move_answer` of specs/Answers say what is written; here are the reads
 // and the writes. A read that fails ends the program with nothing written.
+
+#![tactic(auto)]
+
 mod answers;
 
 ghost use Rattle.std.specs.Prelude.{◌≤◌, ◌<◌, length};

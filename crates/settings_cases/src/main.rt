@@ -3,6 +3,9 @@
 // number; where the text opens form 2, by what the reader of form 2 finds, too, and by what the move back answers. A text
 // that was read is written again and must be the same, and one of form 1 is told where it isn't the same forth and back.
 // Then lists that no text can hold are written, and stores are moved into short slices.
+
+#![tactic(auto)]
+
 ghost use Rattle.std.specs.Prelude.{◌<◌, length};
 
 use entries::settings::{Entry, Kind, Name, Settings};

@@ -1,6 +1,9 @@
 // Reads a recording in the replay's records from standard input, gives the samples of its `x` lines to the plain engine
 // and to the decimator of order 3, M = 1, R = 64, and prints the outputs that differ and how many there are. Once as
 // recorded and once times 3,000,000, where sums wrap; each time by steps, by blocks, and by blocks beside steps.
+
+#![tactic(auto)]
+
 mod decimator;
 mod engine;
 

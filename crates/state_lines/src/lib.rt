@@ -1,5 +1,8 @@
 // A recorder's state written as a line of text (docs/RECORDER.md): `c`, 79 words and their check value, each as 16 hex digits, then the newline:
 // 1282 bytes. Callers cite `state_line` of specs/States; `SavedResumes` of specs/Laws says that a state that is saved can be resumed.
+
+#![tactic(auto)]
+
 ghost use Rattle.std.specs.Prelude.{◌≡◌, map, ◌+◌, ◌*◌, ◌≤◌, length};
 ghost use Rattle.std.specs.Int.{w64};
 ghost use Rattle.words.specs.Words.{word};

@@ -3,3 +3,5 @@
 //
 // A promise cites specs/State, specs/Calls and specs/Runs. What follows from them, also after a pulled plug, stands
 // in specs/Demands. Contracts of private functions over lent arrays cite proofs/Lent, which no promise does.
+
+#![tactic(auto)]

@@ -7,6 +7,9 @@
 // recording: its length is not what its header says. What a read brings is written before the next read; a read or a write
 // that fails ends the program with nothing further written, but a read that fails within the header is taken for the file's
 // end, 90.
+
+#![tactic(auto)]
+
 ghost use Rattle.std.specs.Prelude.{◌<◌, ◌≤◌};
 
 use libc::{STDIN_FILENO, STDOUT_FILENO};

@@ -1,5 +1,8 @@
 // Between a recording and the replay program: samples as its lines, its answer's lines read, its outputs as samples. Callers
 // cite `input_lines` of specs/Lines, `line_in` of specs/Answers and `divided_of` of specs/Gain.
+
+#![tactic(auto)]
+
 pub mod answers;
 
 ghost use Rattle.std.specs.Prelude.{◌≡◌, ◌++◌, ◌+◌, ◌*◌, ◌≤◌, length, drop};

@@ -11,6 +11,9 @@
 // A header tells the size of the data that follow, which is known at the end: so the output is a file, empty at first, that
 // begins with 44 zeros until all is read and no refusal is left. Only then does it get its header. Where anything is refused it is
 // emptied and holds the `bad` line alone. An output that can't be sought, or isn't empty, is 90 at line 0.
+
+#![tactic(auto)]
+
 ghost use Rattle.std.specs.Prelude.{◌<◌};
 
 use blocks::Verdict;
