@@ -39,7 +39,7 @@ def read(p):
 
 
 def is_walk(p):
-    return os.path.basename(p) in ("Proof.antt", "Invariants.antt", "Answers.antt")
+    return "/specs/" not in p and os.path.basename(p) in ("Proof.antt", "Invariants.antt", "Answers.antt")
 
 
 def declared(text):

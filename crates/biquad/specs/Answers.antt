@@ -19,19 +19,19 @@ answer_of zero v = Value v
 answer_of (suc k) v = Refused (suc k)
 
 -- 41: lower limit above upper, or a NaN limit
-abbrev pub limitNumber : BiquadClamp → ℕ
-limitNumber c = cond (lt c.max c.min || is_nan c.min || is_nan c.max) 41 0
+abbrev pub limit_number : BiquadClamp → ℕ
+limit_number c = cond (lt c.max c.min || is_nan c.min || is_nan c.max) 41 0
 
 -- 42: forward gain equal to zero, which -0.0 is too and a NaN is not
-abbrev pub zeroGainNumber : BiquadClamp → ℕ
-zeroGainNumber c = cond (eq (forward_gain (coeffs c)) nought) 42 0
+abbrev pub zero_gain_number : BiquadClamp → ℕ
+zero_gain_number c = cond (eq (forward_gain (coeffs c)) nought) 42 0
 
 abbrev pub offset_of : BiquadClamp → Answer
-offset_of c = answer_of (zeroGainNumber c) (c.u ⊘ forward_gain (coeffs c))
+offset_of c = answer_of (zero_gain_number c) (c.u ⊘ forward_gain (coeffs c))
 
 -- a refused step hands back the given state
 abbrev pub clamped1 : BiquadClamp → DirectForm1 → Float → Clamped1
-clamped1 c s x = record { state = unless (limitNumber c) s (onward1 c s x); out = answer_of (limitNumber c) (held1 c s x) }
+clamped1 c s x = record { state = unless (limit_number c) s (onward1 c s x); out = answer_of (limit_number c) (held1 c s x) }
 
 abbrev pub clamped2 : BiquadClamp → DirectForm2Transposed → Float → Clamped2
-clamped2 c s x = record { state = unless (limitNumber c) s (onward2 c s x); out = answer_of (limitNumber c) (held2 c s x) }
+clamped2 c s x = record { state = unless (limit_number c) s (onward2 c s x); out = answer_of (limit_number c) (held2 c s x) }

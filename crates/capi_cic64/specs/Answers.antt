@@ -13,35 +13,35 @@ use Rattle.lent64.specs.declared.steps.Out.TheVariants as Out
 use Rattle.lent64.specs.declared.steps.Interpolated.{Interpolated}
 use Rattle.lent64.specs.declared.steps.Interpolated.TheVariants as Interpolated
 
-unfoldable pub verdictNumber : Verdict → ℕ
-verdictNumber Verdict.Done = 0
-verdictNumber (Verdict.Refused k) = k
+unfoldable pub verdict_number : Verdict → ℕ
+verdict_number Verdict.Done = 0
+verdict_number (Verdict.Refused k) = k
 
-unfoldable pub outNumber : Out → ℕ
-outNumber (Out.Given y) = cond (eqb y.told 0) 1 2
-outNumber Out.Nothing = 0
-outNumber (Out.Refused k) = k
+unfoldable pub out_number : Out → ℕ
+out_number (Out.Given y) = cond (eqb y.told 0) 1 2
+out_number Out.Nothing = 0
+out_number (Out.Refused k) = k
 
-unfoldable pub wroteNumber : Wrote → ℕ
-wroteNumber (Wrote.Outputs w) = 0
-wroteNumber (Wrote.Refused k) = k
+unfoldable pub wrote_number : Wrote → ℕ
+wrote_number (Wrote.Outputs w) = 0
+wrote_number (Wrote.Refused k) = k
 
-unfoldable pub wroteOr : Wrote → Written → Written
-wroteOr (Wrote.Outputs w) old = w
-wroteOr (Wrote.Refused k) old = old
+unfoldable pub wrote_or : Wrote → Written → Written
+wrote_or (Wrote.Outputs w) old = w
+wrote_or (Wrote.Refused k) old = old
 
-unfoldable pub readNumber : Read → ℕ
-readNumber (Read.Inputs n) = 0
-readNumber (Read.Refused k) = k
+unfoldable pub read_number : Read → ℕ
+read_number (Read.Inputs n) = 0
+read_number (Read.Refused k) = k
 
-unfoldable pub readOr : Read → ℕ → ℕ
-readOr (Read.Inputs n) old = n
-readOr (Read.Refused k) old = old
+unfoldable pub read_or : Read → ℕ → ℕ
+read_or (Read.Inputs n) old = n
+read_or (Read.Refused k) old = old
 
-unfoldable pub interpolatedNumber : Interpolated → ℕ
-interpolatedNumber (Interpolated.Value y) = 0
-interpolatedNumber (Interpolated.Refused k) = k
+unfoldable pub interpolated_number : Interpolated → ℕ
+interpolated_number (Interpolated.Value y) = 0
+interpolated_number (Interpolated.Refused k) = k
 
-unfoldable pub interpolatedOr : Interpolated → ℤ → ℤ
-interpolatedOr (Interpolated.Value y) old = y
-interpolatedOr (Interpolated.Refused k) old = old
+unfoldable pub interpolated_or : Interpolated → ℤ → ℤ
+interpolated_or (Interpolated.Value y) old = y
+interpolated_or (Interpolated.Refused k) old = old

@@ -9,9 +9,9 @@ use Rattle.dsm.specs.declared.Dsm.{Dsm}
 use Rattle.dsm.specs.Calls.{run_number}
 use Rattle.dsm.specs.Modulator.{modulator_out, next_of}
 
-unfoldable pub verdictNumber : Verdict → ℕ
-verdictNumber Done = 0
-verdictNumber (Refused k) = k
+unfoldable pub verdict_number : Verdict → ℕ
+verdict_number Done = 0
+verdict_number (Refused k) = k
 
 -- The modulator's block on s, inputs xs and lent slice ys leaves the state t and zs in the slice, and answers r.
 pub record Modulates (s : Dsm) (xs : List ℕ) (ys : List ℤ) (t : Dsm) (zs : List ℤ) (r : ℕ) : Type 0 where

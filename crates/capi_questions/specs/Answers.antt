@@ -6,29 +6,29 @@ use Rattle.shape.specs.declared.questions.Told.TheVariants as Told
 use Rattle.shape.specs.declared.questions.Fitting.{Fitting}
 use Rattle.shape.specs.declared.questions.Fitting.TheVariants as Fitting
 
-unfoldable pub toldNumber : Told → ℕ
-toldNumber (Told.Number v) = 0
-toldNumber (Told.Refused k) = k
+unfoldable pub told_number : Told → ℕ
+told_number (Told.Number v) = 0
+told_number (Told.Refused k) = k
 
-unfoldable pub toldOr : Told → ℕ → ℕ
-toldOr (Told.Number v) old = v
-toldOr (Told.Refused k) old = old
+unfoldable pub told_or : Told → ℕ → ℕ
+told_or (Told.Number v) old = v
+told_or (Told.Refused k) old = old
 
-unfoldable pub fittingNumber : Fitting → ℕ
-fittingNumber (Fitting.Fits b) = 0
-fittingNumber (Fitting.Refused k) = k
+unfoldable pub fitting_number : Fitting → ℕ
+fitting_number (Fitting.Fits b) = 0
+fitting_number (Fitting.Refused k) = k
 
 -- 1 for yes, 0 for no
-unfoldable pub fittingOr : Fitting → ℕ → ℕ
-fittingOr (Fitting.Fits true) old = 1
-fittingOr (Fitting.Fits false) old = 0
-fittingOr (Fitting.Refused k) old = old
+unfoldable pub fitting_or : Fitting → ℕ → ℕ
+fitting_or (Fitting.Fits true) old = 1
+fitting_or (Fitting.Fits false) old = 0
+fitting_or (Fitting.Refused k) old = old
 
 -- The question answered as t, where the value stood as v and stands as w, answers r.
 pub record Tells (t : Told) (v w r : ℕ) : Type 0 where
-  pub answer : r ≡ toldNumber t
-  pub value : w ≡ toldOr t v
+  pub answer : r ≡ told_number t
+  pub value : w ≡ told_or t v
 
 pub record Fits (t : Fitting) (v w r : ℕ) : Type 0 where
-  pub answer : r ≡ fittingNumber t
-  pub value : w ≡ fittingOr t v
+  pub answer : r ≡ fitting_number t
+  pub value : w ≡ fitting_or t v

@@ -6,7 +6,7 @@ use Rattle.shape.specs.Answers.{block_wrote, block_read}
 use Rattle.lent.specs.declared.steps.Sample.{Sample}
 use Rattle.lent.specs.Answers.{step_out, rise_out}
 pub use Rattle.lent.specs.Answers.{answer_output, sample_of}
-unfoldable pub use Rattle.lent.specs.Answers.{out_of, interpolatedOf}
+unfoldable pub use Rattle.lent.specs.Answers.{out_of, interpolated_of}
 use Rattle.cic.specs.Word.{word_ops}
 use Rattle.cic.specs.declared.state.Cic.{Cic}
 use Rattle.cic.specs.declared.state.Made.{Made}
@@ -21,23 +21,23 @@ abbrev pub made_of : ℕ → Counted ℤ → Made
 made_of number c = record { state = cic_of c; verdict = verdict_of number }
 
 -- The decimator's step.
-abbrev pub steppedOf : Cic → ℤ → Stepped
-steppedOf s x = record { state = cic_of (take_state word_ops (counted_of s) x); out = step_out (counted_of s) x }
+abbrev pub stepped_of : Cic → ℤ → Stepped
+stepped_of s x = record { state = cic_of (take_state word_ops (counted_of s) x); out = step_out (counted_of s) x }
 
 -- The interpolator's step, with a sample or with none.
-abbrev pub risenOf : Cic → Sample → Risen
-risenOf s x = record { state = cic_of (rise_counted word_ops (counted_of s) (sample_of x)); out = rise_out (counted_of s) (sample_of x) }
+abbrev pub risen_of : Cic → Sample → Risen
+risen_of s x = record { state = cic_of (rise_counted word_ops (counted_of s) (sample_of x)); out = rise_out (counted_of s) (sample_of x) }
 
 -- The decimator's block.
-abbrev pub decimatedOf : Cic → List ℤ → List ℤ → Decimated
-decimatedOf s xs out = record {
+abbrev pub decimated_of : Cic → List ℤ → List ℤ → Decimated
+decimated_of s xs out = record {
   state = cic_of (block_state word_ops (counted_of s) xs out);
   wrote = block_wrote word_ops (counted_of s) xs out;
 }
 
 -- The interpolator's block.
-abbrev pub filledOf : Cic → List ℤ → List ℤ → Filled
-filledOf s xs out = record {
+abbrev pub filled_of : Cic → List ℤ → List ℤ → Filled
+filled_of s xs out = record {
   state = cic_of (fill_counted word_ops (counted_of s) xs out);
   read = block_read (state_of s) xs out;
 }

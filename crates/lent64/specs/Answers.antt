@@ -13,25 +13,25 @@ use Rattle.lent64.specs.declared.steps.Interpolated.{Interpolated}
 use Rattle.lent64.specs.declared.steps.Interpolated.TheVariants as Interpolated
 
 -- The decimator's step: one output with the count it is told and its input's number, or nothing at all.
-abbrev pub answerOutput : Numbered ℤ → answer.Output
-answerOutput y = record { value = y.value; told = y.told; number = y.number }
+abbrev pub answer_output : Numbered ℤ → answer.Output
+answer_output y = record { value = y.value; told = y.told; number = y.number }
 
 unfoldable pub out_of : ℕ → Option (Numbered ℤ) → Out
-out_of zero (some y) = Out.Given (answerOutput y)
+out_of zero (some y) = Out.Given (answer_output y)
 out_of zero none = Out.Nothing
 out_of (suc k) y = Out.Refused (suc k)
 
-abbrev pub stepOut : Counted ℤ → ℤ → Out
-stepOut c x = out_of (take_number c 1) (take_given word_ops c x)
+abbrev pub step_out : Counted ℤ → ℤ → Out
+step_out c x = out_of (take_number c 1) (take_given word_ops c x)
 
 -- The interpolator's step, with a sample or with none.
-abbrev pub sampleOf : Sample → Option ℤ
-sampleOf (Sample.Given x) = some x
-sampleOf Sample.Missing = none
+abbrev pub sample_of : Sample → Option ℤ
+sample_of (Sample.Given x) = some x
+sample_of Sample.Missing = none
 
-unfoldable pub interpolatedOf : ℕ → ℤ → Interpolated
-interpolatedOf zero y = Interpolated.Value y
-interpolatedOf (suc k) y = Interpolated.Refused (suc k)
+unfoldable pub interpolated_of : ℕ → ℤ → Interpolated
+interpolated_of zero y = Interpolated.Value y
+interpolated_of (suc k) y = Interpolated.Refused (suc k)
 
-abbrev pub riseOut : Counted ℤ → Option ℤ → Interpolated
-riseOut c x = interpolatedOf (rise_number c.state x) (rise_given word_ops c.state x)
+abbrev pub rise_out : Counted ℤ → Option ℤ → Interpolated
+rise_out c x = interpolated_of (rise_number c.state x) (rise_given word_ops c.state x)

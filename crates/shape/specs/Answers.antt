@@ -14,18 +14,18 @@ use Rattle.shape.specs.declared.runs.Wrote.TheVariants as Wrote
 use Rattle.shape.specs.declared.runs.Read.{Read}
 use Rattle.shape.specs.declared.runs.Read.TheVariants as Read
 
-unfoldable pub toldOf : ℕ → ℕ → Told
-toldOf zero v = Told.Number v
-toldOf (suc k) v = Told.Refused (suc k)
+unfoldable pub told_of : ℕ → ℕ → Told
+told_of zero v = Told.Number v
+told_of (suc k) v = Told.Refused (suc k)
 
-unfoldable pub fittingOf : ℕ → Bool → Fitting
-fittingOf zero b = Fitting.Fits b
-fittingOf (suc k) b = Fitting.Refused (suc k)
+unfoldable pub fitting_of : ℕ → Bool → Fitting
+fitting_of zero b = Fitting.Fits b
+fitting_of (suc k) b = Fitting.Refused (suc k)
 
 -- The decimator's block answers the count written and, of its first output, the count told and the input's number.
-unfoldable pub wroteOf : ℕ → ℕ → ℕ → ℕ → Wrote
-wroteOf zero count told number = Wrote.Outputs (record { count = count; told = told; number = number })
-wroteOf (suc k) count told number = Wrote.Refused (suc k)
+unfoldable pub wrote_of : ℕ → ℕ → ℕ → ℕ → Wrote
+wrote_of zero count told number = Wrote.Outputs (record { count = count; told = told; number = number })
+wrote_of (suc k) count told number = Wrote.Refused (suc k)
 
 -- The interpolator's block answers the count of inputs read.
 unfoldable pub read_of : ℕ → ℕ → Read
@@ -40,14 +40,14 @@ written_of (suc k) unsettled inputs countdown =
     record { count = suc k; told = unsettled; number = (inputs + (countdown + 1)) % 2 ^ 64 }
 
 -- What the block of a state answers.
-abbrev pub blockWrote : {A : Type 0} → Ops A → Counted A → List A → List A → Wrote
-blockWrote o c xs out =
+abbrev pub block_wrote : {A : Type 0} → Ops A → Counted A → List A → List A → Wrote
+block_wrote o c xs out =
     let ys = taken_outputs o c xs in
-    wroteOf (block_number c xs out) (needed (length xs) c.state.countdown c.state.rate) (first_told (plain ys)) (first_number ys)
+    wrote_of (block_number c xs out) (needed (length xs) c.state.countdown c.state.rate) (first_told (plain ys)) (first_number ys)
 
 abbrev pub block_read : {A : Type 0} → State A → List A → List A → Read
 block_read s xs out = read_of (fill_number s xs out) (needed (length out) s.countdown s.rate)
 
 -- The place after `at` in a ring of m cells: the first after the last.
-unfoldable pub nextPlace : ℕ → ℕ → ℕ
-nextPlace at m = cond (nat_lt (suc at) m) (suc at) 0
+unfoldable pub next_place : ℕ → ℕ → ℕ
+next_place at m = cond (nat_lt (suc at) m) (suc at) 0
