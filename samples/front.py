@@ -69,7 +69,7 @@ def build():
         raise Failed("the program is to be built, and the Rattle toolchain's `rt` is not in PATH")
     names, done, began, said = needed(), set(), time.monotonic(), time.monotonic()
     say("proving and building the program with `tools/build replay`: %d crates, 3 to 6 minutes from nothing on two cores" % len(names))
-    run = subprocess.Popen(["rt", "check", "replay"], cwd=ROOT, stdin=subprocess.DEVNULL, stdout=subprocess.PIPE, stderr=subprocess.STDOUT)
+    run = subprocess.Popen([os.path.join(ROOT, "tools", "build"), "replay"], cwd=ROOT, stdin=subprocess.DEVNULL, stdout=subprocess.PIPE, stderr=subprocess.STDOUT)
     last, part = collections.deque(maxlen=12), b""
     while True:
         ready = select.select([run.stdout], [], [], 15)[0]
