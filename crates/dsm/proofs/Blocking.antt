@@ -1,5 +1,4 @@
 -- Where the order is no refusal, a block's promise is the one that all one-to-one blocks share.
-use mathlib.Core.Path.{◌≡◌}
 use mathlib.Core.List.{List}
 use Prim.Native.Nat.{ℕ, ◌≤◌}
 use borrow.Author.Tests.{le-ltb}

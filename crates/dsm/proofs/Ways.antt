@@ -11,7 +11,6 @@ use Rattle.blocks.specs.Verdicts.{verdict_of}
 use Rattle.blocks.proofs.Ways.{refused, kept}
 use Rattle.dsm.specs.declared.Dsm.{Dsm}
 use Rattle.dsm.specs.declared.Output.{Output}
-use Rattle.dsm.specs.declared.Output.TheVariants as Output
 use Rattle.dsm.specs.declared.OutputRange.TheVariants as OutputRange
 use Rattle.dsm.specs.Modulator.{modulator_out, least, greatest}
 use Rattle.dsm.specs.Calls.{state_number, run_number, output_at, range_at, Steps, Runs}

@@ -9,9 +9,7 @@ use Rattle.dsm.specs.declared.Dsm.{Dsm}
 use Rattle.dsm.specs.declared.Made.{Made}
 use Rattle.dsm.specs.declared.Stepped.{Stepped}
 use Rattle.dsm.specs.declared.Output.{Output}
-use Rattle.dsm.specs.declared.Output.TheVariants as Output
 use Rattle.dsm.specs.declared.OutputRange.{OutputRange}
-use Rattle.dsm.specs.declared.OutputRange.TheVariants as OutputRange
 use Rattle.dsm.specs.Modulator.{modulator_out, next_of, inside_from, least, greatest, InRange}
 
 -- 30: modulator order above 8. 32: a retained carry out of range, of the K - 1 used. The tests run in ascending number.

@@ -20,7 +20,6 @@ use Rattle.blocks.specs.Scan.{scan, ends}
 use Rattle.dsm.specs.declared.Dsm.{Dsm}
 use Rattle.dsm.specs.declared.Stepped.{Stepped}
 use Rattle.dsm.specs.declared.Output.{Output}
-use Rattle.dsm.specs.declared.Output.TheVariants as Output
 use Rattle.dsm.specs.Modulator.{modulator_out, next_of, inside, inside_from}
 use Rattle.dsm.specs.Calls.{zeros_of, modulator_of, state_number, run_number, output_at, modulator_step}
 use Rattle.shaping.specs.Totals.{modulated, modulator_after}

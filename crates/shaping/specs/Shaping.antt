@@ -6,7 +6,6 @@ use Rattle.dsm.specs.declared.Dsm.{Dsm}
 use Rattle.dsm.specs.declared.Made.{Made}
 use Rattle.dsm.specs.declared.Stepped.{Stepped}
 use Rattle.dsm.specs.declared.Output.{Output}
-use Rattle.dsm.specs.declared.Output.TheVariants as Output
 use Rattle.dsm.specs.Calls.{modulator_of, Steps, Runs}
 use Rattle.shaping.specs.Totals.{modulated, modulator_after}
 

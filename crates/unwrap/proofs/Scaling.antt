@@ -3,7 +3,7 @@
 use mathlib.Core.Path.{◌≡◌, refl, sym, ap, ◌∙◌}
 use mathlib.Core.Bool.{false}
 use Prim.Native.Nat.{ℕ, zero, suc, ◌+◌, ◌-◌, ◌*◌, ◌/◌, ◌%◌, ◌^◌, ◌<◌, ◌≤◌}
-use native.Mathlib.Nat.{mod-eq_of_lt, mul_assoc, div-lt_iff_lt-mul, mul-le-mul_left, mul-le-mul_right, zero-mul}
+use native.Mathlib.Nat.{mod-eq_of_lt, mul_assoc, div-lt_iff_lt-mul, mul-le-mul_left, zero-mul}
 use native.Mathlib.Omega.{arith}
 use lib.Pow.{pow_pos, pow-add, pow_mono}
 use lib.IntN.{ℤ, pos, negsuc, neg_ℤ, ◌+ℤ◌, ◌*ℤ◌}

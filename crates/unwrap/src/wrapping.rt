@@ -5,7 +5,7 @@ ghost use Rattle.unwrap.specs.Phases.{sign_of, joined, difference_of};
 use words::signed::sub_i32;
 
 // The direction of a wrap.
-#[derive(Drop)]
+#[derive(Clone, Copy)]
 pub enum Wrap {
     Negative,
     None,

@@ -10,5 +10,5 @@ use Rattle.dsm.proofs.bit.Tie as tie
 returns : tie.Need-returns
 returns c = let h : c.args.d % 2 < 2 ^ 15 = omega arith in to_z_pos w16 (c.args.d % 2) h
 
-pub bit-spec : {M : Type 1} → statement M
-bit-spec = tie.close (tie.spec (λ c. search rules) returns)
+pub bit_spec : {M : Type 1} → statement M
+bit_spec = tie.close (tie.spec (λ c. search rules) returns)

@@ -13,7 +13,7 @@ use Rattle.dsm.proofs.joined.Statement.{statement}
 use Rattle.dsm.proofs.joined.Tie as tie
 
 carry-read : (c : tie.After-bit) → to_z w16 (of_z w16 c.bit.result) ≡ pos (c.before.args.d % 2)
-carry-read c = read w16 c.bit.result c.bit.type-inv ∙ c.bit.ensures
+carry-read c = read w16 c.bit.result c.bit.type_inv ∙ c.bit.ensures
 
 sum_fits : (c : tie.After-bit) → SFits w16 (pos (c.before.args.d % 2) +ℤ c.before.args.y)
 sum_fits c = let h = mag_add (pos (c.before.args.d % 2)) c.before.args.y in record { sfits = omega arith }
@@ -24,10 +24,10 @@ all-fits c =
     let k = mag_minus (pos (c.before.args.d % 2) +ℤ c.before.args.y) c.before.args.retained in
     record { sfits = omega arith }
 
-add-result : tie.Need-overflow-add-result
+add-result : tie.Need-overflow_add-result
 add-result c = rw (carry-read c, to_z-of_z w16 c.before.args.y c.before.ranges.y) (sum_fits c)
 
-sub-result : tie.Need-overflow-sub-result
+sub-result : tie.Need-overflow_sub-result
 sub-result c =
     let s = c.before in
     rw (
@@ -49,5 +49,5 @@ returns c =
       to_z-of_z w16 (pos (s.args.d % 2) +ℤ s.args.y -ℤ s.args.retained) (all-fits c),
     )
 
-pub joined-spec : {M : Type 1} → statement M
-joined-spec = tie.close (tie.spec (λ c κs. search rules) add-result sub-result returns)
+pub joined_spec : {M : Type 1} → statement M
+joined_spec = tie.close (tie.spec (λ c κs. search rules) add-result sub-result returns)

@@ -16,11 +16,11 @@ small c = pow_mono {j = 7} c.requires
 whole : (c : tie.Start) → 1 * 2 ^ c.args.j % 2 ^ 32 ≡ 2 ^ c.args.j
 whole c = let h = small c in let e : 1 * 2 ^ c.args.j ≡ 2 ^ c.args.j = omega arith in rw e (mod-eq_of_lt (omega arith))
 
-cast-result-2 : tie.Need-overflow-cast-result-2
+cast-result-2 : tie.Need-overflow_cast-result-2
 cast-result-2 c = rw (whole c) (record { sfits = omega (arith, small c) })
 
 returns : tie.Need-returns
 returns c = rw (whole c) (to_z_pos w16 (2 ^ c.args.j) (omega (arith, small c)))
 
-pub top-spec : {M : Type 1} → statement M
-top-spec = tie.close (tie.spec (λ c. search rules) (λ c. search rules) cast-result-2 returns)
+pub top_spec : {M : Type 1} → statement M
+top_spec = tie.close (tie.spec (λ c. search rules) (λ c. search rules) cast-result-2 returns)

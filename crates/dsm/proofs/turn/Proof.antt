@@ -8,13 +8,13 @@ use Rattle.dsm.proofs.turn.Tie as tie
 
 returns : tie.Need-returns
 returns c =
-    let k = c.combine.ensures in let a = c.before.before.accumulate.ensures in
+    let k = c.combine.ensures in let a = c.before.before.accumulate-d.ensures in
     record {
       accumulators = a.cells;
       retained = rw a.carried at k.cells;
-      out = read w16 c.combine.result c.combine.type-inv ∙ (rw a.carried at k.out);
+      out = read w16 c.combine.result c.combine.type_inv ∙ (rw a.carried at k.out);
       stay = k.stay;
-      range = rw (read w16 c.combine.result c.combine.type-inv) k.range;
+      range = rw (read w16 c.combine.result c.combine.type_inv) k.range;
     }
 
 pub turn_spec : {M : Type 1} → statement M

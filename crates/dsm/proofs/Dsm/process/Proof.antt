@@ -2,9 +2,8 @@
 use mathlib.Core.Path.{◌≡◌, sym, ◌∙◌}
 use mathlib.Core.Bool.{true}
 use native.Mathlib.Omega.{arith}
-use lib.ListN.{length, length-map}
+use lib.ListN.{length}
 use mir.Syntax.{w16}
-use borrow.Author.Tests.{not-true, not-false}
 use Rattle.words.proofs.Reading.{read}
 use Rattle.dsm.proofs.Refusals.{lying, over, stray, none}
 use Rattle.dsm.proofs.Ways.{step-refused, step-taken}
@@ -13,41 +12,41 @@ use Rattle.dsm.proofs.Dsm.process.Statement.{statement}
 use Rattle.dsm.proofs.Dsm.process.Tie as tie
 
 accumulators : (c : tie.Start) → length c.args.self.accumulators ≡ 8
-accumulators c = sym (length-map c.args.self.accumulators (λ v. v)) ∙ c.well-formed.0.1.1.1.0.1.0.1
+accumulators c = c.well_formed.0.1.1.1.0.1.0.1
 
 retained : (c : tie.Start) → length c.args.self.retained ≡ 8
-retained c = sym (length-map c.args.self.retained (λ v. v)) ∙ c.well-formed.0.1.1.1.1.0.1.0.1
+retained c = c.well_formed.0.1.1.1.1.0.1.0.1
 
-abbrev begin : tie.Else2 → tie.Start
+abbrev begin : tie.Else-not-cells_in_range → tie.Start
 begin c = let after-c = c.before.before in after-c.before.before
 
-found : (c : tie.Else2) → lying (begin c).args.self ≡ true
-found c = sym c.before.cells-in-range.ensures ∙ not-false c.before.cells-in-range.result c.if2.false
+found : (c : tie.Else-not-cells_in_range) → lying (begin c).args.self ≡ true
+found c = sym c.before.cells_in_range.ensures ∙ c.if-not-cells_in_range.false
 
-returns : tie.Need-returns
+returns : tie.Need-returns-then-order-gt8
 returns c =
     let s = c.before in
-    step-refused s.args.self s.args.x 30 (over s.args.self c.if1.true) (λ e. omega arith)
+    step-refused s.args.self s.args.x 30 (over s.args.self c.if-order-gt8.true) (λ e. omega arith)
 
-returns-2 : tie.Need-returns-2
+returns-2 : tie.Need-returns-then-not-cells_in_range
 returns-2 c =
     let after-c = c.before.before in let s = after-c.before.before in
     step-refused s.args.self s.args.x 32
-    (stray s.args.self c.before.before.before.if1.false
-    (sym c.before.cells-in-range.ensures ∙ not-true c.before.cells-in-range.result c.if2.true))
+    (stray s.args.self c.before.before.before.if-order-gt8.false
+    (sym c.before.cells_in_range.ensures ∙ c.if-not-cells_in_range.true))
     (λ e. omega arith)
 
-turn-requires : tie.Need-turn-requires
+turn-requires : tie.Need-turn-y-requires
 turn-requires c κs =
     let e = c.before.before.before in let s = begin e in
-    (e.before.before.before.if1.false, accumulators s, retained s, found e)
+    (e.before.before.before.if-order-gt8.false, accumulators s, retained s, found e)
 
-returns-3 : tie.Need-returns-3
+returns-3 : tie.Need-returns
 returns-3 c =
     let after-a2 = c.before.before in let e = after-a2.before.before in let s = begin e in
-    rw (read w16 c.turn.result c.turn.type-inv)
-    (step-taken s.args.self s.args.x c.turn.new.0 c.turn.new.1.0 c.turn.result (omega (arith, accumulators s))
-    (none s.args.self e.before.before.before.if1.false (found e)) c.turn.ensures)
+    rw (read w16 c.turn-y.result c.turn-y.type_inv)
+    (step-taken s.args.self s.args.x c.turn-y.new.a c.turn-y.new.c c.turn-y.result (omega (arith, accumulators s))
+    (none s.args.self e.before.before.before.if-order-gt8.false (found e)) c.turn-y.ensures)
 
-pub process-spec : {M : Type 1} → statement M
-process-spec = tie.close (tie.spec returns (λ c κs. search rules) returns-2 turn-requires returns-3)
+pub process_spec : {M : Type 1} → statement M
+process_spec = tie.close (tie.spec returns (λ c κs. search rules) returns-2 turn-requires returns-3)

@@ -19,32 +19,32 @@ use Rattle.unwrap.proofs.clamp_wrap.clamp_all.Tie as tie
 abbrev state : ℕ → Wrap → ClampWrap
 state x0 clamp = record { x0 = to_z w32 x0; clamp = clamp }
 
-abbrev invariant-loop : tie.invariant-loop
+abbrev invariant-loop : tie.invariant-loop-i
 invariant-loop xs ys₀ x0₀ clamp₀ i₀ ys x0 clamp i = Going clamp_out clamp_next (state x0₀ clamp₀) xs ys (state x0 clamp) i
 
-abbrev decreases-loop : tie.decreases-loop
+abbrev decreases-loop : tie.decreases-loop-i
 decreases-loop xs ys₀ x0₀ clamp₀ i₀ ys x0 clamp i = length xs - i
 
-loop-holds : tie.Need-loop-init invariant-loop decreases-loop
+loop-holds : tie.Need-loop-i-init invariant-loop decreases-loop
 loop-holds c = start _ _ _ _ _ (sym c.before.requires)
 
-loop-again : tie.Need-loop-preserved invariant-loop decreases-loop
+loop-again : tie.Need-loop-i-preserved invariant-loop decreases-loop
 loop-again c =
-    let k = c.before.before in let at = k.before.before.before in let l = at.loop in let a = at.before.before.args in
+    let k = c.before.before in let at = k.before.before.before in let l = at.loop-i in let a = at.before.before.args in
     let x = get_or a.xs.now l.i (pos 0) in
-    let b = read w32 x k.before.x.given in
-    let e : k.process.result ≡ clamped_of (state l.x0 l.clamp) x = rw b at k.process.ensures in
-    rw (read w32 k.process.result.y c.before.struct-told2.given.1.0.1, e, b)
-    (turn clamp_out clamp_next (state (of_z w32 a.s.x0) a.s.clamp) a.xs.now l.ys (state l.x0 l.clamp) l.i (pos 0)
-    k.before.before.loop-test.true l.invariant)
+    let b = read w32 x k.before.x-1.given in
+    let e : k.process-step.result ≡ clamped_of (state l.x0-bits l.clamp) x = rw b at k.process-step.ensures in
+    rw (read w32 k.process-step.result.y c.before.struct_told-in-loop-i-1.given.1.0.1, e, b)
+    (turn clamp_out clamp_next (state (of_z w32 a.s.x0) a.s.clamp) a.xs.now l.ys (state l.x0-bits l.clamp) l.i (pos 0)
+    k.before.before.loop-i-test.true l.invariant)
 
 returns : tie.Need-returns invariant-loop decreases-loop
 returns c =
     let s = c.before.before in
-    rw (read w32 s.before.args.s.x0 s.struct_told.given.0.1) at (done _ _ _ _ _ _ _ c.loop-test.false c.before.loop.invariant)
+    rw (read w32 s.before.args.s.x0 s.struct_told-1.given.0.1) at (done _ _ _ _ _ _ _ c.loop-i-test.false c.before.loop-i.invariant)
 
-pub clamp-all-spec : {M : Type 1} → statement M
-clamp-all-spec =
+pub clamp_all_spec : {M : Type 1} → statement M
+clamp_all_spec =
     tie.close (tie.spec invariant-loop decreases-loop loop-holds (λ c. search rules) (λ c. search rules) (λ c κs. search rules)
     (λ c. search rules) (λ c. search rules) (λ c. search rules) (λ c. search rules) loop-again (λ c. omega arith)
     returns)

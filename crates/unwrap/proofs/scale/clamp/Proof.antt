@@ -7,29 +7,29 @@ use Rattle.unwrap.proofs.Scaling.{inside}
 use Rattle.unwrap.proofs.scale.clamp.Statement.{statement}
 use Rattle.unwrap.proofs.scale.clamp.Tie as tie
 
-returns : tie.Need-returns
+returns : tie.Need-returns-then-v-ltminus2147483648
 unfolding clamped
-returns c = let s = c.before in rw (rw (to_z-of_z w64 s.args.v s.ranges.v) at c.if1.true)
+returns c = let s = c.before in rw (rw (to_z-of_z w64 s.args.v s.ranges.v) at c.if-v-ltminus2147483648.true)
 
-returns-2 : tie.Need-returns-2
+returns-2 : tie.Need-returns-then-v-gt2147483647
 unfolding clamped
 returns-2 c =
     let s = c.before.before in let e = to_z-of_z w64 s.args.v s.ranges.v in
-    rw (rw e at c.before.if1.false, rw e at c.if2.true)
+    rw (rw e at c.before.if-v-ltminus2147483648.false, rw e at c.if-v-gt2147483647.true)
 
-fits : (c : tie.Else2) → SFits w32 c.before.before.args.v
+fits : (c : tie.Else-v-gt2147483647) → SFits w32 c.before.before.args.v
 fits c =
     let s = c.before.before in let e = to_z-of_z w64 s.args.v s.ranges.v in
-    inside s.args.v (rw e at c.before.if1.false) (rw e at c.if2.false)
+    inside s.args.v (rw e at c.before.if-v-ltminus2147483648.false) (rw e at c.if-v-gt2147483647.false)
 
-cast-result : tie.Need-overflow-cast-result
+cast-result : tie.Need-overflow_cast-result
 cast-result c = let s = c.before.before in rw (to_z-of_z w64 s.args.v s.ranges.v) (fits c)
 
-returns-3 : tie.Need-returns-3
+returns-3 : tie.Need-returns
 unfolding clamped
 returns-3 c =
     let s = c.before.before in let e = to_z-of_z w64 s.args.v s.ranges.v in
-    rw (e, to_z-of_z w32 s.args.v (fits c), rw e at c.before.if1.false, rw e at c.if2.false)
+    rw (e, to_z-of_z w32 s.args.v (fits c), rw e at c.before.if-v-ltminus2147483648.false, rw e at c.if-v-gt2147483647.false)
 
 pub clamp_spec : {M : Type 1} → statement M
 clamp_spec = tie.close (tie.spec returns returns-2 cast-result returns-3)

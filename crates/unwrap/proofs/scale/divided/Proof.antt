@@ -12,23 +12,23 @@ returns c =
     let r = c.before in let b = r.before in let l = b.before in let a = l.before in let s = a.before in
     let lo = s.args.lo in let hi = s.args.hi in
     rw (
-      read w64 c.add-i64.result c.add-i64.type-inv,
-      c.add-i64.ensures,
-      read w64 l.shl-i64.result l.shl-i64.type-inv,
-      l.shl-i64.ensures,
-      read w64 r.shr-i64.result r.shr-i64.type-inv,
-      r.shr-i64.ensures,
-      read w64 a.i32-as-i64.result a.i32-as-i64.type-inv,
-      a.i32-as-i64.ensures,
-      read w64 b.i32-as-i642.result b.i32-as-i642.type-inv,
-      b.i32-as-i642.ensures,
+      read w64 c.add_i64.result c.add_i64.type_inv,
+      c.add_i64.ensures,
+      read w64 l.shl_i64.result l.shl_i64.type_inv,
+      l.shl_i64.ensures,
+      read w64 r.shr_i64.result r.shr_i64.type_inv,
+      r.shr_i64.ensures,
+      read w64 a.i32_as_i64.result a.i32_as_i64.type_inv,
+      a.i32_as_i64.ensures,
+      read w64 b.i32_as_i64-2.result b.i32_as_i64-2.type_inv,
+      b.i32_as_i64-2.ensures,
       to_z-of_z w32 hi s.ranges.hi,
       to_z-of_z w32 lo s.ranges.lo,
     )
     (divided_is lo hi s.args.shift s.requires.0 s.requires.1 s.ranges.lo s.ranges.hi)
 
-pub divided-spec : {M : Type 1} → statement M
-divided-spec =
+pub divided_spec : {M : Type 1} → statement M
+divided_spec =
     tie.close
     (tie.spec
     (λ c κs. search rules)

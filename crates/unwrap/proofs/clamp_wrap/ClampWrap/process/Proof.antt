@@ -10,14 +10,14 @@ returns : tie.Need-returns
 returns c =
     let k = c.before in let o = k.before in let t = o.before in let s = t.before in
     rw (
-      read w32 c.held_to.result c.held_to.type-inv,
-      c.held_to.ensures,
-      k.add.ensures,
-      o.overflowing-sub.ensures,
+      read w32 c.held_to-y.result c.held_to-y.type_inv,
+      c.held_to-y.ensures,
+      k.add-clamp.ensures,
+      o.overflowing_sub-step.ensures,
       to_z-of_z w32 s.args.x s.ranges.x,
-      read w32 s.args.self.x0 t.struct_told.given.0.1,
+      read w32 s.args.self.x0 t.struct_told-1.given.0.1,
     )
 
-pub process-spec : {M : Type 1} → statement M
-process-spec =
+pub process_spec : {M : Type 1} → statement M
+process_spec =
     tie.close (tie.spec (λ c κs. search rules) (λ c κs. search rules) (λ c κs. search rules) returns)

@@ -8,7 +8,7 @@ use Rattle.unwrap.proofs.unwrapper.Unwrapper.phase.Tie as tie
 returns : tie.Need-returns
 returns c =
     let t = c.before in let y = t.before.args.self.y in
-    rw (read w32 c.i64-as-i32.result c.i64-as-i32.type-inv, c.i64-as-i32.ensures, read w64 y t.struct_told.given.0.1)
+    rw (read w32 c.i64_as_i32.result c.i64_as_i32.type_inv, c.i64_as_i32.ensures, read w64 y t.struct_told-1.given.0.1)
 
-pub phase-spec : {M : Type 1} → statement M
-phase-spec = tie.close (tie.spec (λ c κs. search rules) returns)
+pub phase_spec : {M : Type 1} → statement M
+phase_spec = tie.close (tie.spec (λ c κs. search rules) returns)

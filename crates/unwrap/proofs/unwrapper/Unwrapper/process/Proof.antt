@@ -10,19 +10,19 @@ returns : tie.Need-returns
 returns c =
     let k = c.before in let d = k.before in let n = d.before in let t = n.before in let a = t.before.args in
     rw (
-      read w64 c.add-i64.result c.add-i64.type-inv,
-      c.add-i64.ensures,
-      read w64 k.i32-as-i64.result k.i32-as-i64.type-inv,
-      k.i32-as-i64.ensures,
-      read w32 d.sub-i32.result d.sub-i32.type-inv,
-      d.sub-i32.ensures,
-      read w32 n.i64-as-i32.result n.i64-as-i32.type-inv,
-      n.i64-as-i32.ensures,
-      read w64 a.self.y t.struct_told.given.0.1,
+      read w64 c.add_i64.result c.add_i64.type_inv,
+      c.add_i64.ensures,
+      read w64 k.i32_as_i64.result k.i32_as_i64.type_inv,
+      k.i32_as_i64.ensures,
+      read w32 d.sub_i32-dx.result d.sub_i32-dx.type_inv,
+      d.sub_i32-dx.ensures,
+      read w32 n.i64_as_i32.result n.i64_as_i32.type_inv,
+      n.i64_as_i32.ensures,
+      read w64 a.self.y t.struct_told-1.given.0.1,
       to_z-of_z w32 a.x t.before.ranges.x,
     )
 
-pub process-spec : {M : Type 1} → statement M
-process-spec =
+pub process_spec : {M : Type 1} → statement M
+process_spec =
     tie.close (tie.spec (λ c κs. search rules) (λ c κs. search rules) (λ c κs. search rules) (λ c κs. search rules)
     returns)

@@ -13,35 +13,35 @@ use Rattle.unwrap.proofs.unwrapper.Unwrapper.wraps.Statement.{statement}
 use Rattle.unwrap.proofs.unwrapper.Unwrapper.wraps.Tie as tie
 
 -- the test is that of the phase
-phase-sign : (c : tie.After-i64-as-i32) (b : Bool) → lt_z (to_z w32 (of_z w32 c.i64-as-i32.result)) (pos 0) ≡ b
+phase-sign : (c : tie.After-i64_as_i32) (b : Bool) → lt_z (to_z w32 (of_z w32 c.i64_as_i32.result)) (pos 0) ≡ b
     → lt_z (phase_of c.before.before.before.args.self.y) (pos 0) ≡ b
 phase-sign c b e =
     let t = c.before.before in
     rw (
-      read w32 c.i64-as-i32.result c.i64-as-i32.type-inv,
-      c.i64-as-i32.ensures,
-      read w64 t.before.args.self.y t.struct_told.given.0.1,
+      read w32 c.i64_as_i32.result c.i64_as_i32.type_inv,
+      c.i64_as_i32.ensures,
+      read w64 t.before.args.self.y t.struct_told-1.given.0.1,
     ) at e
 
-returns : tie.Need-returns
+returns : tie.Need-returns-then-i64_as_i32-lt0
 returns c =
     let n = c.before.before in let h = n.before in let t = h.before in let y = t.before.args.self.y in
     rw (
-      read w32 c.add-i32.result c.add-i32.type-inv,
-      c.add-i32.ensures,
-      read w32 h.i64-high.result h.i64-high.type-inv,
-      h.i64-high.ensures,
-      read w64 y t.struct_told.given.0.1,
+      read w32 c.add_i32.result c.add_i32.type_inv,
+      c.add_i32.ensures,
+      read w32 h.i64_high-high.result h.i64_high-high.type_inv,
+      h.i64_high-high.ensures,
+      read w64 y t.struct_told-1.given.0.1,
     )
-    (one_more_law y (phase-sign n true c.before.if1.true))
+    (one_more_law y (phase-sign n true c.before.if-i64_as_i32-lt0.true))
 
-returns-2 : tie.Need-returns-2
+returns-2 : tie.Need-returns
 returns-2 c =
     let n = c.before in let h = n.before in let t = h.before in let y = t.before.args.self.y in
-    let f = t.struct_told.given.0.1 in
-    rw (read w32 h.i64-high.result h.i64-high.type-inv, h.i64-high.ensures, read w64 y f)
-    (as_it_is y (record { sfits = f }) (phase-sign n false c.if1.false))
+    let f = t.struct_told-1.given.0.1 in
+    rw (read w32 h.i64_high-high.result h.i64_high-high.type_inv, h.i64_high-high.ensures, read w64 y f)
+    (as_it_is y (record { sfits = f }) (phase-sign n false c.if-i64_as_i32-lt0.false))
 
-pub wraps-spec : {M : Type 1} → statement M
-wraps-spec =
+pub wraps_spec : {M : Type 1} → statement M
+wraps_spec =
     tie.close (tie.spec (λ c κs. search rules) (λ c κs. search rules) (λ c κs. search rules) returns returns-2)
