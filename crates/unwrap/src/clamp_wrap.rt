@@ -7,7 +7,7 @@ ghost use Rattle.unwrap.specs.Phases.{clamped_by, clamp_out, clamp_next, clamped
 use crate::wrapping::{Wrap, overflowing_sub};
 use blocks::Verdict;
 
-#[derive(Drop)]
+#[derive(Clone, Copy)]
 pub struct ClampWrap {
     // The last input.
     pub x0: i32,
