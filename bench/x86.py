@@ -37,7 +37,7 @@ def need(program, how):
 
 def need_built(path, name):
     if not os.path.exists(os.path.join(ROOT, path)):
-        stop("no %s: rt check %s" % (path, name))
+        stop("no %s: tools/build %s" % (path, name))
 
 
 def kit():

@@ -1,7 +1,7 @@
 #!/usr/bin/env python3
 """Holds the WAV programs against sox: what sox writes is read, what is written sox reads and writes again to the byte.
 
-    rt check wav_in wav_out wav_copy && python3 oracle/sox.py [--store]
+    tools/build wav_in wav_out wav_copy && python3 oracle/sox.py [--store]
 
 Wants sox (Debian's, 14.4.2). --store writes the files that the gate runs: crates/wav_in/stdin, crates/wav_copy/stdin and stdout, and
 crates/compare_wav/stdin, which has a header of each kind of file that sox writes, 44 bytes, with the file's length in 4 more. The

@@ -10,7 +10,7 @@ refusal number and the bad field's place. docs/REPLAY.md has the language, docs/
 Exit status: 0 the answer ends with `end`; 1 with `bad`, and standard error says why; 2 with neither (no such file, a full disk, a read that
 failed, a program that isn't built), and standard error says what is known.
 
-The program is target/bin/replay, made at first use by `rt check replay`. A file is read and written by the program itself; of the answer only
+The program is target/bin/replay, made at first use by `tools/build replay`. A file is read and written by the program itself; of the answer only
 the last line is looked at here.
 """
 import collections
@@ -64,12 +64,12 @@ def needed():
 
 
 def build():
-    """`rt check replay`, told crate by crate."""
+    """`tools/build replay`, told crate by crate."""
     if not shutil.which("rt"):
         raise Failed("the program is to be built, and the Rattle toolchain's `rt` is not in PATH")
     names, done, began, said = needed(), set(), time.monotonic(), time.monotonic()
-    say("proving and building the program with `rt check replay`: %d crates, 3 to 6 minutes from nothing on two cores" % len(names))
-    run = subprocess.Popen(["rt", "check", "replay"], cwd=ROOT, stdin=subprocess.DEVNULL, stdout=subprocess.PIPE, stderr=subprocess.STDOUT)
+    say("proving and building the program with `tools/build replay`: %d crates, 3 to 6 minutes from nothing on two cores" % len(names))
+    run = subprocess.Popen([os.path.join(ROOT, "tools", "build"), "replay"], cwd=ROOT, stdin=subprocess.DEVNULL, stdout=subprocess.PIPE, stderr=subprocess.STDOUT)
     last, part = collections.deque(maxlen=12), b""
     while True:
         ready = select.select([run.stdout], [], [], 15)[0]
@@ -88,7 +88,7 @@ def build():
             say("  %d of %d after %d s" % (len(done), len(names), time.monotonic() - began))
             said = time.monotonic()
     if run.wait() != 0 or not os.access(PROGRAM, os.X_OK):
-        raise Failed("`rt check replay` failed:\n" + "\n".join(last))
+        raise Failed("`tools/build replay` failed:\n" + "\n".join(last))
     say("built in %d s: %s" % (time.monotonic() - began, PROGRAM))
 
 

@@ -1,5 +1,5 @@
 #!/usr/bin/env python3
-"""What the clock stage does to its input (document 02, A14), from the outputs of the program clock_stage (`rt check clock_stage`).
+"""What the clock stage does to its input (document 02, A14), from the outputs of the program clock_stage (`tools/build clock_stage`).
 
     python3 samples/noise.py samples/noise.png    draws the spectra of K = 1, 2, 3 on a small constant (wants matplotlib, Debian's
                                                   python3-matplotlib)

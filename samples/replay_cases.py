@@ -1,7 +1,7 @@
 #!/usr/bin/env python3
 """Holds samples/replay to its help: exit status and words for every way that a replay ends, on files, pipes and odd descriptors.
 
-    python3 samples/replay_cases.py           wants target/bin/replay (`rt check replay`)
+    python3 samples/replay_cases.py           wants target/bin/replay (`tools/build replay`)
     python3 samples/replay_cases.py --large   and what it costs beside the bare program on 100 MB
 """
 import os

@@ -1,7 +1,7 @@
 #!/usr/bin/env python3
 """What the proved recorder's program costs beside a plain Rust twin (twin.rs): instructions a word, on x86-64.
 
-    rt check record && python3 bench/record/bench.py
+    tools/build record && python3 bench/record/bench.py
 
 Both are given the same words and must give the same bytes. Instructions are counted by valgrind's callgrind; the difference between
 a long input and a short one is divided by the words between them, so that starting up counts nothing. Wants rustc and valgrind.

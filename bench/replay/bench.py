@@ -1,7 +1,7 @@
 #!/usr/bin/env python3
 """What the proved replay program costs beside a plain Rust twin (twin.rs): bytes a second, instructions a byte, memory.
 
-    rt check replay && python3 bench/replay/bench.py
+    tools/build replay && python3 bench/replay/bench.py
 
 Programs are compiled for x86-64, and their instructions are counted under an emulator, the machine's own or the one that ../x86.py fetches, or by valgrind's callgrind. On another
 processor the twin's rustc is fetched too; on x86-64 it wants rustc. The time under an emulator says nothing, so for the bytes a second the program's LLVM module is compiled for this processor by

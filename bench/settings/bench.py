@@ -1,7 +1,7 @@
 #!/usr/bin/env python3
 """What the settings program costs: instructions a byte of a store, and processor time of a run.
 
-    rt check settings && python3 bench/settings/bench.py
+    tools/build settings && python3 bench/settings/bench.py
 
 The stores hold 64 records, decimators or filters of 8 sections, the most that a store can have. Instructions are those of a run less those on a
 store without records (../x86.py); the time is the median of five times 50 runs,

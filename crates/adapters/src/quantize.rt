@@ -23,6 +23,7 @@ fn nearest_bits(a: f64) -> i32
 
 impl Tpa {
     // The double that stands for the pole g: one operation, rounded once. Z and X do not look at g.
+    #[tactic(auto, unfolding(crate::specs::Quantize::coefficient_of))]
     fn coefficient(self, g: f64) -> f64
         ensures { result ≡ coefficient_of self g }
     {
@@ -40,6 +41,7 @@ impl Tpa {
 
     // The bits of the coefficient for the pole g: the whole number nearest to its double times 2^32, halves away from zero.
     // 53 for B1 and C1, then 52 where the double is not from -0.5 to 0, which a NaN is not and -0.0 is.
+    #[tactic(auto, unfolding(crate::specs::Quantize::quantized))]
     pub fn quantize(self, g: f64) -> Quantized
         ensures { result ≡ quantized self g }
     {

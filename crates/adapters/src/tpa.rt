@@ -6,7 +6,7 @@ use words::casts::i64_high;
 use words::signed::{add_i32, product, sub_i32};
 
 // Two port adapters, by their names. The filter's architecture word has a nibble for each.
-#[derive(Drop)]
+#[derive(Clone, Copy)]
 pub enum Tpa {
     // 0x0, and every nibble that is not named below.
     Z,
@@ -39,6 +39,7 @@ fn scale(c: i32, a: i32) -> i32
 
 impl Tpa {
     // The adapter of a nibble; an unknown one acts as Z.
+    #[tactic(auto, unfolding(crate::specs::Adapters::code_of))]
     pub fn from(value: u8) -> Tpa
         ensures { result ≡ code_of value }
     {
@@ -55,6 +56,7 @@ impl Tpa {
     }
 
     // Whether it is withdrawn from new work, as B1 and C1 are: B and C compute the same.
+    #[tactic(auto, unfolding(crate::specs::Adapters::retired))]
     pub fn is_retired(self) -> bool
         ensures { result ≡ retired self }
     {
@@ -71,6 +73,7 @@ impl Tpa {
     }
 
     // The outputs for the inputs x0 and x1 and the coefficient a, all sums modulo 2^32.
+    #[tactic(auto, unfolding(crate::specs::Adapters::adapted))]
     pub fn adapt(self, x0: i32, x1: i32, a: i32) -> Ports
         ensures { result ≡ adapted self x0 x1 a }
     {

@@ -15,7 +15,6 @@ use Rattle.sums.specs.Calls.{current_at}
 use Rattle.cic.specs.declared.state.Cic.{Cic}
 use Rattle.cic.specs.declared.state.Made.{Made}
 use Rattle.lent.specs.declared.steps.Interpolated.{Interpolated}
-use Rattle.lent.specs.declared.steps.Interpolated.TheVariants as Interpolated
 use Rattle.cic.specs.Reading.{cic_of}
 use Rattle.cic.specs.Answers.{made_of, interpolated_of}
 

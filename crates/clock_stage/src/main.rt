@@ -4,37 +4,37 @@
 
 #![tactic(auto)]
 
-ghost use Rattle.std.specs.Prelude.{◌+◌, ◌<◌, ◌≤◌};
+ghost use Rattle.std.specs.Prelude.{◌+◌, ◌<◌, ◌≤◌, IfOk};
 
 use dsm::{Dsm, Output};
-use libc::STDOUT_FILENO;
+use rust_answers::input::read_full;
 use rust_answers::lines::word;
+use std::io;
 use words::casts::i32_as_u32;
 
 fn word_of(y: i16) -> u32 {
     i32_as_u32(y as i32)
 }
 
-fn signed(y: u32) {
+fn signed(rt: &impl Print, y: u32) -> io::Result<()> {
     let bits = y as u64;
     if bits < 2147483648 {
-        io::print_decimal(STDOUT_FILENO, bits);
+        rt.print(bits)?;
     } else {
-        io::write_all(STDOUT_FILENO, b"-");
-        io::print_decimal(STDOUT_FILENO, 4294967296 - bits);
+        rt.write_all(b"-")?;
+        rt.print(4294967296 - bits)?;
     }
+    Ok(())
 }
 
-fn tell(out: Output, last: u32) {
+fn tell(rt: &impl Print, out: Output, last: u32) -> io::Result<()> {
     match out {
-        Output::Given(y) => signed(word_of(y)),
+        Output::Given(y) => signed(rt, word_of(y))?,
         Output::Refused(_) => {
-            io::write_all(STDOUT_FILENO, b"refused");
+            rt.write_all(b"refused")?;
         }
     }
-    io::write_all(STDOUT_FILENO, b" ");
-    io::print_decimal(STDOUT_FILENO, last as u64);
-    io::write_all(STDOUT_FILENO, b"\n");
+    println!(rt; " {last}")
 }
 
 // The last accumulator in use; 0 where there is none.
@@ -49,9 +49,9 @@ fn last_accumulator(a: [u32; 8], order: usize) -> u32 {
 }
 
 // The run that starts at word number at: gives the number of the word after it.
-fn run(text: &[u8], at: usize) -> usize
+fn run(rt: &impl Print, text: &[u8], at: usize) -> io::Result<usize>
     requires { at < 65536 }
-    ensures { (at < result) × (result ≤ at + 4294967297) }
+    ensures { IfOk result (λ next. (at < next) × (next ≤ at + 4294967297)) }
 {
     let order = word(text, at) as usize;
     let made = Dsm::new(order);
@@ -64,22 +64,23 @@ fn run(text: &[u8], at: usize) -> usize
         s = after;
         let out = r.out;
         let a = s.accumulators;
-        tell(out, last_accumulator(a, order));
+        tell(rt, out, last_accumulator(a, order))?;
     }
-    first + count
+    Ok(first + count)
 }
 
-fn main() {
+fn main(rt: HostRuntime) -> io::Result<()> {
     let mut space = [0u8; 200000];
-    let n = io::read_full(0, &mut space);
+    let n = read_full(&mut rt.stdin(), &mut space)?;
     let text = &space[..n];
     let words = text.len() / 9;
     let mut at: usize = 0;
     while at < words {
         if at < 65536 {
-            at = run(text, at);
+            at = run(&rt, text, at)?;
         } else {
             at = words;
         }
     }
+    Ok(())
 }

@@ -6,8 +6,10 @@
 
 use blocks::Verdict;
 use dsm::{Dsm, Output, OutputRange};
+use rust_answers::input::read_full;
 use rust_answers::lines::{double, line, report, size, tally, unlike, unlike_words};
 use rust_answers::runs::{digest, digest_first, draw, spread};
+use std::io;
 use words::casts::i32_as_u32;
 use words::unsigned::{add_u64, sub_u32};
 
@@ -286,14 +288,12 @@ fn narrowed_of_ten(w: [u32; 40]) -> u64 {
     n
 }
 
-fn tell(narrow: u64) {
-    io::write_all(1, b"  of which 128, that the crate's i8 makes -128: ");
-    io::print_decimal(1, narrow);
-    io::write_all(1, b"\n");
+fn tell(rt: &impl Print, narrow: u64) -> io::Result<()> {
+    println!(rt; "  of which 128, that the crate's i8 makes -128: {narrow}")
 }
 
 // All lines with this code.
-fn compare(text: &[u8], code: u32, name: &[u8]) {
+fn compare(rt: &impl Print, text: &[u8], code: u32, name: &[u8]) -> io::Result<()> {
     let mut cases: u64 = 0;
     let mut differ: u64 = 0;
     let mut narrow: u64 = 0;
@@ -305,8 +305,8 @@ fn compare(text: &[u8], code: u32, name: &[u8]) {
             narrow = add_u64(narrow, narrowed(w));
         }
     }
-    report(name, cases, differ);
-    tell(narrow);
+    report(rt, name, cases, differ)?;
+    tell(rt, narrow)
 }
 
 fn number_of(v: Verdict) -> u32 {
@@ -387,19 +387,21 @@ fn maker_refusals() -> u64 {
     unlike(maker_number(8), 0) + unlike(maker_number(9), 30)
 }
 
-fn main() {
+fn main(rt: HostRuntime) -> io::Result<()> {
     let mut space = [0u8; 200000];
-    let n = io::read_full(0, &mut space);
+    let n = read_full(&mut rt.stdin(), &mut space)?;
     let text = &space[..n];
-    compare(text, 1, b"Dsm step");
+    compare(&rt, text, 1, b"Dsm step")?;
     compare(
+        &rt,
         text,
         2,
         b"Dsm block from zero, both ends of the output range reached",
-    );
-    compare(text, 3, b"Dsm, runs");
-    compare(text, 4, b"Dsm, swing runs");
-    report(b"Dsm refusals of steps", 14, step_refusals());
-    report(b"Dsm refusals of blocks", 4, block_refusals());
-    report(b"Dsm refusals of the maker", 2, maker_refusals());
+    )?;
+    compare(&rt, text, 3, b"Dsm, runs")?;
+    compare(&rt, text, 4, b"Dsm, swing runs")?;
+    report(&rt, b"Dsm refusals of steps", 14, step_refusals())?;
+    report(&rt, b"Dsm refusals of blocks", 4, block_refusals())?;
+    report(&rt, b"Dsm refusals of the maker", 2, maker_refusals())?;
+    Ok(())
 }

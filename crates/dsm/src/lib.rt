@@ -15,7 +15,7 @@ use blocks::Verdict;
 
 // Order K, accumulators, of which K are used, and retained values, of which K - 1 are used. Other cells never matter.
 // Retained cell j, from 0, must lie in 1 - 2^j .. 2^j.
-#[derive(Drop)]
+#[derive(Clone, Copy)]
 pub struct Dsm {
     pub order: usize,
     pub accumulators: [u32; 8],

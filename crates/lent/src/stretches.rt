@@ -11,7 +11,7 @@ use crate::cascade::{comb, integrate};
 use crate::word::{Word, sub};
 
 // A state's numbers: all of it but its arrays and the number of inputs.
-#[derive(Drop)]
+#[derive(Clone, Copy)]
 pub(crate) struct Numbers {
     pub order: usize,
     pub delay: usize,

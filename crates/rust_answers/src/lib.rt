@@ -5,5 +5,6 @@
 #![tactic(auto)]
 
 pub mod doubles;
+pub mod input;
 pub mod lines;
 pub mod runs;

@@ -1,8 +1,9 @@
 // Stored answers: words of 8 lower-case hex digits, each followed by one byte, so that word i stands at byte 9 i; and
 // what a comparison counts and prints.
-ghost use Rattle.std.specs.Prelude.{◌≡◌, cond, ◌+◌, ◌*◌, ◌%◌, ◌^◌, ◌≤◌, length, eqb};
+ghost use Rattle.std.specs.Prelude.{◌≡◌, cond, ◌+◌, ◌*◌, ◌%◌, ◌^◌, ◌≤◌, length, eqb, IfOk};
 ghost use Rattle.rust_answers.specs.Lines.{nibble_of, byte_at, half_at, word_at, words_at, unlike_all};
 
+use std::io;
 use words::unsigned::add_u64;
 
 // The value of a hex digit; of any other byte 0.
@@ -114,14 +115,10 @@ pub fn unlike_words(a: &[u32], b: &[u32]) -> u64
 }
 
 // Prints a line of a comparison: the name, how many cases there were, how many differ. True where none does.
-pub fn report(name: &[u8], cases: u64, differ: u64) -> bool
-    ensures { result ≡ eqb differ 0 }
+pub fn report(rt: &impl Print, name: &[u8], cases: u64, differ: u64) -> io::Result<bool>
+    ensures { IfOk result (λ same. same ≡ eqb differ 0) }
 {
-    io::write_all(1, name);
-    io::write_all(1, b": ");
-    io::print_decimal(1, cases);
-    io::write_all(1, b" cases, ");
-    io::print_decimal(1, differ);
-    io::write_all(1, b" differ\n");
-    differ == 0
+    rt.write_all(name)?;
+    print!(rt; ": {cases} cases, {differ} differ\n")?;
+    Ok(differ == 0)
 }

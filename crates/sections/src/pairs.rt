@@ -23,7 +23,7 @@ pub struct Two {
 }
 
 // Eight numbers, cells or coefficients.
-#[derive(Drop)]
+#[derive(Clone, Copy)]
 pub struct Eight {
     pub e0: i32,
     pub e1: i32,
@@ -36,7 +36,7 @@ pub struct Eight {
 }
 
 // The numbers of four pairs.
-#[derive(Drop)]
+#[derive(Clone, Copy)]
 pub struct Codes {
     pub k0: u32,
     pub k1: u32,
@@ -45,6 +45,7 @@ pub struct Codes {
 }
 
 // The adapters by digits, close together so that a table of jumps is small: B1 as B, C1 as C.
+#[tactic(auto, unfolding(crate::specs::Pairs::digit_of))]
 fn digit(nibble: u32) -> u32
     ensures { result ≡ digit_of nibble }
 {
@@ -60,6 +61,7 @@ fn digit(nibble: u32) -> u32
     }
 }
 
+#[tactic(auto, unfolding(crate::specs::Pairs::kind_of))]
 fn kind(digit: u32) -> Tpa
     ensures { result ≡ kind_of digit }
 {

@@ -1,5 +1,5 @@
 -- The tests of a call that takes inputs, in their order: k is the state's number, then comes 16, then 20.
-use Rattle.std.proofs.Common.{◌≡◌, ℕ, zero, suc, ◌+◌, ◌-◌, ◌^◌, ◌≤◌, Bool, true, false, ltb, sym, refl, ◌∙◌, ⊎_elim, arith, le-ltb, lt-ltb, ne_eqb}
+use Rattle.std.proofs.Common.{◌≡◌, ℕ, ◌+◌, ◌-◌, ◌≤◌, true, false, ltb, sym, ◌∙◌, ⊎_elim, arith, le-ltb, lt-ltb, ne_eqb}
 use Rattle.sums.specs.Counted.{most_inputs, take_number_of, block_number_of}
 use Rattle.sums.proofs.Counts.{split}
 

@@ -5,14 +5,10 @@ use Rattle.sums.specs.State.{State}
 use Rattle.sums.specs.Runs.{needed, first_told, fill_number}
 use Rattle.sums.specs.Counted.{Counted, block_number, plain, first_number, taken_outputs}
 use Rattle.shape.specs.declared.questions.Told.{Told}
-use Rattle.shape.specs.declared.questions.Told.TheVariants as Told
 use Rattle.shape.specs.declared.questions.Fitting.{Fitting}
-use Rattle.shape.specs.declared.questions.Fitting.TheVariants as Fitting
 use Rattle.shape.specs.declared.runs.Written.{Written}
 use Rattle.shape.specs.declared.runs.Wrote.{Wrote}
-use Rattle.shape.specs.declared.runs.Wrote.TheVariants as Wrote
 use Rattle.shape.specs.declared.runs.Read.{Read}
-use Rattle.shape.specs.declared.runs.Read.TheVariants as Read
 
 unfoldable pub told_of : ℕ → ℕ → Told
 told_of zero v = Told.Number v

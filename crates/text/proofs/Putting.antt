@@ -3,13 +3,13 @@ use native.Mathlib.Omega.{arith}
 use native.Mathlib.Numerals.{add-one}
 use native.Mathlib.Nat.{add-zero}
 use mathlib.Core.Path.{◌≡◌, refl, sym, ap, ◌∙◌}
-use mathlib.Core.Bool.{Bool, true, false, not}
+use mathlib.Core.Bool.{Bool, true, false}
 use mathlib.Core.List.{List, [], ◌∷◌, ◌++◌, append_assoc}
 use Prim.Native.Nat.{ℕ, ◌+◌, ◌-◌, ◌≤◌, ◌<◌}
 use lib.Dec.{leb}
 use lib.ListN.{length, take, drop, set, get_or, length-append, length-take, length-drop, take-append-drop}
 use lib.Seq.{set_split, drop-drop, take_at, take-suc, length-take-le, drop-append-add}
-use borrow.Author.Tests.{le-leb, lt-leb, leb-true, leb-false, not-true, not-false}
+use borrow.Author.Tests.{le-leb, lt-leb, leb-true, leb-false}
 use Rattle.text.specs.Writing.{overlaid, Wrote, Puts, PutSettled}
 
 pub put_one : (l : List ℕ) (at b : ℕ) → at < length l → set l at b ≡ overlaid l at (b ∷ [])
@@ -101,11 +101,11 @@ fits_test len at n h = by (leb (at + n) len) refl
     by false e = let k = leb-false (at + n) len e in lt-leb n (len - at) (omega arith)
 
 module _ (t : Bool) (len at n : ℕ) (e : t ≡ leb (at + n) len) where
-  pub not_fits : not t ≡ true → len < at + n
-  not_fits h = leb-false (at + n) len (sym e ∙ not-true t h)
+  pub not_fits : t ≡ false → len < at + n
+  not_fits h = leb-false (at + n) len (sym e ∙ h)
 
-  pub does_fit : not t ≡ false → at + n ≤ len
-  does_fit h = leb-true (at + n) len (sym e ∙ not-false t h)
+  pub does_fit : t ≡ true → at + n ≤ len
+  does_fit h = leb-true (at + n) len (sym e ∙ h)
 
 pub puts_same : {o o' : List ℕ} {at r : ℕ} {xs ys : List ℕ} → xs ≡ ys → Puts o at xs r o' → Puts o at ys r o'
 puts_same e w = rw e at w

@@ -2,14 +2,14 @@
 use native.Mathlib.Omega.{arith}
 use mathlib.Core.Path.{◌≡◌, refl, sym, ap, ◌∙◌}
 use mathlib.Core.Bool.{Bool, true, false, cond, ◌&&◌}
-use mathlib.Core.List.{List, [], ◌∷◌, map}
+use mathlib.Core.List.{List, [], ◌∷◌}
 use mathlib.Core.Option.{Option, none, some}
-use Prim.Native.Nat.{ℕ, zero, suc, ◌+◌, ◌^◌, ◌≤◌, ◌<◌}
+use Prim.Native.Nat.{ℕ, zero, suc, ◌^◌, ◌≤◌, ◌<◌}
 use lib.Dec.{leb}
 use lib.IntN.{ℤ, pos, negsuc, nat_abs}
 use lib.ListN.{length}
 use borrow.Author.Tests.{leb-true, lt-leb}
-use Rattle.text.specs.Numbers.{is_digit, number_of, decimal_of, signed_of}
+use Rattle.text.specs.Numbers.{number_of, decimal_of, signed_of}
 use Rattle.text.specs.Ranges.{both, Range, unsigned, lies, all_lie, within, number_in, numbers_in, texts}
 use Rattle.text.specs.Parts.{count}
 use Rattle.text.specs.declared.numbers.Number.{Number}

@@ -1,5 +1,4 @@
 -- Bytes by their letters: `bytes "cic"` is 99 ∷ 105 ∷ 99 ∷ [].
-use mathlib.Core.List as List
 use Rattle.std.specs.Prelude.{List, ℕ}
 use Prim.Native.Char.{Char, code}
 use Prim.Native.String.{String, [], ◌∷◌}

@@ -1,5 +1,5 @@
 -- Numbers within a range, in the replay program's form.
-use Rattle.std.specs.Prelude.{Bool, true, false, cond, ◌&&◌, List, [], ◌∷◌, map, ℕ, zero, suc, leb, ℤ, pos, negsuc}
+use Rattle.std.specs.Prelude.{Bool, true, cond, ◌&&◌, List, [], ◌∷◌, map, ℕ, zero, suc, leb, ℤ, pos, negsuc}
 use Rattle.std.proofs.Math.Option.{Option, none, some}
 use Rattle.text.specs.Numbers.{number_of, signed_of}
 use Rattle.text.specs.declared.numbers.Number.{Number}

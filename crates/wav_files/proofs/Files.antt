@@ -19,7 +19,6 @@ use Rattle.wav.specs.Header.{header_of, may_be, rate_in, size_in, is_header, tel
 use Rattle.wav.specs.Samples.{data_of, sample_in, samples_of, in_i16, all_in_i16}
 use Rattle.wav_files.specs.Files.{SameBytes, SameHeader, SameSamples, EvenCuts, AnyCuts, no_part, part, again, SameParts}
 use Rattle.wav.specs.declared.header.Head.{Head}
-use Rattle.wav.specs.declared.header.Head.TheVariants as Head
 use Rattle.wav.proofs.Headers.{ranges}
 
 -- the bytes of two bytes' sample are these

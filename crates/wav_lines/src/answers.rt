@@ -44,7 +44,7 @@ pub enum Line {
 }
 
 // The name in a line's first field.
-#[derive(Drop)]
+#[derive(Clone, Copy)]
 pub enum Name {
     Y,
     End,

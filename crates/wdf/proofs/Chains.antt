@@ -1,5 +1,5 @@
 -- A filter's block is that of its chain, and a chain of more sections, whose nibbles are zero, is the same (sections Padded).
-use mathlib.Core.Path.{◌≡◌, refl, sym, ap, ◌∙◌}
+use mathlib.Core.Path.{◌≡◌, refl, ap, ◌∙◌}
 use mathlib.Core.List.{List, [], ◌∷◌}
 use Prim.Native.Nat.{ℕ, ◌+◌, ◌-◌, ◌/◌, ◌^◌, ◌≤◌}
 use native.Mathlib.Omega.{arith}

@@ -4,7 +4,6 @@ use mathlib.Core.Bool.{Bool, true, false, cond, ◌||◌, true≢false}
 use mathlib.Core.List.{List, [], ◌∷◌, ◌++◌}
 use Prim.Native.Nat.{ℕ, zero, suc, ◌+◌, ◌*◌, ◌/◌, ◌%◌, ◌-◌, ◌^◌, ◌≤◌, ◌<◌}
 use native.Mathlib.Nat.{pow-suc, pow-succ', sub_self, sub-zero, div-one, div-le_self, div-div-eq-div-mul}
-use native.Mathlib.Numerals.{add-one}
 use native.Mathlib.Omega.{arith}
 use borrow.Author.Tests.{eqb-true, eqb-false, ne_eqb}
 use lib.Dec.{eqb}
@@ -16,8 +15,6 @@ use Rattle.blocks.specs.Scan.{scan, ends}
 use Rattle.blocks.specs.Blocks.{unless, lengths_number, Blocked}
 use Rattle.adapters.specs.declared.tpa.Tpa.TheVariants.{Z, A, B, X, C, D}
 use Rattle.wdf.specs.declared.filter.Wdf.{Wdf}
-use Rattle.wdf.specs.declared.filter.Answer.{Answer}
-use Rattle.wdf.specs.declared.filter.Stepped.{Stepped}
 use Rattle.adapters.specs.Adapters.{adapted, code_of, retired}
 use Rattle.sections.specs.Sections.{Section, section_of, sections_of, Passed, passed}
 use Rattle.wdf.specs.Calls.{sections_number, holds_retired, new_number, number, filter, none}

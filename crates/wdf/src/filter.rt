@@ -91,6 +91,7 @@ pub fn new_refusal(sections: usize, architecture: u32) -> u32
 }
 
 // The nibble in this one's place: b for e, c for f.
+#[tactic(auto, unfolding(crate::specs::Retired::current))]
 fn current_nibble(nibble: u32) -> u32
     ensures { result ≡ current nibble }
 {

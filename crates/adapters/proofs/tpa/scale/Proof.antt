@@ -9,13 +9,13 @@ returns : tie.Need-returns
 returns c =
     let k = c.before in let s = k.before in
     rw (
-      read w32 c.i64-high.result c.i64-high.type-inv,
-      c.i64-high.ensures,
-      read w64 k.product.result k.product.type-inv,
+      read w32 c.i64_high.result c.i64_high.type_inv,
+      c.i64_high.ensures,
+      read w64 k.product.result k.product.type_inv,
       k.product.ensures,
       to_z-of_z w32 s.args.c s.ranges.c,
       to_z-of_z w32 s.args.a s.ranges.a,
     )
 
-pub scale-spec : {M : Type 1} → statement M
-scale-spec = tie.close (tie.spec (λ c κs. search rules) (λ c κs. search rules) returns)
+pub scale_spec : {M : Type 1} → statement M
+scale_spec = tie.close (tie.spec (λ c κs. search rules) (λ c κs. search rules) returns)

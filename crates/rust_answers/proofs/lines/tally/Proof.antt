@@ -6,8 +6,8 @@ use Rattle.rust_answers.proofs.lines.tally.Tie as tie
 
 returns : tie.Need-returns
 unfolding word
-returns c = rw (c.add-u64.ensures, c.before.unlike.ensures.0)
+returns c = rw (c.add_u64.ensures, c.before.unlike.ensures.0)
 
-pub tally-spec : {M : Type 1} → statement M
-tally-spec =
+pub tally_spec : {M : Type 1} → statement M
+tally_spec =
     tie.close (tie.spec (λ c κs. search rules) (λ c κs. search rules) returns)

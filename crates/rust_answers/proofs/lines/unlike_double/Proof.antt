@@ -1,16 +1,15 @@
 -- The test says which side of `cond` is taken.
 use native.Mathlib.Omega.{arith}
 use borrow.Author.Tests.{eq-eqb, ne_eqb}
-use borrow.Author.Rules.{rules}
 use Rattle.rust_answers.proofs.lines.unlike_double.Statement.{statement}
 use Rattle.rust_answers.proofs.lines.unlike_double.Tie as tie
 
-returns : tie.Need-returns
-returns c = (rw (eq-eqb _ _ c.if1.true), omega arith)
+returns : tie.Need-returns-then-a-b
+returns c = (rw (eq-eqb _ _ c.if-a-b.true), omega arith)
 
-returns-2 : tie.Need-returns-2
-returns-2 c = (rw (ne_eqb _ _ c.if1.false), omega arith)
+returns-2 : tie.Need-returns
+returns-2 c = (rw (ne_eqb _ _ c.if-a-b.false), omega arith)
 
-pub unlike-double-spec : {M : Type 1} → statement M
-unlike-double-spec =
+pub unlike_double_spec : {M : Type 1} → statement M
+unlike_double_spec =
     tie.close (tie.spec returns returns-2)

@@ -7,8 +7,8 @@ use Rattle.rust_answers.proofs.runs.digest.Tie as tie
 
 returns : tie.Need-returns
 unfolding digest_of word
-returns c = rw (c.add-u64.ensures, c.before.mul-u64.ensures)
+returns c = rw (c.add_u64.ensures, c.before.mul_u64.ensures)
 
-pub digest-spec : {M : Type 1} → statement M
-digest-spec =
+pub digest_spec : {M : Type 1} → statement M
+digest_spec =
     tie.close (tie.spec (λ c κs. search rules) (λ c. search rules) (λ c κs. search rules) returns)

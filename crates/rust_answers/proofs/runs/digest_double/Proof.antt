@@ -13,9 +13,9 @@ unfolding digest_two word
 returns c =
     let l = c.before in let d = l.before in let h = d.before in let v = h.before.args.v in
     let e : v / 4294967296 % 4294967296 ≡ v / 4294967296 = omega (arith, h.before.ranges.v.fits) in
-    rw (c.digest2.ensures, d.digest.ensures, l.u64-as-u322.ensures, h.u64-as-u32.ensures, e)
+    rw (c.digest-2.ensures, d.digest.ensures, l.u64_as_u32-2.ensures, h.u64_as_u32.ensures, e)
 
-pub digest-double-spec : {M : Type 1} → statement M
-digest-double-spec =
+pub digest_double_spec : {M : Type 1} → statement M
+digest_double_spec =
     tie.close (tie.spec (λ c κs. search rules) (λ c κs. search rules) (λ c κs. search rules) (λ c κs. search rules)
     returns)

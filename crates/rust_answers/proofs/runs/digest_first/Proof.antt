@@ -6,15 +6,15 @@ use borrow.Author.Rules.{rules}
 use Rattle.rust_answers.proofs.runs.digest_first.Statement.{statement}
 use Rattle.rust_answers.proofs.runs.digest_first.Tie as tie
 
-returns : tie.Need-returns
+returns : tie.Need-returns-then-words-n
 returns c =
-    let short = c.before.if1.true in
-    rw take_all c.digest-words.ensures
+    let short = c.before.if-words-n.true in
+    rw take_all c.digest_words.ensures
 
-slice-aggregate-digest-words : tie.Need-slice-aggregate-digest-words
+slice-aggregate-digest-words : tie.Need-slice_bounds-digest_words-end
 slice-aggregate-digest-words c = simp length-take (omega arith)
 
-pub digest-first-spec : {M : Type 1} → statement M
-digest-first-spec =
+pub digest_first_spec : {M : Type 1} → statement M
+digest_first_spec =
     tie.close
     (tie.spec (λ c κs. search rules) returns slice-aggregate-digest-words (λ c κs. search rules) (λ c. search rules))

@@ -12,9 +12,9 @@ returns : tie.Need-returns
 unfolding drawn word
 returns c =
     let n = c.before in let m = n.before in
-    let e : n.add-u64.result / 4294967296 % 4294967296 ≡ n.add-u64.result / 4294967296 = omega (arith, n.add-u64.type-inv) in
-    rw (c.u64-as-u32.ensures, e, n.add-u64.ensures, m.mul-u64.ensures)
+    let e : n.add_u64-next.result / 4294967296 % 4294967296 ≡ n.add_u64-next.result / 4294967296 = omega (arith, n.add_u64-next.type_inv) in
+    rw (c.u64_as_u32.ensures, e, n.add_u64-next.ensures, m.mul_u64.ensures)
 
-pub draw-spec : {M : Type 1} → statement M
-draw-spec =
+pub draw_spec : {M : Type 1} → statement M
+draw_spec =
     tie.close (tie.spec (λ c κs. search rules) (λ c κs. search rules) (λ c κs. search rules) returns)

@@ -10,14 +10,14 @@ use Rattle.sections.proofs.runs.eight_of.Tie as tie
 
 returns : tie.Need-returns
 returns c =
-    let s : tie.Start = search in let l = s.args.t1 in let h : length l ≡ 8 = search rules in
-    let e0 : tie.After-e0 = search in let e1 : tie.After-e1 = search in let e2 : tie.After-e2 = search in let e3 : tie.After-e3 = search in
-    let e4 : tie.After-e4 = search in let e5 : tie.After-e5 = search in let e6 : tie.After-e6 = search in let e7 : tie.After-e7 = search in
-    alike (read w32 (at l 0) e0.e0.given) (read w32 (at l 1) e1.e1.given) (read w32 (at l 2) e2.e2.given) (read w32 (at l 3) e3.e3.given)
-    (read w32 (at l 4) e4.e4.given) (read w32 (at l 5) e5.e5.given) (read w32 (at l 6) e6.e6.given) (read w32 (at l 7) e7.e7.given)
+    let s : tie.Start = search in let l = s.args.l in let h : length l ≡ 8 = search rules in
+    let e0 : tie.After-e0-1 = search in let e1 : tie.After-e1-1 = search in let e2 : tie.After-e2-1 = search in let e3 : tie.After-e3-1 = search in
+    let e4 : tie.After-e4-1 = search in let e5 : tie.After-e5-1 = search in let e6 : tie.After-e6-1 = search in let e7 : tie.After-e7-1 = search in
+    alike (read w32 (at l 0) e0.e0-1.given) (read w32 (at l 1) e1.e1-1.given) (read w32 (at l 2) e2.e2-1.given) (read w32 (at l 3) e3.e3-1.given)
+    (read w32 (at l 4) e4.e4-1.given) (read w32 (at l 5) e5.e5-1.given) (read w32 (at l 6) e6.e6-1.given) (read w32 (at l 7) e7.e7-1.given)
     ∙ eight_cells l h
 
-pub eight-of-spec : {M : Type 1} → statement M
-eight-of-spec =
+pub eight_of_spec : {M : Type 1} → statement M
+eight_of_spec =
     tie.close (tie.spec (λ c. search rules) (λ c. search rules) (λ c. search rules) (λ c. search rules)
     (λ c. search rules) (λ c. search rules) (λ c. search rules) (λ c. search rules) returns)

@@ -7,5 +7,5 @@ use Rattle.shape.proofs.numbers.overfull.Tie as tie
 returns : tie.Need-returns
 returns c = full_is c.args.inputs c.args.more (omega (arith, c.ranges.inputs.fits))
 
-pub overfull-spec : {M : Type 1} → statement M
-overfull-spec = tie.close (tie.spec (λ c. search rules) returns)
+pub overfull_spec : {M : Type 1} → statement M
+overfull_spec = tie.close (tie.spec (λ c. search rules) returns)

@@ -5,65 +5,65 @@ use Rattle.sums.proofs.Numbers.{small}
 use Rattle.shape.proofs.numbers.refusal_of.Statement.{statement}
 use Rattle.shape.proofs.numbers.refusal_of.Tie as tie
 
-returns : tie.Need-returns
+returns : tie.Need-returns-then-order-gt8
 unfolding refusal_of
-returns c = simp (lt-ltb _ _ c.if1.true)
+returns c = simp (lt-ltb _ _ c.if-order-gt8.true)
 
-returns-2 : tie.Need-returns-2
+returns-2 : tie.Need-returns-then-delay-eq0
 unfolding refusal_of
-returns-2 c = simp (le-ltb _ _ c.before.if1.false, eq-eqb _ _ c.if2.true)
+returns-2 c = simp (le-ltb _ _ c.before.if-order-gt8.false, eq-eqb _ _ c.if-delay-eq0.true)
 
-returns-3 : tie.Need-returns-3
+returns-3 : tie.Need-returns-then-delay-gt8
 unfolding refusal_of
-returns-3 c = simp (le-ltb _ _ c.before.before.if1.false, ne_eqb _ _ c.before.if2.false, lt-ltb _ _ c.if3.true)
+returns-3 c = simp (le-ltb _ _ c.before.before.if-order-gt8.false, ne_eqb _ _ c.before.if-delay-eq0.false, lt-ltb _ _ c.if-delay-gt8.true)
 
-returns-4 : tie.Need-returns-4
+returns-4 : tie.Need-returns-then-rate-gt65535
 unfolding refusal_of
 returns-4 c =
     let e3 = c.before in let e2 = e3.before in let e1 = e2.before in
-    simp (le-ltb _ _ e1.if1.false, ne_eqb _ _ e2.if2.false, le-ltb _ _ e3.if3.false, lt-ltb _ _ c.if4.true)
+    simp (le-ltb _ _ e1.if-order-gt8.false, ne_eqb _ _ e2.if-delay-eq0.false, le-ltb _ _ e3.if-delay-gt8.false, lt-ltb _ _ c.if-rate-gt65535.true)
 
-returns-5 : tie.Need-returns-5
+returns-5 : tie.Need-returns-then-countdown-gt65535
 unfolding refusal_of
 returns-5 c =
     let e4 = c.before in let e3 = e4.before in let e2 = e3.before in let e1 = e2.before in
     simp (
-      le-ltb _ _ e1.if1.false,
-      ne_eqb _ _ e2.if2.false,
-      le-ltb _ _ e3.if3.false,
-      le-ltb _ _ e4.if4.false,
-      lt-ltb _ _ c.if5.true,
+      le-ltb _ _ e1.if-order-gt8.false,
+      ne_eqb _ _ e2.if-delay-eq0.false,
+      le-ltb _ _ e3.if-delay-gt8.false,
+      le-ltb _ _ e4.if-rate-gt65535.false,
+      lt-ltb _ _ c.if-countdown-gt65535.true,
     )
 
-mul-if6 : tie.Need-overflow-mul-if6
-mul-if6 c = let e3 = c.before.before in small _ _ e3.before.before.if1.false e3.if3.false
+mul-if6 : tie.Need-overflow_mul-order
+mul-if6 c = let e3 = c.before.before in small _ _ e3.before.before.if-order-gt8.false e3.if-delay-gt8.false
 
-returns-6 : tie.Need-returns-6
+returns-6 : tie.Need-returns-then-order-delay
 unfolding refusal_of
 returns-6 c =
     let e5 = c.before in let e4 = e5.before in let e3 = e4.before in let e2 = e3.before in let e1 = e2.before in
     simp (
-      le-ltb _ _ e1.if1.false,
-      ne_eqb _ _ e2.if2.false,
-      le-ltb _ _ e3.if3.false,
-      le-ltb _ _ e4.if4.false,
-      le-ltb _ _ e5.if5.false,
-      lt-ltb _ _ c.if6.true,
+      le-ltb _ _ e1.if-order-gt8.false,
+      ne_eqb _ _ e2.if-delay-eq0.false,
+      le-ltb _ _ e3.if-delay-gt8.false,
+      le-ltb _ _ e4.if-rate-gt65535.false,
+      le-ltb _ _ e5.if-countdown-gt65535.false,
+      lt-ltb _ _ c.if-order-delay.true,
     )
 
-returns-7 : tie.Need-returns-7
+returns-7 : tie.Need-returns
 unfolding refusal_of
 returns-7 c =
     let e5 = c.before in let e4 = e5.before in let e3 = e4.before in let e2 = e3.before in let e1 = e2.before in
     simp (
-      le-ltb _ _ e1.if1.false,
-      ne_eqb _ _ e2.if2.false,
-      le-ltb _ _ e3.if3.false,
-      le-ltb _ _ e4.if4.false,
-      le-ltb _ _ e5.if5.false,
-      le-ltb _ _ c.if6.false,
+      le-ltb _ _ e1.if-order-gt8.false,
+      ne_eqb _ _ e2.if-delay-eq0.false,
+      le-ltb _ _ e3.if-delay-gt8.false,
+      le-ltb _ _ e4.if-rate-gt65535.false,
+      le-ltb _ _ e5.if-countdown-gt65535.false,
+      le-ltb _ _ c.if-order-delay.false,
     )
 
-pub refusal-of-spec : {M : Type 1} → statement M
-refusal-of-spec =
+pub refusal_of_spec : {M : Type 1} → statement M
+refusal_of_spec =
     tie.close (tie.spec returns returns-2 returns-3 returns-4 returns-5 mul-if6 returns-6 returns-7)

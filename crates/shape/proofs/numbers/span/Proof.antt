@@ -4,7 +4,7 @@ use Rattle.sums.proofs.Numbers.{product_fits}
 use Rattle.shape.proofs.numbers.span.Statement.{statement}
 use Rattle.shape.proofs.numbers.span.Tie as tie
 
-mul-result : tie.Need-overflow-mul-result
+mul-result : tie.Need-overflow_mul-result
 mul-result c =
     let a = c.args in
     product_fits (a.rate + 1) a.delay 4294967296 4294967295 (omega (arith, c.ranges.rate.fits))
@@ -13,5 +13,5 @@ mul-result c =
 returns : tie.Need-returns
 returns c = rw (add-one c.args.rate)
 
-pub span-spec : {M : Type 1} → statement M
-span-spec = tie.close (tie.spec (λ c. search rules) mul-result returns)
+pub span_spec : {M : Type 1} → statement M
+span_spec = tie.close (tie.spec (λ c. search rules) mul-result returns)

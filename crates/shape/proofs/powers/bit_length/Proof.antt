@@ -5,11 +5,11 @@ use Rattle.sums.proofs.Numbers.{lengths}
 use Rattle.shape.proofs.powers.bit_length.Statement.{statement}
 use Rattle.shape.proofs.powers.bit_length.Tie as tie
 
-sub-result : tie.Need-overflow-sub-result
+sub-result : tie.Need-overflow_sub-result
 sub-result c = leading_le 64 c.args.n
 
 returns : tie.Need-returns
 returns c = omega (arith, lengths 64 c.args.n)
 
-pub bit-length-spec : {M : Type 1} → statement M
-bit-length-spec = tie.close (tie.spec sub-result returns)
+pub bit_length_spec : {M : Type 1} → statement M
+bit_length_spec = tie.close (tie.spec sub-result returns)

@@ -6,5 +6,5 @@ use Rattle.shape.proofs.powers.power_of_two.Tie as tie
 returns : tie.Need-returns
 returns c = shl_exact {a = 1} 1 c.args.n 64 (omega arith) (omega arith) ∙ one-mul _
 
-pub power-of-two-spec : {M : Type 1} → statement M
-power-of-two-spec = tie.close (tie.spec (λ c. search rules) returns)
+pub power_of_two_spec : {M : Type 1} → statement M
+power_of_two_spec = tie.close (tie.spec (λ c. search rules) returns)

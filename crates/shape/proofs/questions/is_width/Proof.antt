@@ -4,13 +4,13 @@ use Rattle.sums.specs.Calls.{is_width}
 use Rattle.shape.proofs.questions.is_width.Statement.{statement}
 use Rattle.shape.proofs.questions.is_width.Tie as tie
 
-returns : tie.Need-returns
+returns : tie.Need-returns-then-width-eq32
 unfolding is_width
-returns c = rw (eq-eqb _ _ c.if1.true)
+returns c = rw (eq-eqb _ _ c.if-width-eq32.true)
 
-returns-2 : tie.Need-returns-2
+returns-2 : tie.Need-returns-else-width-eq32
 unfolding is_width
-returns-2 c = rw (ne_eqb _ _ c.if1.false)
+returns-2 c = rw (ne_eqb _ _ c.if-width-eq32.false)
 
-pub is-width-spec : {M : Type 1} → statement M
-is-width-spec = tie.close (tie.spec returns returns-2)
+pub is_width_spec : {M : Type 1} → statement M
+is_width_spec = tie.close (tie.spec returns returns-2)

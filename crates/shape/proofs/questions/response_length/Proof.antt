@@ -7,32 +7,32 @@ use Rattle.shape.proofs.Ways.{untold, tells}
 use Rattle.shape.proofs.questions.response_length.Statement.{statement}
 use Rattle.shape.proofs.questions.response_length.Tie as tie
 
-fine : (c : tie.Else1) → let a = c.before.before.args in Sound a.order a.delay a.rate a.countdown a.unsettled
+fine : (c : tie.Else-number-ne0) → let a = c.before.before.args in Sound a.order a.delay a.rate a.countdown a.unsettled
 fine c =
     let a = c.before.before.args in
-    sound a.order a.delay a.rate a.countdown a.unsettled (sym c.before.refusal-of.ensures ∙ c.if1.false)
+    sound a.order a.delay a.rate a.countdown a.unsettled (sym c.before.refusal_of-number.ensures ∙ c.if-number-ne0.false)
 
-returns : tie.Need-returns
-returns c = untold c.before.refusal-of.result _ _ c.before.refusal-of.ensures c.if1.true
+returns : tie.Need-returns-then-number-ne0
+returns c = untold c.before.refusal_of-number.result _ _ c.before.refusal_of-number.ensures c.if-number-ne0.true
 
-cast-span : tie.Need-overflow-cast-span
+cast-span : tie.Need-overflow_cast-delay
 cast-span c = record { fits = omega (arith, (fine c).short) }
 
-sub-steps : tie.Need-overflow-sub-steps
+sub-steps : tie.Need-overflow_sub-steps
 sub-steps c =
-    let s = c.before.before.before.args in rw c.span.ensures (span_some s.rate s.delay (fine c.before).some)
+    let s = c.before.before.before.args in rw c.span-r.ensures (span_some s.rate s.delay (fine c.before).some)
 
-mul-steps : tie.Need-overflow-mul-steps
+mul-steps : tie.Need-overflow_mul-steps
 mul-steps c =
     let s = c.before.before.before.args in let ok = fine c.before in
-    let most : c.span.result - 1 ≤ 524288 =
-    omega (arith, span_fits s.rate s.delay ok.slow ok.short, c.span.ensures, add-one s.rate) in
-    product_fits s.order (c.span.result - 1) 8 524288 ok.few most (omega arith)
+    let most : c.span-r.result - 1 ≤ 524288 =
+    omega (arith, span_fits s.rate s.delay ok.slow ok.short, c.span-r.ensures, add-one s.rate) in
+    product_fits s.order (c.span-r.result - 1) 8 524288 ok.few most (omega arith)
 
-returns-2 : tie.Need-returns-2
+returns-2 : tie.Need-returns
 unfolding response_length_of
-returns-2 c = tells _ _ _ (sym c.before.before.refusal-of.ensures ∙ c.before.if1.false) (rw c.span.ensures)
+returns-2 c = tells _ _ _ (sym c.before.before.refusal_of-number.ensures ∙ c.before.if-number-ne0.false) (rw c.span-r.ensures)
 
-pub response-length-spec : {M : Type 1} → statement M
-response-length-spec =
+pub response_length_spec : {M : Type 1} → statement M
+response_length_spec =
     tie.close (tie.spec (λ c κs. search rules) returns cast-span (λ c κs. search rules) sub-steps mul-steps returns-2)

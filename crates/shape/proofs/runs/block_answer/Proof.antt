@@ -15,11 +15,11 @@ unfolding written_of
 some zero u i c k h e = absurd (h refl)
 some (suc n) u i c k h e = rw e
 
-returns : tie.Need-returns
-returns c = none _ _ _ _ c.if1.true
+returns : tie.Need-returns-then-count-eq0
+returns c = none _ _ _ _ c.if-count-eq0.true
 
-returns-2 : tie.Need-returns-2
-returns-2 c = let else1 : tie.Else1 = search in some _ _ _ _ _ else1.if1.left c.wrapping-add-u64.ensures
+returns-2 : tie.Need-returns
+returns-2 c = let else1 : tie.Else-count-eq0 = search in some _ _ _ _ _ else1.if-count-eq0.false c.wrapping_add_u64-number.ensures
 
-pub block-answer-spec : {M : Type 1} → statement M
-block-answer-spec = tie.close (tie.spec returns (λ c. search rules) (λ c κs. search rules) returns-2)
+pub block_answer_spec : {M : Type 1} → statement M
+block_answer_spec = tie.close (tie.spec returns (λ c. search rules) (λ c κs. search rules) returns-2)

@@ -4,33 +4,33 @@ use borrow.Author.Rules.{rules}
 use Rattle.text.proofs.hex.hex_digit.Statement.{statement}
 use Rattle.text.proofs.hex.hex_digit.Tie as tie
 
-returns : tie.Need-returns
-returns c = let begin : tie.Start = search in rw (lt-ltb begin.args.byte 48 c.if1.true)
+returns : tie.Need-returns-then-b-lt-ZERO
+returns c = let begin : tie.Start = search in rw (lt-ltb begin.args.byte 48 c.if-b-lt-ZERO.true)
 
-returns-2 : tie.Need-returns-2
+returns-2 : tie.Need-returns-then-b-le-NINE
 returns-2 c =
-    let begin : tie.Start = search in let first : tie.Else1 = search in
+    let begin : tie.Start = search in let first : tie.Else-b-lt-ZERO = search in
     let b = begin.args.byte in
-    rw (le-ltb b 48 first.if1.left, le-leb b 57 c.if2.true)
+    rw (le-ltb b 48 first.if-b-lt-ZERO.false, le-leb b 57 c.if-b-le-NINE.true)
 
-returns-3 : tie.Need-returns-3
+returns-3 : tie.Need-returns-then-b-lt-A
 returns-3 c =
-    let begin : tie.Start = search in let first : tie.Else1 = search in let second : tie.Else2 = search in
+    let begin : tie.Start = search in let first : tie.Else-b-lt-ZERO = search in let second : tie.Else-b-le-NINE = search in
     let b = begin.args.byte in
-    rw (le-ltb b 48 first.if1.left, lt-leb b 57 second.if2.left, lt-ltb b 97 c.if3.true)
+    rw (le-ltb b 48 first.if-b-lt-ZERO.false, lt-leb b 57 second.if-b-le-NINE.false, lt-ltb b 97 c.if-b-lt-A.true)
 
-returns-4 : tie.Need-returns-4
+returns-4 : tie.Need-returns-then-b-le-F
 returns-4 c =
-    let begin : tie.Start = search in let first : tie.Else1 = search in let second : tie.Else2 = search in let third : tie.Else3 = search in
-    let fourth : tie.Then4 = search in
+    let begin : tie.Start = search in let first : tie.Else-b-lt-ZERO = search in let second : tie.Else-b-le-NINE = search in let third : tie.Else-b-lt-A = search in
+    let fourth : tie.Then-b-le-F = search in
     let b = begin.args.byte in
-    rw (le-ltb b 48 first.if1.left, lt-leb b 57 second.if2.left, le-ltb b 97 third.if3.left, le-leb b 102 fourth.if4.taken)
+    rw (le-ltb b 48 first.if-b-lt-ZERO.false, lt-leb b 57 second.if-b-le-NINE.false, le-ltb b 97 third.if-b-lt-A.false, le-leb b 102 fourth.if-b-le-F.true)
 
-returns-5 : tie.Need-returns-5
+returns-5 : tie.Need-returns
 returns-5 c =
-    let begin : tie.Start = search in let first : tie.Else1 = search in let second : tie.Else2 = search in let third : tie.Else3 = search in
+    let begin : tie.Start = search in let first : tie.Else-b-lt-ZERO = search in let second : tie.Else-b-le-NINE = search in let third : tie.Else-b-lt-A = search in
     let b = begin.args.byte in
-    rw (le-ltb b 48 first.if1.left, lt-leb b 57 second.if2.left, le-ltb b 97 third.if3.left, lt-leb b 102 c.if4.false)
+    rw (le-ltb b 48 first.if-b-lt-ZERO.false, lt-leb b 57 second.if-b-le-NINE.false, le-ltb b 97 third.if-b-lt-A.false, lt-leb b 102 c.if-b-le-F.false)
 
-pub hex-digit-spec : {M : Type 1} → statement M
-hex-digit-spec = tie.close (tie.spec returns returns-2 returns-3 (λ c. search rules) returns-4 returns-5)
+pub hex_digit_spec : {M : Type 1} → statement M
+hex_digit_spec = tie.close (tie.spec returns returns-2 returns-3 (λ c. search rules) returns-4 returns-5)

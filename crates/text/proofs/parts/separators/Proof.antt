@@ -10,32 +10,32 @@ use Rattle.text.proofs.Parting.{count_yes, count_no, count_past}
 use Rattle.text.proofs.parts.separators.Statement.{statement}
 use Rattle.text.proofs.parts.separators.Tie as tie
 
-abbrev invariant-loop : tie.invariant-loop
+abbrev invariant-loop : tie.invariant-loop-i
 invariant-loop text sep n₀ i₀ n i = (i ≤ length text) × (n ≤ i) × (count sep text ≡ n + count sep (drop i text))
 
-abbrev decreases-loop : tie.decreases-loop
+abbrev decreases-loop : tie.decreases-loop-i
 decreases-loop text sep n₀ i₀ n i = length text - i
 
-loop-holds : tie.Need-loop-init invariant-loop decreases-loop
+loop-holds : tie.Need-loop-i-init invariant-loop decreases-loop
 loop-holds c = (omega arith, omega arith, omega arith)
 
-loop-again : tie.Need-loop-preserved invariant-loop decreases-loop
+loop-again : tie.Need-loop-i-preserved invariant-loop decreases-loop
 loop-again c =
     let b = c.before.before.before in
     let a = b.before.args in
-    let l = b.loop in
+    let l = b.loop-i in
     ⊎_elim
-    (λ w. (omega arith, omega arith, omega (arith, l.invariant.2, count_yes a.sep a.text.now l.i (omega arith) w.0.taken)))
-    (λ w. (omega arith, omega arith, omega (arith, l.invariant.2, count_no a.sep a.text.now l.i (omega arith) w.0.left)))
-    c.if1.branch
+    (λ w. (omega arith, omega arith, omega (arith, l.invariant.2, count_yes a.sep a.text.now l.i (omega arith) w.if-text-i.true)))
+    (λ w. (omega arith, omega arith, omega (arith, l.invariant.2, count_no a.sep a.text.now l.i (omega arith) w.if-text-i.false)))
+    c.if-text-i.branch-raw
 
 returns : tie.Need-returns invariant-loop decreases-loop
 returns c =
     let a = c.before.before.args in
-    let l = c.before.loop in
+    let l = c.before.loop-i in
     omega (arith, l.invariant.2, count_past a.sep a.text.now l.i (omega arith))
 
-pub separators-spec : {M : Type 1} → statement M
-separators-spec =
+pub separators_spec : {M : Type 1} → statement M
+separators_spec =
     tie.close (tie.spec invariant-loop decreases-loop loop-holds (λ c. search rules) (λ c. search rules) (λ c. search rules)
     (λ c. search rules) loop-again returns)

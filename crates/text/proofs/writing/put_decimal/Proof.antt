@@ -1,5 +1,5 @@
 -- The digits from the last to the first: those from i on stand in the buffer (Filling).
-use Prim.Native.Nat.{◌<◌, ◌%◌, ℕ, ◌≤◌, ◌-◌, ◌+◌}
+use Prim.Native.Nat.{◌<◌, ◌%◌, ℕ, ◌≤◌, ◌+◌}
 use mathlib.Core.Path.{◌≡◌, refl, ap}
 use native.Mathlib.Omega.{arith}
 use lib.ListN.{length}
@@ -10,34 +10,34 @@ use Rattle.text.proofs.Spelling.{Filling, filling_start, filling_on, filling_don
 use Rattle.text.proofs.writing.put_decimal.Statement.{statement}
 use Rattle.text.proofs.writing.put_decimal.Tie as tie
 
-abbrev invariant-loop : tie.invariant-loop
+abbrev invariant-loop : tie.invariant-loop-i
 invariant-loop out₀ at n w end left₀ i₀ out left i = (w ≡ length (decimal_of n)) × (end ≡ at + w) × (at + w ≤ length out₀)
     × Filling out₀ (decimal_of n) at out left i
 
-abbrev decreases-loop : tie.decreases-loop
+abbrev decreases-loop : tie.decreases-loop-i
 decreases-loop out₀ at n w end left₀ i₀ out left i = i
 
-returns : tie.Need-returns invariant-loop decreases-loop
+returns : tie.Need-returns-then-not-has_room invariant-loop decreases-loop
 returns c =
     let begin : tie.Start invariant-loop decreases-loop = search in
     let a = begin.args in
-    let h : length a.out.now < a.at + c.before.before.width.result = not_fits _ _ _ _ c.before.has_room.ensures
-    c.if1.true in
-    puts_none a.out.now a.at (decimal_of a.n) (omega (arith, c.before.before.width.ensures))
+    let h : length a.out.now < a.at + c.before.before.width-w.result = not_fits _ _ _ _ c.before.has_room.ensures
+    c.if-not-has_room.true in
+    puts_none a.out.now a.at (decimal_of a.n) (omega (arith, c.before.before.width-w.ensures))
 
-add-end : tie.Need-overflow-add-end invariant-loop decreases-loop
+add-end : tie.Need-overflow_add-end invariant-loop decreases-loop
 add-end c =
     let begin : tie.Start invariant-loop decreases-loop = search in
-    let h : begin.args.at + c.before.before.width.result ≤ length begin.args.out.now = does_fit _ _ _ _
-    c.before.has_room.ensures c.if1.false in
+    let h : begin.args.at + c.before.before.width-w.result ≤ length begin.args.out.now = does_fit _ _ _ _
+    c.before.has_room.ensures c.if-not-has_room.false in
     omega arith
 
-loop-holds : tie.Need-loop-init invariant-loop decreases-loop
+loop-holds : tie.Need-loop-i-init invariant-loop decreases-loop
 loop-holds c =
     let begin : tie.Start invariant-loop decreases-loop = search in
     let a = begin.args in
-    let w = c.before.before.width in
-    let h : a.at + w.result ≤ length a.out.now = does_fit _ _ _ _ c.before.has_room.ensures c.if1.false in (
+    let w = c.before.before.width-w in
+    let h : a.at + w.result ≤ length a.out.now = does_fit _ _ _ _ c.before.has_room.ensures c.if-not-has_room.false in (
       w.ensures,
       refl,
       h,
@@ -45,14 +45,14 @@ loop-holds c =
           (spelt-last 20 a.n)),
     )
 
-slice-write-out : tie.Need-slice-write-out invariant-loop decreases-loop
-slice-write-out c = let f = c.before.loop.invariant.3 in omega (arith, f.high, f.same_length, c.before.loop.invariant.0)
+slice-write-out : tie.Need-bounds-out-i invariant-loop decreases-loop
+slice-write-out c = let f = c.before.loop-i.invariant.3 in omega (arith, f.high, f.same_length, c.before.loop-i.invariant.0)
 
-loop-again : tie.Need-loop-preserved invariant-loop decreases-loop
+loop-again : tie.Need-loop-i-preserved invariant-loop decreases-loop
 loop-again c =
     let begin : tie.Start invariant-loop decreases-loop = search in
     let a = begin.args in
-    let l = c.before.loop in (
+    let l = c.before.loop-i in (
       l.invariant.0,
       refl,
       l.invariant.2,
@@ -60,14 +60,14 @@ loop-again c =
           (omega (arith, l.invariant.0, l.invariant.2)) (omega arith) l.invariant.3 refl,
     )
 
-same_length : tie.Need-same-length invariant-loop decreases-loop
-same_length c = c.before.loop.invariant.3.same_length
+same_length : tie.Need-shape_of-out invariant-loop decreases-loop
+same_length c = c.before.loop-i.invariant.3.same_length
 
-returns-2 : tie.Need-returns-2 invariant-loop decreases-loop
+returns-2 : tie.Need-returns invariant-loop decreases-loop
 returns-2 c =
     let begin : tie.Start invariant-loop decreases-loop = search in
     let a = begin.args in
-    let l = c.before.loop in
+    let l = c.before.loop-i in
     puts a.out.now a.at (decimal_of a.n) _ _ (omega (arith, l.invariant.0, l.invariant.2))
     (record {
       next = ap (λ (k : ℕ). a.at + k) l.invariant.0;
@@ -75,8 +75,8 @@ returns-2 c =
           l.left l.i (omega arith) l.invariant.3;
     })
 
-pub put-decimal-spec : {M : Type 1} → statement M
-put-decimal-spec =
+pub put_decimal_spec : {M : Type 1} → statement M
+put_decimal_spec =
     tie.close (tie.spec invariant-loop decreases-loop (λ c κs. search rules) (λ c κs. search rules) returns add-end loop-holds
     (λ c. search rules) (λ c. search rules) (λ c. search rules) slice-write-out (λ c. search rules) loop-again
     same_length returns-2)

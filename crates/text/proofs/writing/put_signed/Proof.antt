@@ -11,12 +11,12 @@ use Rattle.text.proofs.writing.put_signed.Tie as tie
 
 returns : tie.Need-returns
 returns c =
-    let put : tie.After-put-signed64 = search in
-    let at-i32-as-i64 : tie.After-i32-as-i64 = search in
+    let put : tie.After-put_signed64 = search in
+    let at-i32-as-i64 : tie.After-i32_as_i64 = search in
     let begin : tie.Start = search in
-    let v = at-i32-as-i64.i32-as-i64 in
-    puts_same (ap signed_of (read w64 v.result v.ok ∙ v.ensures ∙ to_z-of_z w32 begin.args.v begin.fits.v))
-    put.put-signed64.ensures
+    let v = at-i32-as-i64.i32_as_i64 in
+    puts_same (ap signed_of (read w64 v.result v.type_inv ∙ v.ensures ∙ to_z-of_z w32 begin.args.v begin.ranges.v))
+    put.put_signed64.ensures
 
-pub put-signed-spec : {M : Type 1} → statement M
-put-signed-spec = tie.close (tie.spec (λ c κs. search rules) (λ c κs. search rules) (λ c. search rules) returns)
+pub put_signed_spec : {M : Type 1} → statement M
+put_signed_spec = tie.close (tie.spec (λ c κs. search rules) (λ c κs. search rules) (λ c. search rules) returns)

@@ -11,11 +11,11 @@ returns c =
     let second = third.before.before in
     let first = second.before.before in
     let start = first.before.before.before in
-    rw (first.wide.ensures.0, second.wide2.ensures.0, third.wide3.ensures.0, c.wide4.ensures.0)
+    rw (first.wide.ensures.0, second.wide-2.ensures.0, third.wide-3.ensures.0, c.wide-4.ensures.0)
     (sym (four_at start.args.s.now start.args.at start.requires))
 
-pub four-spec : {M : Type 1} → statement M
-four-spec =
+pub four_spec : {M : Type 1} → statement M
+four_spec =
     tie.close (tie.spec (λ c. search rules) (λ c κs. search rules) (λ c. search rules) (λ c. search rules)
     (λ c κs. search rules) (λ c. search rules) (λ c. search rules) (λ c κs. search rules) (λ c. search rules)
     (λ c. search rules) (λ c κs. search rules) (λ c. search rules) (λ c. search rules) (λ c. search rules)

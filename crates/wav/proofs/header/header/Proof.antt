@@ -14,19 +14,19 @@ returns c =
     let f = e.before.before.before in
     let g = f.before.before.before in
     fours refl refl refl refl
-    (fours g.before.before.before.low.ensures g.before.before.low2.ensures g.before.low3.ensures g.low4.ensures
+    (fours g.before.before.before.low.ensures g.before.before.low-2.ensures g.before.low-3.ensures g.low-4.ensures
     (fours refl refl refl refl
     (fours refl refl refl refl
     (fours refl refl refl refl
     (fours refl refl refl refl
-    (fours f.before.before.low5.ensures f.before.low6.ensures f.low7.ensures e.before.before.low8.ensures
-    (fours e.before.low9.ensures e.low10.ensures d.before.before.low11.ensures d.before.low12.ensures
+    (fours f.before.before.low-5.ensures f.before.low-6.ensures f.low-7.ensures e.before.before.low-8.ensures
+    (fours e.before.low-9.ensures e.low-10.ensures d.before.before.low-11.ensures d.before.low-12.ensures
     (fours refl refl refl refl
     (fours refl refl refl refl
-    (fours d.low13.ensures c.before.before.low14.ensures c.before.low15.ensures c.low16.ensures refl))))))))))
+    (fours d.low-13.ensures c.before.before.low-14.ensures c.before.low-15.ensures c.low-16.ensures refl))))))))))
 
-pub header-spec : {M : Type 1} → statement M
-header-spec =
+pub header_spec : {M : Type 1} → statement M
+header_spec =
     tie.close (tie.spec (λ c. search rules) (λ c. search rules) (λ c κs. search rules) (λ c κs. search rules)
     (λ c κs. search rules) (λ c κs. search rules) (λ c κs. search rules) (λ c κs. search rules) (λ c κs. search rules)
     (λ c κs. search rules) (λ c κs. search rules) (λ c κs. search rules) (λ c κs. search rules) (λ c κs. search rules)

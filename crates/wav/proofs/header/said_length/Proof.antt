@@ -6,11 +6,11 @@ use borrow.Author.Rules.{rules}
 use Rattle.wav.proofs.header.said_length.Statement.{statement}
 use Rattle.wav.proofs.header.said_length.Tie as tie
 
-returns : tie.Need-returns
-returns c = sym (rw (lt-leb _ _ c.if1.true))
+returns : tie.Need-returns-then-bytes-lt44
+returns c = sym (rw (lt-leb _ _ c.if-bytes-lt44.true))
 
-returns-2 : tie.Need-returns-2
-returns-2 c = sym (rw (le-leb _ _ c.before.if1.false) (ap (λ (n : ℕ). 44 + n) (sym c.four.ensures)))
+returns-2 : tie.Need-returns
+returns-2 c = sym (rw (le-leb _ _ c.before.if-bytes-lt44.false) (ap (λ (n : ℕ). 44 + n) (sym c.four.ensures)))
 
-pub said-length-spec : {M : Type 1} → statement M
-said-length-spec = tie.close (tie.spec returns (λ c κs. search rules) (λ c. search rules) (λ c. search rules) returns-2)
+pub said_length_spec : {M : Type 1} → statement M
+said_length_spec = tie.close (tie.spec returns (λ c κs. search rules) (λ c. search rules) (λ c. search rules) returns-2)

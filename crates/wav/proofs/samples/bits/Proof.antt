@@ -9,12 +9,11 @@ use Rattle.wav.proofs.Parts.{low_bits}
 use borrow.Author.Rules.{rules}
 use Rattle.wav.proofs.samples.bits.Statement.{statement}
 use Rattle.wav.proofs.samples.bits.Tie as tie
-use Rattle.words.proofs.casts.i32_as_u32.Reads as i32-as-u32-reads
 
 returns : tie.Need-returns
 returns c =
     let x = c.before.args.x in
-    rw c.i32-as-u32.ensures (ap (λ (z : ℤ). word w32 z % 65536) (to_z-of_z w32 x c.before.ranges.x) ∙ low_bits x)
+    rw c.i32_as_u32.ensures (ap (λ (z : ℤ). word w32 z % 65536) (to_z-of_z w32 x c.before.ranges.x) ∙ low_bits x)
 
-pub bits-spec : {M : Type 1} → statement M
-bits-spec = tie.close (tie.spec (λ c κs. search rules) returns)
+pub bits_spec : {M : Type 1} → statement M
+bits_spec = tie.close (tie.spec (λ c κs. search rules) returns)

@@ -10,21 +10,19 @@ use Rattle.wav.proofs.Parts.{sample_shift}
 use borrow.Author.Rules.{rules}
 use Rattle.wav.proofs.samples.sample.Statement.{statement}
 use Rattle.wav.proofs.samples.sample.Tie as tie
-use Rattle.words.proofs.casts.u32_as_i32.Reads as u32-as-i32-reads
-use Rattle.words.proofs.shifts.shr_i32.Reads as shr-i32-reads
 
 returns : tie.Need-returns
 returns c =
-    let x = c.before.u32-as-i32 in
+    let x = c.before.u32_as_i32 in
     let lo = c.before.before.before.wide in
-    let hi = c.before.before.wide2 in
+    let hi = c.before.before.wide-2 in
     let u = lo.result + 256 * hi.result in
-    let shifted = read w32 c.shr-i32.result c.shr-i32.type-inv ∙ c.shr-i32.ensures in
-    shifted ∙ ap (λ (z : ℤ). floor_div z (2 ^ 16)) (read w32 x.result x.type-inv ∙ x.ensures)
+    let shifted = read w32 c.shr_i32.result c.shr_i32.type_inv ∙ c.shr_i32.ensures in
+    shifted ∙ ap (λ (z : ℤ). floor_div z (2 ^ 16)) (read w32 x.result x.type_inv ∙ x.ensures)
     ∙ sample_shift u (omega (arith, lo.ensures.1, hi.ensures.1))
     ∙ ap (λ (n : ℕ). wrap w16 (pos n)) (rw (lo.ensures.0, hi.ensures.0))
 
-pub sample-spec : {M : Type 1} → statement M
-sample-spec =
+pub sample_spec : {M : Type 1} → statement M
+sample_spec =
     tie.close (tie.spec (λ c κs. search rules) (λ c κs. search rules) (λ c. search rules) (λ c. search rules)
     (λ c. search rules) (λ c κs. search rules) (λ c κs. search rules) returns)

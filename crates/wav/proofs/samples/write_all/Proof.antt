@@ -17,37 +17,37 @@ use borrow.Author.Rules.{rules}
 use Rattle.wav.proofs.samples.write_all.Statement.{statement}
 use Rattle.wav.proofs.samples.write_all.Tie as tie
 
-abbrev invariant-loop : tie.invariant-loop
+abbrev invariant-loop : tie.invariant-loop-i
 invariant-loop samples out₀ i₀ out i = (i ≤ length samples) × (length out ≡ length out₀) × (out ≡ overlaid out₀ 0 (data_of (take i samples)))
 
-abbrev decreases-loop : tie.decreases-loop
+abbrev decreases-loop : tie.decreases-loop-i
 decreases-loop samples out₀ i₀ out i = length samples - i
 
-loop-holds : tie.Need-loop-init invariant-loop decreases-loop
+loop-holds : tie.Need-loop-i-init invariant-loop decreases-loop
 loop-holds c = (omega arith, refl, put-nil c.before.args.out.now 0)
 
-loop-again : tie.Need-loop-preserved invariant-loop decreases-loop
+loop-again : tie.Need-loop-i-preserved invariant-loop decreases-loop
 loop-again c =
     let p = c.before.before in
     let q = p.before.before in
     let o = q.before.before in
-    let l = o.loop in
+    let l = o.loop-i in
     let s = o.before.before in
     let a = s.args in
     let x = get_or a.samples.now l.i (pos 0) in
     let b = little 2 (word w16 x) in
-    let e = p.put-sample.ensures ∙ ap (λ (z : ℤ). overlaid l.out (2 * l.i) (little 2 (word w16 z))) (read w32 x q.x.given) in
+    let e = p.put_sample.ensures ∙ ap (λ (z : ℤ). overlaid l.out (2 * l.i) (little 2 (word w16 z))) (read w32 x q.x-1.given) in
     let w = ap (λ (o : List ℕ). overlaid o (2 * l.i) b) l.invariant.2 ∙ write_on a.out.now a.samples.now l.i (omega arith) in
     let n = length-put l.out (2 * l.i) b (omega (arith, s.requires)) in
     (omega arith, ap length e ∙ n ∙ l.invariant.1, e ∙ w)
 
 returns : tie.Need-returns invariant-loop decreases-loop
 returns c =
-    let l = c.before.loop in
+    let l = c.before.loop-i in
     let a = c.before.before.before.args in
-    l.invariant.2 ∙ write_done a.out.now a.samples.now l.i c.loop-test.false
+    l.invariant.2 ∙ write_done a.out.now a.samples.now l.i c.loop-i-test.false
 
-pub write-all-spec : {M : Type 1} → statement M
-write-all-spec =
+pub write_all_spec : {M : Type 1} → statement M
+write_all_spec =
     tie.close (tie.spec invariant-loop decreases-loop loop-holds (λ c. search rules) (λ c. search rules) (λ c. search rules)
     (λ c κs. search rules) (λ c. search rules) (λ c. search rules) loop-again (λ c. search rules) returns)

@@ -6,13 +6,13 @@ use Rattle.wdf.specs.Calls.{made_unless}
 use Rattle.wdf.proofs.filter.made_unless.Statement.{statement}
 use Rattle.wdf.proofs.filter.made_unless.Tie as tie
 
-returns : tie.Need-returns
+returns : tie.Need-returns-then-refused-ne0
 unfolding made_unless
-returns c = let k = c.before.args.refused in rw (ne_eqb k 0 c.if1.true, ← refused k c.if1.true)
+returns c = let k = c.before.args.refused in rw (ne_eqb k 0 c.if-refused-ne0.true, ← refused k c.if-refused-ne0.true)
 
-returns-2 : tie.Need-returns-2
+returns-2 : tie.Need-returns
 unfolding made_unless verdict_of
-returns-2 c = rw c.if1.false
+returns-2 c = rw c.if-refused-ne0.false
 
-pub made-unless-spec : {M : Type 1} → statement M
-made-unless-spec = tie.close (tie.spec returns returns-2)
+pub made_unless_spec : {M : Type 1} → statement M
+made_unless_spec = tie.close (tie.spec returns returns-2)

@@ -16,6 +16,6 @@ returns c =
       to_z-of_z w32 s.args.coefficient s.ranges.coefficient,
     )
 
-pub section-spec : {M : Type 1} → statement M
-section-spec =
+pub section_spec : {M : Type 1} → statement M
+section_spec =
     tie.close (tie.spec (λ c. search rules) (λ c κs. search rules) (λ c κs. search rules) returns)

@@ -6,34 +6,34 @@ use Rattle.wdf.specs.Calls.{number, answer, next, filter}
 use Rattle.wdf.proofs.filter.Wdf.block.Statement.{statement}
 use Rattle.wdf.proofs.filter.Wdf.block.Tie as tie
 
-returns : tie.Need-returns
+returns : tie.Need-returns-then-xs-ys
 returns c =
     let a = c.before.args in
-    unlike (number a.self) answer next a.self a.xs.now a.ys.now c.if1.true
+    unlike (number a.self) answer next a.self a.xs.now a.ys.now c.if-xs-ys.true
 
-returns-2 : tie.Need-returns-2
+returns-2 : tie.Need-returns-then-refused-ne0
 returns-2 c =
-    let k = c.before.refusal in let d = c.before.before in let a = d.before.args in
-    rw k.ensures (own (number a.self) answer next a.self a.xs.now a.ys.now d.if1.false
-    (rw k.ensures at c.if2.true))
+    let k = c.before.refusal-refused in let d = c.before.before in let a = d.before.args in
+    rw k.ensures (own (number a.self) answer next a.self a.xs.now a.ys.now d.if-xs-ys.false
+    (rw k.ensures at c.if-refused-ne0.true))
 
 -- where the filter is known to be accepted
-abbrev accepted : tie.After-run-block-arg → tie.Else2
+abbrev accepted : tie.After-run_block-arg-1 → tie.Else-refused-ne0
 accepted c = let after-z = c.before.before.before in after-z.before.before
 
-run-block-requires : tie.Need-run-block-requires
+run-block-requires : tie.Need-run_block-requires
 run-block-requires c κs =
-    let e = accepted c in let k = e.before.refusal in let d = e.before.before in
-    (rw k.ensures at e.if2.left, search rules, d.if1.left)
+    let e = accepted c in let k = e.before.refusal-refused in let d = e.before.before in
+    (rw k.ensures at e.if-refused-ne0.false, search rules, d.if-xs-ys.false)
 
-returns-3 : tie.Need-returns-3
+returns-3 : tie.Need-returns
 returns-3 c =
     let b = c.before in let e = accepted b.before in
-    let k = e.before.refusal in let d = e.before.before in let a = d.before.args in
+    let k = e.before.refusal-refused in let d = e.before.before in let a = d.before.args in
     taken (number a.self) answer next a.self a.xs.now a.ys.now
-    (filter a.self.sections a.self.architecture a.self.a b.run-block.new.1.1.1.0)
-    b.run-block.new.1.1.1.1.1.0
-    d.if1.left (sym k.ensures ∙ e.if2.left) b.run-block.ensures.0 b.run-block.ensures.1
+    (filter a.self.sections a.self.architecture a.self.a b.run_block.new.z)
+    b.run_block.new.ys
+    d.if-xs-ys.false (sym k.ensures ∙ e.if-refused-ne0.false) b.run_block.ensures.0 b.run_block.ensures.1
 
 pub block_spec : {M : Type 1} → statement M
 block_spec =

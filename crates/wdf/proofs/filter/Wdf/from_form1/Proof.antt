@@ -4,7 +4,7 @@ use Rattle.wdf.proofs.filter.Wdf.from_form1.Statement.{statement}
 use Rattle.wdf.proofs.filter.Wdf.from_form1.Tie as tie
 
 returns : tie.Need-returns
-returns c = rw (c.made-unless.ensures, c.before.refusal.ensures)
+returns c = rw (c.made_unless.ensures, c.before.refusal-refused.ensures)
 
-pub from-form1-spec : {M : Type 1} → statement M
-from-form1-spec = tie.close (tie.spec (λ c κs. search rules) (λ c κs. search rules) returns)
+pub from_form1_spec : {M : Type 1} → statement M
+from_form1_spec = tie.close (tie.spec (λ c κs. search rules) (λ c κs. search rules) returns)

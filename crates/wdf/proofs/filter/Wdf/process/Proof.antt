@@ -7,23 +7,23 @@ use Rattle.wdf.proofs.Steps.{few, refuses, gives}
 use Rattle.wdf.proofs.filter.Wdf.process.Statement.{statement}
 use Rattle.wdf.proofs.filter.Wdf.process.Tie as tie
 
-returns : tie.Need-returns
+returns : tie.Need-returns-then-refused-ne0
 returns c =
-    let k = c.before.refusal in let a = c.before.before.args in
-    rw k.ensures (refuses a.self a.x (rw k.ensures at c.if1.true))
+    let k = c.before.refusal-refused in let a = c.before.before.args in
+    rw k.ensures (refuses a.self a.x (rw k.ensures at c.if-refused-ne0.true))
 
-pass-requires : tie.Need-pass-requires
+pass-requires : tie.Need-pass-y-requires
 pass-requires c κs =
-    let after-z = c.before.before in let e = after-z.before.before in let k = e.before.refusal in let a = e.before.before.args in
-    (few a.self.sections a.self.architecture (rw k.ensures at e.if1.false), search rules)
+    let after-z = c.before.before in let e = after-z.before.before in let k = e.before.refusal-refused in let a = e.before.before.args in
+    (few a.self.sections a.self.architecture (rw k.ensures at e.if-refused-ne0.false), search rules)
 
-returns-2 : tie.Need-returns-2
+returns-2 : tie.Need-returns
 returns-2 c =
-    let after-z = c.before.before.before in let e = after-z.before.before in let k = e.before.refusal in
+    let after-z = c.before.before.before in let e = after-z.before.before in let k = e.before.refusal-refused in
     let q = e.before.before in let a = q.args in
     let b = to_z-of_z w32 a.x q.ranges.x in
-    rw (read w32 c.pass.result c.pass.type-inv, c.pass.ensures.0, c.pass.ensures.1, b)
-    (gives a.self a.x (rw k.ensures at e.if1.false))
+    rw (read w32 c.pass-y.result c.pass-y.type_inv, c.pass-y.ensures.0, c.pass-y.ensures.1, b)
+    (gives a.self a.x (rw k.ensures at e.if-refused-ne0.false))
 
-pub process-spec : {M : Type 1} → statement M
-process-spec = tie.close (tie.spec (λ c κs. search rules) returns pass-requires returns-2)
+pub process_spec : {M : Type 1} → statement M
+process_spec = tie.close (tie.spec (λ c κs. search rules) returns pass-requires returns-2)
