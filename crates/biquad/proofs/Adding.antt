@@ -137,6 +137,8 @@ zero_added_fits (fin s (suc m) e) t f = f
 
 -- a number other than -0.0 stays
 pub stays : (v : Float) (t : Bool) → T (fits binary64 v) → T (plain v) → zero_added t v ≡ v
+stays nan t f p = elim p [ ]
+stays (inf _) t f p = elim p [ ]
 stays (fin true zero e) t f p = absurd p
 stays (fin false zero e) t f p = sym (zeroed false e f)
 stays (fin s (suc m) e) t f p = refl

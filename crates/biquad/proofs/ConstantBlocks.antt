@@ -35,6 +35,8 @@ pub record Quiet (s : DirectForm1) : Type 0 where
   pub y2 : Finite s.y2
 
 plain_finite : (x : Float) → T (plain x) → Finite x
+plain_finite lib.Ieee.nan p = elim p [ ]
+plain_finite (lib.Ieee.inf _) p = elim p [ ]
 plain_finite (fin s m e) p = refl
 
 -- IDENTITY gives back a block of numbers other than -0.0: in direct form 1 from a finite state, in direct form 2

@@ -27,6 +27,8 @@ patterned f s m e = refl
 -- what fits and has the value of what fits is it
 only : (f : Format) (x : Float) (s : Bool) (m : ℕ) (e : ℤ) → T (fits f x) → T (fits f (fin s m e)) → HasValue x s (m * up e) (down e)
     → x ≡ fin s m e
+only f lib.Ieee.nan s m e p q v = elim v [ ]
+only f (lib.Ieee.inf _) s m e p q v = elim v [ ]
 only f (fin t n g) s m e p q v =
     let same : count f n g ≡ count f m e =
     div_same (n * up g * 2 ^ low f) (down g) (m * up e * 2 ^ low f) (down e) (down_pos g) (down_pos e)

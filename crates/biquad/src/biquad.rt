@@ -5,7 +5,7 @@ ghost use Rattle.biquad.specs.Coefficients.{proportional_of, identity_of, hold_o
 use crate::pair::Pair;
 
 // a1 and a2 have the sign in which the recurrence adds them.
-#[derive(Drop)]
+#[derive(Clone, Copy)]
 pub struct Biquad {
     pub b0: f64,
     pub b1: f64,

@@ -6,7 +6,7 @@ ghost use Rattle.biquad.specs.Answers.{limit_number, offset_of};
 
 use crate::biquad::Biquad;
 
-#[derive(Drop)]
+#[derive(Clone, Copy)]
 pub struct BiquadClamp {
     pub b0: f64,
     pub b1: f64,
@@ -102,6 +102,7 @@ impl BiquadClamp {
 }
 
 // The lower limit where y is below it, else the upper where y is above it, else y: so a NaN passes.
+#[tactic(auto, unfolding(crate::specs::Forms::clamp_to))]
 fn clamp(y: f64, min: f64, max: f64) -> f64
     ensures { result ≡ clamp_to min max y }
 {

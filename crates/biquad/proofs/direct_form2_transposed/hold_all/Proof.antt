@@ -10,27 +10,27 @@ use Rattle.biquad.specs.Forms.{held2, onward2}
 use Rattle.biquad.proofs.direct_form2_transposed.hold_all.Statement.{statement}
 use Rattle.biquad.proofs.direct_form2_transposed.hold_all.Tie as tie
 
-abbrev invariant-loop : tie.invariant-loop
+abbrev invariant-loop : tie.invariant-loop-i
 invariant-loop c xs ys₀ t₀ i₀ ys t i = Going (held2 c) (onward2 c) t₀ xs ys t i
 
-abbrev decreases-loop : tie.decreases-loop
+abbrev decreases-loop : tie.decreases-loop-i
 decreases-loop c xs ys₀ t₀ i₀ ys t i = length xs - i
 
-loop-holds : tie.Need-loop-init invariant-loop decreases-loop
+loop-holds : tie.Need-loop-i-init invariant-loop decreases-loop
 loop-holds c = start _ _ _ _ _ (sym c.before.before.requires)
 
-loop-again : tie.Need-loop-preserved invariant-loop decreases-loop
+loop-again : tie.Need-loop-i-preserved invariant-loop decreases-loop
 loop-again c =
     let test = c.before.before.before in let head = test.before in
     let a = head.before.before.before.args in
-    rw c.before.held.ensures
-    (turn (held2 a.c) (onward2 a.c) a.s a.xs.now head.loop.ys head.loop.t head.loop.i nan
-    test.loop-test.true head.loop.invariant)
+    rw c.before.held-step.ensures
+    (turn (held2 a.c) (onward2 a.c) a.s a.xs.now head.loop-i.ys head.loop-i.t head.loop-i.i nan
+    test.loop-i-test.true head.loop-i.invariant)
 
 returns : tie.Need-returns invariant-loop decreases-loop
-returns c = done _ _ _ _ _ _ _ c.loop-test.false c.before.loop.invariant
+returns c = done _ _ _ _ _ _ _ c.loop-i-test.false c.before.loop-i.invariant
 
-pub hold-all-spec : {M : Type 1} → statement M
-hold-all-spec =
+pub hold_all_spec : {M : Type 1} → statement M
+hold_all_spec =
     tie.close (tie.spec invariant-loop decreases-loop loop-holds (λ c. search rules) (λ c. omega arith) (λ c κs. search rules)
     (λ c. search rules) (λ c. omega arith) (λ c. omega arith) (λ c. omega arith) loop-again (λ c. omega arith) returns)

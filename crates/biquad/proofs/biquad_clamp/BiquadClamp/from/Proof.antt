@@ -8,5 +8,5 @@ returns : tie.Need-returns
 unfolding div neg of_bits
 returns c = refl
 
-pub from-spec : {M : Type 1} → statement M
-from-spec = tie.close (tie.spec returns)
+pub from_spec : {M : Type 1} → statement M
+from_spec = tie.close (tie.spec returns)

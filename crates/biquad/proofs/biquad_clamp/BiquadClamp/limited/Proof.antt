@@ -6,5 +6,5 @@ use Rattle.biquad.proofs.biquad_clamp.BiquadClamp.limited.Tie as tie
 returns : tie.Need-returns
 returns c = c.clamp.ensures
 
-pub limited-spec : {M : Type 1} → statement M
-limited-spec = tie.close (tie.spec (λ c κs. search rules) returns)
+pub limited_spec : {M : Type 1} → statement M
+limited_spec = tie.close (tie.spec (λ c κs. search rules) returns)

@@ -4,7 +4,7 @@ use Rattle.biquad.proofs.biquad_clamp.BiquadClamp.set_input_offset.Statement.{st
 use Rattle.biquad.proofs.biquad_clamp.BiquadClamp.set_input_offset.Tie as tie
 
 returns : tie.Need-returns
-returns c = rw (c.forward-gain.ensures, c.before.coeff.ensures)
+returns c = rw (c.forward_gain.ensures, c.before.coeff.ensures)
 
-pub set-input-offset-spec : {M : Type 1} → statement M
-set-input-offset-spec = tie.close (tie.spec (λ c κs. search rules) (λ c κs. search rules) returns)
+pub set_input_offset_spec : {M : Type 1} → statement M
+set_input_offset_spec = tie.close (tie.spec (λ c κs. search rules) (λ c κs. search rules) returns)

@@ -4,7 +4,7 @@ use Rattle.biquad.proofs.direct_form1.DirectForm1.held.Statement.{statement}
 use Rattle.biquad.proofs.direct_form1.DirectForm1.held.Tie as tie
 
 returns : tie.Need-returns
-returns c = rw (c.before.limited.ensures, c.before.before.process.ensures, c.before.before.before.coeff.ensures)
+returns c = rw (c.before.limited-y.ensures, c.before.before.process-step.ensures, c.before.before.before.coeff.ensures)
 
 pub held_spec : {M : Type 1} → statement M
 held_spec =

@@ -8,5 +8,5 @@ returns : tie.Need-returns
 unfolding sum1
 returns c = refl
 
-pub process-spec : {M : Type 1} → statement M
-process-spec = tie.close (tie.spec returns)
+pub process_spec : {M : Type 1} → statement M
+process_spec = tie.close (tie.spec returns)

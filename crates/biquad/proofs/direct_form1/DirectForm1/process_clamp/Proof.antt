@@ -9,23 +9,23 @@ use Rattle.biquad.proofs.Limits.{refusal}
 use Rattle.biquad.proofs.direct_form1.DirectForm1.process_clamp.Statement.{statement}
 use Rattle.biquad.proofs.direct_form1.DirectForm1.process_clamp.Tie as tie
 
-returns : tie.Need-returns
+returns : tie.Need-returns-then-number-ne0
 returns c =
     let a = c.before.before.args in
-    let e = c.before.limits.ensures in
+    let e = c.before.limits-number.ensures in
     let k = limit_number a.c in
-    let h : k ≡ 0 → ⊥ = λ z. c.if1.true (e ∙ z) in
+    let h : k ≡ 0 → ⊥ = λ z. c.if-number-ne0.true (e ∙ z) in
     λ i. record {
       state = kept k a.self (onward1 a.c a.self a.x) h i;
       out = (ap Refused e ∙ refusal k (held1 a.c a.self a.x) h) i;
     }
 
-returns-2 : tie.Need-returns-2
+returns-2 : tie.Need-returns
 unfolding answer_of
 returns-2 c =
     let t = c.before.before in
-    rw (c.before.held.ensures, sym t.before.limits.ensures ∙ t.if1.false)
+    rw (c.before.held-step.ensures, sym t.before.limits-number.ensures ∙ t.if-number-ne0.false)
 
-pub process-clamp-spec : {M : Type 1} → statement M
-process-clamp-spec =
+pub process_clamp_spec : {M : Type 1} → statement M
+process_clamp_spec =
     tie.close (tie.spec (λ c κs. search rules) returns (λ c κs. search rules) returns-2)

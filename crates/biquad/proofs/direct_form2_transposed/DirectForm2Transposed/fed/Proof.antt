@@ -8,5 +8,5 @@ returns : tie.Need-returns
 unfolding after2
 returns c = refl
 
-pub fed-spec : {M : Type 1} → statement M
-fed-spec = tie.close (tie.spec returns)
+pub fed_spec : {M : Type 1} → statement M
+fed_spec = tie.close (tie.spec returns)

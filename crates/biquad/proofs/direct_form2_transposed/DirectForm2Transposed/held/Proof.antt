@@ -8,7 +8,7 @@ returns : tie.Need-returns
 unfolding sum2
 returns c =
     let limit = c.before in let made = limit.before.before.before in
-    rw (c.fed.ensures, limit.limited.ensures, made.coeff.ensures)
+    rw (c.fed.ensures, limit.limited-y.ensures, made.coeff-ba.ensures)
 
 pub held_spec : {M : Type 1} → statement M
 held_spec =

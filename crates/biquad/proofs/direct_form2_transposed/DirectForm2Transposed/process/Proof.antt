@@ -8,5 +8,5 @@ returns : tie.Need-returns
 unfolding sum2
 returns c = rw c.fed.ensures
 
-pub process-spec : {M : Type 1} → statement M
-process-spec = tie.close (tie.spec (λ c κs. search rules) returns)
+pub process_spec : {M : Type 1} → statement M
+process_spec = tie.close (tie.spec (λ c κs. search rules) returns)
