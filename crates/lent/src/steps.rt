@@ -34,28 +34,28 @@ pub enum Out {
 }
 
 // What an interpolator's step is given.
-#[derive(Drop)]
+#[derive(Clone, Copy)]
 pub enum Sample {
     Given(Word),
     Missing,
 }
 
 // An interpolator's output, or the number of a refusal.
-#[derive(Drop)]
+#[derive(Clone, Copy)]
 pub enum Interpolated {
     Value(Word),
     Refused(u32),
 }
 
 // A decimator's step: the numbers after it, and what it gives.
-#[derive(Drop)]
+#[derive(Clone, Copy)]
 pub struct LentStep {
     pub numbers: LentCic,
     pub out: Out,
 }
 
 // An interpolator's step: the numbers after it, and its output.
-#[derive(Drop)]
+#[derive(Clone, Copy)]
 pub struct LentRisen {
     pub numbers: LentCic,
     pub out: Interpolated,

@@ -38,13 +38,13 @@ pub struct PLLState {
 }
 
 // The state after a step, and its phase.
-#[derive(Drop)]
+#[derive(Clone, Copy)]
 pub struct Tracked {
     pub state: PLLState,
     pub y: i32,
 }
 
-#[derive(Drop)]
+#[derive(Clone, Copy)]
 pub struct TrackedBlock {
     pub state: PLLState,
     pub verdict: Verdict,

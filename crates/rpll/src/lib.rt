@@ -47,19 +47,19 @@ pub enum Timestamp {
 }
 
 // The phase and the frequency, or the number of the refusal.
-#[derive(Drop)]
+#[derive(Clone, Copy)]
 pub enum Estimate {
     Given(i32, i32),
     Refused(u32),
 }
 
-#[derive(Drop)]
+#[derive(Clone, Copy)]
 pub struct Processed {
     pub state: RPLL,
     pub estimate: Estimate,
 }
 
-#[derive(Drop)]
+#[derive(Clone, Copy)]
 pub struct ProcessedBlock {
     pub state: RPLL,
     pub verdict: Verdict,

@@ -26,7 +26,7 @@ pub enum Wrote {
 }
 
 // How many inputs an interpolator's block read, or the number of a refusal.
-#[derive(Drop)]
+#[derive(Clone, Copy)]
 pub enum Read {
     Inputs(usize),
     Refused(u32),

@@ -14,13 +14,13 @@ pub struct ClampWrap {
     pub clamp: Wrap,
 }
 
-#[derive(Drop)]
+#[derive(Clone, Copy)]
 pub struct Clamped {
     pub state: ClampWrap,
     pub y: i32,
 }
 
-#[derive(Drop)]
+#[derive(Clone, Copy)]
 pub struct ClampedBlock {
     pub state: ClampWrap,
     pub verdict: Verdict,

@@ -14,13 +14,13 @@ pub struct Unwrapper {
     pub y: i64,
 }
 
-#[derive(Drop)]
+#[derive(Clone, Copy)]
 pub struct Unwrapped {
     pub state: Unwrapper,
     pub dx: i32,
 }
 
-#[derive(Drop)]
+#[derive(Clone, Copy)]
 pub struct UnwrappedBlock {
     pub state: Unwrapper,
     pub verdict: Verdict,
