@@ -89,7 +89,7 @@ fn step(w: [u32; 40]) -> u64 {
 }
 
 // A loop that runs, the generator that feeds it, the next timestamp of a steady reference, and the digest so far.
-#[derive(Drop)]
+#[derive(Clone, Copy)]
 struct Running {
     state: RPLL,
     draws: u64,
