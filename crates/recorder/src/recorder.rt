@@ -10,7 +10,7 @@ use cic64::state::{Cic, Made};
 use unwrap::unwrapper::Unwrapper;
 
 // The turns so far, the decimator, and whether the encoder's plug is in.
-#[derive(Drop)]
+#[derive(Clone, Copy)]
 pub struct Recorder {
     pub plugged: bool,
     pub turns: Unwrapper,
