@@ -8,7 +8,7 @@ ghost use Rattle.biquad_fixed.specs.Answers.{fraction_number, clamp_number};
 use words::signed::{add_i32, add_i64, product};
 
 // The bits of coefficients with f fraction bits. a1 and a2 have the sign in which the recurrence adds them.
-#[derive(Drop)]
+#[derive(Clone, Copy)]
 pub struct Biquad {
     pub b0: i32,
     pub b1: i32,
@@ -19,7 +19,7 @@ pub struct Biquad {
 }
 
 // Coefficients with an offset, added before the limits, and the lower and the upper limit of the output.
-#[derive(Drop)]
+#[derive(Clone, Copy)]
 pub struct BiquadClamp {
     pub coeff: Biquad,
     pub u: i32,

@@ -12,7 +12,7 @@ use words::shifts::{shl_i64, shr_u32};
 use words::signed::{add_i64, product};
 
 // x1 and y1 are the latest, x2 and y2 those before; e is the error that is fed back.
-#[derive(Drop)]
+#[derive(Clone, Copy)]
 pub struct DirectForm1Dither {
     pub x1: i32,
     pub x2: i32,

@@ -14,7 +14,7 @@ use words::shifts::{shl_i64, shr_i64};
 use words::signed::{add_i64, product};
 
 // x1 and y1 are the latest, x2 and y2 those before. An output's high word is what was given out.
-#[derive(Drop)]
+#[derive(Clone, Copy)]
 pub struct DirectForm1Wide {
     pub x1: i32,
     pub x2: i32,
