@@ -5,7 +5,7 @@ ghost use Rattle.adapters.specs.Quantize.{coefficient_of, in_range, nearest_bits
 use crate::tpa::Tpa;
 
 // A coefficient's bits, in units of 2^-32, or the number of the refusal.
-#[derive(Drop)]
+#[derive(Clone, Copy)]
 pub enum Quantized {
     Bits(i32),
     Refused(u32),

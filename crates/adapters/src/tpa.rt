@@ -27,7 +27,7 @@ pub enum Tpa {
 }
 
 // The two outputs of an adapter: the first goes back, the second goes on.
-#[derive(Drop)]
+#[derive(Clone, Copy)]
 pub struct Ports(pub i32, pub i32);
 
 // A number times a coefficient in units of 2^-32, rounded down.

@@ -21,7 +21,7 @@ pub struct BiquadClamp {
 }
 
 // A value, or a refusal's number.
-#[derive(Drop)]
+#[derive(Clone, Copy)]
 pub enum Answer {
     Value(f64),
     Refused(u32),

@@ -10,7 +10,7 @@ use crate::biquad_clamp::{Answer, BiquadClamp};
 use blocks::Verdict;
 
 // x1 and y1 are the latest, x2 and y2 those before.
-#[derive(Drop)]
+#[derive(Clone, Copy)]
 pub struct DirectForm1 {
     pub x1: f64,
     pub x2: f64,
@@ -18,19 +18,19 @@ pub struct DirectForm1 {
     pub y2: f64,
 }
 
-#[derive(Drop)]
+#[derive(Clone, Copy)]
 pub struct Stepped1 {
     pub state: DirectForm1,
     pub y: f64,
 }
 
-#[derive(Drop)]
+#[derive(Clone, Copy)]
 pub struct Clamped1 {
     pub state: DirectForm1,
     pub out: Answer,
 }
 
-#[derive(Drop)]
+#[derive(Clone, Copy)]
 pub struct Block1 {
     pub state: DirectForm1,
     pub verdict: Verdict,

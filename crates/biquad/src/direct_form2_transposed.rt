@@ -10,25 +10,25 @@ use crate::biquad::Biquad;
 use crate::biquad_clamp::{Answer, BiquadClamp};
 use blocks::Verdict;
 
-#[derive(Drop)]
+#[derive(Clone, Copy)]
 pub struct DirectForm2Transposed {
     pub s1: f64,
     pub s2: f64,
 }
 
-#[derive(Drop)]
+#[derive(Clone, Copy)]
 pub struct Stepped2 {
     pub state: DirectForm2Transposed,
     pub y: f64,
 }
 
-#[derive(Drop)]
+#[derive(Clone, Copy)]
 pub struct Clamped2 {
     pub state: DirectForm2Transposed,
     pub out: Answer,
 }
 
-#[derive(Drop)]
+#[derive(Clone, Copy)]
 pub struct Block2 {
     pub state: DirectForm2Transposed,
     pub verdict: Verdict,

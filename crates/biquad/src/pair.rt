@@ -2,7 +2,7 @@
 ghost use Rattle.std.specs.Prelude.{◌≡◌};
 ghost use Rattle.biquad.specs.Coefficients.{coeff_of};
 
-#[derive(Drop)]
+#[derive(Clone, Copy)]
 pub enum Pair {
     // Two real roots.
     Real(f64, f64),
@@ -11,7 +11,7 @@ pub enum Pair {
 }
 
 // The two coefficients that a pair of roots gives: the sum of the roots, and their product.
-#[derive(Drop)]
+#[derive(Clone, Copy)]
 pub struct Quadratic(pub f64, pub f64);
 
 impl Pair {

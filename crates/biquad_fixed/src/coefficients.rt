@@ -28,7 +28,7 @@ pub struct BiquadClamp {
 }
 
 // An output, or the number of a refusal.
-#[derive(Drop)]
+#[derive(Clone, Copy)]
 pub enum Answer {
     Value(i32),
     Refused(u32),

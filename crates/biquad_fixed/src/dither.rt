@@ -21,20 +21,20 @@ pub struct DirectForm1Dither {
     pub e: u32,
 }
 
-#[derive(Drop)]
+#[derive(Clone, Copy)]
 pub struct DitherStep {
     pub state: DirectForm1Dither,
     pub out: Answer,
 }
 
-#[derive(Drop)]
+#[derive(Clone, Copy)]
 pub struct DitherBlock {
     pub state: DirectForm1Dither,
     pub verdict: Verdict,
 }
 
 // The state after an accepted step, and its output.
-#[derive(Drop)]
+#[derive(Clone, Copy)]
 struct DitherTurn {
     state: DirectForm1Dither,
     y: i32,

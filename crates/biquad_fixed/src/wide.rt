@@ -22,20 +22,20 @@ pub struct DirectForm1Wide {
     pub y2: i64,
 }
 
-#[derive(Drop)]
+#[derive(Clone, Copy)]
 pub struct WideStep {
     pub state: DirectForm1Wide,
     pub out: Answer,
 }
 
-#[derive(Drop)]
+#[derive(Clone, Copy)]
 pub struct WideBlock {
     pub state: DirectForm1Wide,
     pub verdict: Verdict,
 }
 
 // The state after an accepted step, and its output.
-#[derive(Drop)]
+#[derive(Clone, Copy)]
 struct WideTurn {
     state: DirectForm1Wide,
     y: i32,

@@ -5,7 +5,7 @@
 #![tactic(auto)]
 
 // Whether a call was done, or the number of its refusal.
-#[derive(Drop)]
+#[derive(Clone, Copy)]
 pub enum Verdict {
     Done,
     Refused(u32),

@@ -9,7 +9,7 @@ use store::moving::Move;
 use store_write::saving::Written;
 
 // A record's kind and all its numbers but its coefficients; those that its kind has not are 0.
-#[derive(Drop)]
+#[derive(Clone, Copy)]
 pub(crate) struct Numbers {
     pub kind: u32,
     pub order: u32,

@@ -12,14 +12,14 @@ use crate::word::Word;
 pub use shape::runs::{Read, Written, Wrote};
 
 // A decimator's block: the state after it, and what it wrote.
-#[derive(Drop)]
+#[derive(Clone, Copy)]
 pub struct Decimated {
     pub state: Cic,
     pub wrote: Wrote,
 }
 
 // An interpolator's block: the state after it, and what it read.
-#[derive(Drop)]
+#[derive(Clone, Copy)]
 pub struct Filled {
     pub state: Cic,
     pub read: Read,
@@ -88,7 +88,7 @@ pub fn settled_number(out: &[Word], written: usize) -> u32
 }
 
 // A part of a caller's slice, and the number of a refusal, or 0.
-#[derive(Drop)]
+#[derive(Clone, Copy)]
 pub struct Part<'a> {
     pub part: &'a [Word],
     pub number: u32,

@@ -28,7 +28,7 @@ pub struct Cic {
 }
 
 // A state, and whether the call that gives it was done.
-#[derive(Drop)]
+#[derive(Clone, Copy)]
 pub struct Made {
     pub state: Cic,
     pub verdict: Verdict,

@@ -71,4 +71,4 @@ module _ (s : Cic) (f : Fit (state_of s)) (xs out : List ℤ) (e : block_number 
 
   pub settled_part_law : let ys = plain (outputs_in_turn s xs) in
       settled_part (block_out word_ops (counted_of s) xs out) (length ys) (first_told ys) ≡ believed ys
-  settled_part_law = rw (outputs_is s xs) (sums.settled-part word_ops (counted_of s) f xs out e)
+  settled_part_law = rw (outputs_is s xs) (sums.settled_part_law word_ops (counted_of s) f xs out e)

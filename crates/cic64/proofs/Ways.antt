@@ -15,7 +15,6 @@ use Rattle.sums.specs.Calls.{current_at}
 use Rattle.cic64.specs.declared.state.Cic.{Cic}
 use Rattle.cic64.specs.declared.state.Made.{Made}
 use Rattle.lent64.specs.declared.steps.Interpolated.{Interpolated}
-use Rattle.lent64.specs.declared.steps.Interpolated.TheVariants as Interpolated
 use Rattle.cic64.specs.Reading.{cic_of}
 use Rattle.cic64.specs.Answers.{made_of, interpolated_of}
 

@@ -14,7 +14,7 @@ use shape::numbers::{greater, refusal_of};
 // N = order integrators, N delay lines of M = delay cells, line j at 8 j .. 8 j + M of combs, the oldest cell
 // first. Rate is R - 1. Outputs are unsettled while `unsettled` is above 0: cells from before the last set_rate or
 // resume may be in them. `inputs` is the number of inputs taken. Cells beyond N and M never matter.
-#[derive(Drop)]
+#[derive(Clone, Copy)]
 pub struct Cic {
     pub order: usize,
     pub delay: usize,
@@ -28,7 +28,7 @@ pub struct Cic {
 }
 
 // A state, and whether the call that gives it was done.
-#[derive(Drop)]
+#[derive(Clone, Copy)]
 pub struct Made {
     pub state: Cic,
     pub verdict: Verdict,

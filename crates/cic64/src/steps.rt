@@ -11,14 +11,14 @@ use lent64::steps::Interpolated;
 pub use lent64::steps::{Out, Output, Sample};
 
 // A decimator's step: the state after it, and what it gives.
-#[derive(Drop)]
+#[derive(Clone, Copy)]
 pub struct Stepped {
     pub state: Cic,
     pub out: Out,
 }
 
 // An interpolator's step: the state after it, and its output.
-#[derive(Drop)]
+#[derive(Clone, Copy)]
 pub struct Risen {
     pub state: Cic,
     pub out: Interpolated,

@@ -1,14 +1,13 @@
 -- 02, A10, a program that makes coefficients: a line is an adapter's name, a tab and g as the 16 hex digits of its double.
-use Rattle.std.specs.Prelude.{cond, List, [], ◌∷◌, ◌++◌, ℕ, suc, ◌+◌, ltb, eqb, ℤ, length, drop}
+use Rattle.std.specs.Prelude.{cond, List, [], ◌∷◌, ◌++◌, ℕ, ◌+◌, ltb, ℤ, length, drop}
 use Rattle.std.specs.Float.{binary64}
 use Rattle.std.specs.Float.Ieee.{of_bits}
 use Rattle.text.specs.Letters.{bytes, tab, newline}
 use Rattle.text.specs.Numbers.{decimal_of, signed_of}
 use Rattle.text.specs.Hex.{pattern_of}
-use Rattle.text.specs.Parts.{before, parted}
+use Rattle.text.specs.Parts.{before}
 use Rattle.text.specs.Same.{same}
 use Rattle.text.specs.declared.hex.Pattern.{Pattern}
-use Rattle.text.specs.declared.hex.Pattern.TheVariants as Pattern
 use Rattle.adapters.specs.Quantize.{quantized}
 use Rattle.adapters.specs.declared.tpa.Tpa.TheVariants.{Z, A, B, B1, X, C, C1, D}
 use Rattle.adapters.specs.declared.quantize.Quantized.{Quantized}

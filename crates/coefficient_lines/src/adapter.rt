@@ -2,7 +2,7 @@
 use adapters::tpa::Tpa;
 
 // An adapter by its name, or a name that is none.
-#[derive(Drop)]
+#[derive(Clone, Copy)]
 pub enum Adapter {
     Named(Tpa),
     Unknown,

@@ -5,8 +5,10 @@
 
 ghost use Rattle.std.specs.Prelude.{◌≤◌};
 
+use rust_answers::input::read_full;
 use rust_answers::lines::{double, line, report, unlike, unlike_double};
 use rust_answers::runs::{digest, digest_double, draw, spread};
+use std::io;
 use unwrap::clamp_wrap::ClampWrap;
 use unwrap::scale::{Scaled, saturating_scale};
 use unwrap::unwrapper::Unwrapper;
@@ -130,7 +132,7 @@ fn clamp_step(w: [u32; 40]) -> u64 {
 
 // What a run steps, the generator that feeds it, and what it answers: its digest so far, or a count. Of scaled words
 // also the digest of what the crate gives, and how many it clips otherwise.
-#[derive(Drop)]
+#[derive(Clone, Copy)]
 struct Running {
     unwrapper: Unwrapper,
     clamp: ClampWrap,
@@ -353,7 +355,7 @@ fn clipped(w: [u32; 40]) -> u64 {
 }
 
 // All lines with this code: tells how many of its cases the crate's clip changes.
-fn compare(text: &[u8], code: u32, name: &[u8]) -> u64 {
+fn compare(rt: &impl Print, text: &[u8], code: u32, name: &[u8]) -> io::Result<u64> {
     let mut cases: u64 = 0;
     let mut differ: u64 = 0;
     let mut clips: u64 = 0;
@@ -365,40 +367,41 @@ fn compare(text: &[u8], code: u32, name: &[u8]) -> u64 {
             clips = add_u64(clips, clipped(w));
         }
     }
-    report(name, cases, differ);
-    clips
+    report(rt, name, cases, differ)?;
+    Ok(clips)
 }
 
-fn compare_scale(text: &[u8], code: u32, name: &[u8]) {
-    let clips = compare(text, code, name);
-    io::write_all(1, b"  of which the crate's clip gives another number: ");
-    io::print_decimal(1, clips);
-    io::write_all(1, b"\n");
+fn compare_scale(rt: &impl Print, text: &[u8], code: u32, name: &[u8]) -> io::Result<()> {
+    let clips = compare(rt, text, code, name)?;
+    println!(rt; "  of which the crate's clip gives another number: {clips}")
 }
 
-fn main() {
+fn main(rt: HostRuntime) -> io::Result<()> {
     let mut space = [0u8; 200000];
-    let n = io::read_full(0, &mut space);
+    let n = read_full(&mut rt.stdin(), &mut space)?;
     let text = &space[..n];
-    compare(text, 1, b"overflowing_sub");
-    compare(text, 2, b"Wrap addition");
-    compare_scale(text, 3, b"saturating_scale");
+    compare(&rt, text, 1, b"overflowing_sub")?;
+    compare(&rt, text, 2, b"Wrap addition")?;
+    compare_scale(&rt, text, 3, b"saturating_scale")?;
     compare_scale(
+        &rt,
         text,
         12,
         b"saturating_scale, the least pairs of each kind that the crate clips otherwise",
-    );
-    compare(text, 4, b"Unwrapper step");
-    compare(text, 5, b"Unwrapper turns and phase");
-    compare(text, 6, b"ClampWrap step");
-    compare(text, 7, b"overflowing_sub, run");
-    compare_scale(text, 8, b"saturating_scale, run");
-    compare_scale(text, 9, b"saturating_scale near the crate's clip, run");
-    compare(text, 10, b"Unwrapper, runs");
-    compare(text, 11, b"ClampWrap, run");
+    )?;
+    compare(&rt, text, 4, b"Unwrapper step")?;
+    compare(&rt, text, 5, b"Unwrapper turns and phase")?;
+    compare(&rt, text, 6, b"ClampWrap step")?;
+    compare(&rt, text, 7, b"overflowing_sub, run")?;
+    compare_scale(&rt, text, 8, b"saturating_scale, run")?;
+    compare_scale(&rt, text, 9, b"saturating_scale near the crate's clip, run")?;
+    compare(&rt, text, 10, b"Unwrapper, runs")?;
+    compare(&rt, text, 11, b"ClampWrap, run")?;
     report(
+        &rt,
         b"saturating_scale monotone at every shift, run",
         1000000,
         run(13, started(17, 0), 1000000).answer,
-    );
+    )?;
+    Ok(())
 }

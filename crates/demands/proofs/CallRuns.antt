@@ -27,7 +27,6 @@ use Rattle.shape.specs.Answers.{wrote_of, read_of}
 use Rattle.cic.specs.Word.{word_ops}
 use Rattle.cic.specs.declared.state.Cic.{Cic}
 use Rattle.lent.specs.declared.steps.Sample.{Sample}
-use Rattle.lent.specs.declared.steps.Sample.TheVariants as Sample
 use Rattle.cic.specs.declared.steps.Stepped.{Stepped}
 use Rattle.cic.specs.declared.steps.Risen.{Risen}
 use Rattle.cic.specs.declared.runs.Decimated.{Decimated}

@@ -11,18 +11,13 @@ use Rattle.sums.specs.Counted.{Numbered, plain, new_counted, resume_counted, rat
 use Rattle.sums.specs.Demands.{modulo, Contents, Decimates, Interpolates, believed}
 use Rattle.shape.specs.declared.runs.Written.{Written}
 use Rattle.shape.specs.declared.runs.Wrote.{Wrote}
-use Rattle.shape.specs.declared.runs.Wrote.TheVariants as Wrote
 use Rattle.shape.specs.declared.runs.Read.{Read}
-use Rattle.shape.specs.declared.runs.Read.TheVariants as Read
 use Rattle.cic.specs.Word.{width, word_ops}
 use Rattle.cic.specs.declared.state.Cic.{Cic}
 use Rattle.cic.specs.declared.state.Made.{Made}
 use Rattle.lent.specs.declared.steps.Interpolated.{Interpolated}
-use Rattle.lent.specs.declared.steps.Interpolated.TheVariants as Interpolated
 use Rattle.lent.specs.declared.steps.Out.{Out}
-use Rattle.lent.specs.declared.steps.Out.TheVariants as Out
 use Rattle.lent.specs.declared.steps.Sample.{Sample}
-use Rattle.lent.specs.declared.steps.Sample.TheVariants as Sample
 use Rattle.cic.specs.declared.steps.Stepped.{Stepped}
 use Rattle.cic.specs.declared.steps.Risen.{Risen}
 use Rattle.cic.specs.declared.runs.Decimated.{Decimated}

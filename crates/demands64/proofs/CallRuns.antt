@@ -27,7 +27,6 @@ use Rattle.shape.specs.Answers.{wrote_of, read_of}
 use Rattle.cic64.specs.Word.{word_ops}
 use Rattle.cic64.specs.declared.state.Cic.{Cic}
 use Rattle.lent64.specs.declared.steps.Sample.{Sample}
-use Rattle.lent64.specs.declared.steps.Sample.TheVariants as Sample
 use Rattle.cic64.specs.declared.steps.Stepped.{Stepped}
 use Rattle.cic64.specs.declared.steps.Risen.{Risen}
 use Rattle.cic64.specs.declared.runs.Decimated.{Decimated}

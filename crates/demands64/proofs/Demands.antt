@@ -5,7 +5,6 @@ use Prim.Native.Nat.{ℕ, suc, ◌*◌}
 use lib.IntN.{ℤ}
 use lib.ListN.{length, get_elem?, replicate}
 use Rattle.blocks.specs.declared.Verdict.{Verdict}
-use Rattle.blocks.specs.declared.Verdict.TheVariants as Verdict
 use Rattle.sums.specs.State.{refusal}
 use Rattle.sums.specs.Calls.{new_number, resume_number, rate_number}
 use Rattle.sums.specs.Runs.{needed, first_told, settled_number, settled_part}

@@ -6,7 +6,6 @@ use native.Mathlib.Omega.{arith}
 use lib.IntN.{ℤ}
 use borrow.Author.Tests.{ne_eqb}
 use Rattle.blocks.specs.declared.Verdict.{Verdict}
-use Rattle.blocks.specs.declared.Verdict.TheVariants as Verdict
 use Rattle.blocks.specs.Verdicts.{verdict_of}
 use Rattle.blocks.specs.Blocks.{unless}
 use Rattle.sums.specs.State.{State, refusal}
@@ -15,17 +14,13 @@ use Rattle.sums.specs.Runs.{fill_number, fill_state}
 use Rattle.sums.specs.Counted.{Counted, Numbered, take_number, take_state, take_given, block_number, block_state}
 use Rattle.shape.specs.declared.runs.Written.{Written}
 use Rattle.shape.specs.declared.runs.Wrote.{Wrote}
-use Rattle.shape.specs.declared.runs.Wrote.TheVariants as Wrote
 use Rattle.shape.specs.declared.runs.Read.{Read}
-use Rattle.shape.specs.declared.runs.Read.TheVariants as Read
 use Rattle.shape.specs.Answers.{wrote_of, read_of}
 use Rattle.cic64.specs.Word.{word_ops}
 use Rattle.cic64.specs.declared.state.Cic.{Cic}
 use Rattle.cic64.specs.declared.state.Made.{Made}
 use Rattle.lent64.specs.declared.steps.Interpolated.{Interpolated}
-use Rattle.lent64.specs.declared.steps.Interpolated.TheVariants as Interpolated
 use Rattle.lent64.specs.declared.steps.Out.{Out}
-use Rattle.lent64.specs.declared.steps.Out.TheVariants as Out
 use Rattle.cic64.specs.declared.steps.Stepped.{Stepped}
 use Rattle.cic64.specs.declared.steps.Risen.{Risen}
 use Rattle.cic64.specs.declared.runs.Decimated.{Decimated}

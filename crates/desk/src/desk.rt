@@ -24,7 +24,7 @@ use words::casts::{u32_as_i32, u64_as_u32};
 use words::unsigned::add_u32;
 
 // The recorder, once a record has opened it, and whether no refusal has stopped it.
-#[derive(Drop)]
+#[derive(Clone, Copy)]
 pub struct Desk {
     pub opened: bool,
     pub going: bool,
@@ -32,7 +32,7 @@ pub struct Desk {
 }
 
 // What a record is answered.
-#[derive(Drop)]
+#[derive(Clone, Copy)]
 pub enum Reply {
     Silent,
     Output(Output),
@@ -41,7 +41,7 @@ pub enum Reply {
 }
 
 // The desk after a record, and its answer.
-#[derive(Drop)]
+#[derive(Clone, Copy)]
 pub struct Taken {
     pub desk: Desk,
     pub reply: Reply,

@@ -6,7 +6,7 @@ ghost use Rattle.desk.specs.Lines.{kind_of, bits_record, record_of};
 use text::hex::{Pattern, hex_word};
 
 // What a record does: `w`, `o`, `r`, `p`, `q`, `s`.
-#[derive(Drop)]
+#[derive(Clone, Copy)]
 pub enum Kind {
     Word,
     Open,
@@ -18,7 +18,7 @@ pub enum Kind {
 }
 
 // A record with its number and its argument, or the number of a refusal.
-#[derive(Drop)]
+#[derive(Clone, Copy)]
 pub enum Record {
     Is(Kind, u32, u32),
     Bad(u32),

@@ -23,35 +23,35 @@ pub struct Dsm {
 }
 
 // A state, and whether the call that gives it was done.
-#[derive(Drop)]
+#[derive(Clone, Copy)]
 pub struct Made {
     pub state: Dsm,
     pub verdict: Verdict,
 }
 
 // An output, or the number of a refusal.
-#[derive(Drop)]
+#[derive(Clone, Copy)]
 pub enum Output {
     Given(i16),
     Refused(u32),
 }
 
 // The state after a step, and what the step gave.
-#[derive(Drop)]
+#[derive(Clone, Copy)]
 pub struct Stepped {
     pub state: Dsm,
     pub out: Output,
 }
 
 // The least and the greatest output, or the number of a refusal.
-#[derive(Drop)]
+#[derive(Clone, Copy)]
 pub enum OutputRange {
     Between(i16, i16),
     Refused(u32),
 }
 
 // A sum modulo 2^32, and the carry that it lost.
-#[derive(Drop)]
+#[derive(Clone, Copy)]
 struct Sum {
     value: u32,
     carry: u32,

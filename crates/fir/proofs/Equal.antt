@@ -6,7 +6,7 @@ use mathlib.Core.Option.{Option, none, some}
 use Prim.Native.Nat.{ℕ, zero, suc, ◌+◌, ◌-◌, ◌*◌, ◌<◌, ◌≤◌}
 use native.Mathlib.Nat.{zero-add, zero-sub, suc-mul}
 use native.Mathlib.Omega.{arith}
-use lib.Dec.{ltb, leb, eqb}
+use lib.Dec.{ltb, leb}
 use lib.IntN.{ℤ, pos, ◌+ℤ◌, ◌*ℤ◌, +ℤ_idr, zero-*ℤ, *ℤ-zero}
 use lib.ListN.{length, take, drop, get_elem?, replicate}
 use lib.Seq.{take-append_seam}
@@ -29,8 +29,7 @@ use Rattle.fir.specs.Weights.{taken, weights, weighed}
 use Rattle.fir.specs.declared.Fir.{Fir}
 use Rattle.fir.specs.declared.Stepped.{Stepped}
 use Rattle.fir.specs.declared.Decimated.{Decimated}
-use Rattle.fir.specs.declared.Wrote.{Wrote}
-use Rattle.fir.specs.Calls.{fresh, stepped_of, output_of, outputs, after, block_number, wrote_of, decimated_of, written_of}
+use Rattle.fir.specs.Calls.{stepped_of, output_of, outputs, after, block_number, wrote_of, decimated_of, written_of}
 use Rattle.fir.specs.Equal.{took_block, gave_block, Called, OneList, SameOutputs}
 use Rattle.fir.specs.Inner.{outputs_from}
 use Rattle.fir.proofs.Weighing.{weighs, moving_weighs}

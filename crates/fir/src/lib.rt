@@ -42,35 +42,35 @@ const TAPS: [[u32; 10]; 19] = [
 
 // The engine: the last 190 inputs, the newest first, and how many inputs come before the one that gives the next
 // output. Whatever these hold, it is a state.
-#[derive(Drop)]
+#[derive(Clone, Copy)]
 pub struct Fir {
     pub cells: [i32; 190],
     pub countdown: u32,
 }
 
 // What a step gives: an output, or nothing.
-#[derive(Drop)]
+#[derive(Clone, Copy)]
 pub enum Out {
     Given(i32),
     Nothing,
 }
 
 // The state after a step, and what the step gave.
-#[derive(Drop)]
+#[derive(Clone, Copy)]
 pub struct Stepped {
     pub state: Fir,
     pub out: Out,
 }
 
 // How many outputs a block wrote, or the number of a refusal.
-#[derive(Drop)]
+#[derive(Clone, Copy)]
 pub enum Wrote {
     Outputs(usize),
     Refused(u32),
 }
 
 // The state after a block, and what it wrote.
-#[derive(Drop)]
+#[derive(Clone, Copy)]
 pub struct Decimated {
     pub state: Fir,
     pub wrote: Wrote,

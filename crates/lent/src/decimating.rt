@@ -12,7 +12,7 @@ use crate::word::Word;
 use shape::numbers::{following, lowered};
 
 // Where a stretch ends: the numbers after it, what it gives, the place of the oldest cells, and the next input.
-#[derive(Drop)]
+#[derive(Clone, Copy)]
 pub(crate) struct StretchEnd {
     pub numbers: Numbers,
     pub gave: Gave,

@@ -14,14 +14,14 @@ pub use shape::runs::{Read, Written, Wrote};
 use shape::runs::{block_answer, block_number, low_rate};
 
 // A decimator's block: the numbers after it, and what it wrote.
-#[derive(Drop)]
+#[derive(Clone, Copy)]
 pub struct LentDecimated {
     pub numbers: LentCic,
     pub wrote: Wrote,
 }
 
 // An interpolator's block: the numbers after it, and what it read.
-#[derive(Drop)]
+#[derive(Clone, Copy)]
 pub struct LentFilled {
     pub numbers: LentCic,
     pub read: Read,

@@ -22,14 +22,14 @@ pub(crate) struct Numbers {
 }
 
 // What a stretch of a decimator's steps gives, as a step does: an output and the unsettled count that it found, or nothing.
-#[derive(Drop)]
+#[derive(Clone, Copy)]
 pub(crate) enum Gave {
     Output(Word, usize),
     Nothing,
 }
 
 // A block on lent arrays: the numbers after it, and how many low-rate samples it wrote or read.
-#[derive(Drop)]
+#[derive(Clone, Copy)]
 pub(crate) struct BlockEnd {
     pub numbers: Numbers,
     pub count: usize,
@@ -37,7 +37,7 @@ pub(crate) struct BlockEnd {
 
 // A block on lent arrays whose delay lines are rings: the numbers after it, the place of the oldest cells, and
 // how many low-rate samples it wrote or read.
-#[derive(Drop)]
+#[derive(Clone, Copy)]
 pub(crate) struct RingEnd {
     pub numbers: Numbers,
     pub at: usize,

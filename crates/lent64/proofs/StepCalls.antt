@@ -1,5 +1,5 @@
 -- The ways in which a step's call ends: k is the number that the code found.
-use mathlib.Core.Path.{◌≡◌, refl, sym, ap, ◌∙◌}
+use mathlib.Core.Path.{◌≡◌, refl}
 use mathlib.Core.Option.{Option, none, some}
 use Prim.Native.Nat.{ℕ, zero, suc}
 use lib.IntN.{ℤ}
@@ -11,9 +11,7 @@ use Rattle.sums.specs.Counted.{Counted, take_number, with_number, take_state, ta
 use Rattle.sums.proofs.Lent.{DecimateStep, InterpolateStep}
 use Rattle.lent64.specs.Word.{word_ops}
 use Rattle.lent64.specs.declared.steps.Out.{Out}
-use Rattle.lent64.specs.declared.steps.Out.TheVariants as Out
 use Rattle.lent64.specs.declared.steps.Interpolated.{Interpolated}
-use Rattle.lent64.specs.declared.steps.Interpolated.TheVariants as Interpolated
 use Rattle.lent64.specs.Answers.{out_of, step_out, interpolated_of, rise_out}
 
 -- the decimator's call

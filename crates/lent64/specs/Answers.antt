@@ -6,11 +6,8 @@ use Rattle.sums.specs.Counted.{Counted, Numbered, take_number, take_given}
 use Rattle.lent64.specs.Word.{word_ops}
 use Rattle.lent64.specs.declared.steps.Output as answer
 use Rattle.lent64.specs.declared.steps.Out.{Out}
-use Rattle.lent64.specs.declared.steps.Out.TheVariants as Out
 use Rattle.lent64.specs.declared.steps.Sample.{Sample}
-use Rattle.lent64.specs.declared.steps.Sample.TheVariants as Sample
 use Rattle.lent64.specs.declared.steps.Interpolated.{Interpolated}
-use Rattle.lent64.specs.declared.steps.Interpolated.TheVariants as Interpolated
 
 -- The decimator's step: one output with the count it is told and its input's number, or nothing at all.
 abbrev pub answer_output : Numbered ℤ → answer.Output

@@ -9,7 +9,7 @@ use shape::numbers::refusal_of;
 
 // N = order, M = delay, rate R - 1, countdown, the unsettled count, the number of inputs taken, and the hold. Beside them stand 8 integrators and
 // 64 comb cells: line j at 8 j .. 8 j + M, the oldest cell first. Cells beyond N and M never matter.
-#[derive(Drop)]
+#[derive(Clone, Copy)]
 pub struct LentCic {
     pub order: usize,
     pub delay: usize,

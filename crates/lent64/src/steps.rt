@@ -18,7 +18,7 @@ use shape::numbers::{lowered, take_number};
 // Settled says that no input from before the last set_rate, resume, clear or new is in the value, and no more: whether
 // the inputs since were good ones it can't say. What came while a plug was out is told 0 as well; the caller discards
 // it by its inputs' numbers.
-#[derive(Drop)]
+#[derive(Clone, Copy)]
 pub struct Output {
     pub value: Word,
     pub told: usize,
@@ -26,7 +26,7 @@ pub struct Output {
 }
 
 // What a decimator's step gives: an output, nothing, or the number of a refusal.
-#[derive(Drop)]
+#[derive(Clone, Copy)]
 pub enum Out {
     Given(Output),
     Nothing,
@@ -34,28 +34,28 @@ pub enum Out {
 }
 
 // What an interpolator's step is given.
-#[derive(Drop)]
+#[derive(Clone, Copy)]
 pub enum Sample {
     Given(Word),
     Missing,
 }
 
 // An interpolator's output, or the number of a refusal.
-#[derive(Drop)]
+#[derive(Clone, Copy)]
 pub enum Interpolated {
     Value(Word),
     Refused(u32),
 }
 
 // A decimator's step: the numbers after it, and what it gives.
-#[derive(Drop)]
+#[derive(Clone, Copy)]
 pub struct LentStep {
     pub numbers: LentCic,
     pub out: Out,
 }
 
 // An interpolator's step: the numbers after it, and its output.
-#[derive(Drop)]
+#[derive(Clone, Copy)]
 pub struct LentRisen {
     pub numbers: LentCic,
     pub out: Interpolated,

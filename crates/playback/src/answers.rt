@@ -11,7 +11,7 @@ use records::session::Reply;
 use text::writing::{put_byte, put_bytes, put_decimal, put_signed64};
 
 // How many bytes were written to the front of a lent slice, and whether it was long enough.
-#[derive(Drop)]
+#[derive(Clone, Copy)]
 pub struct BytesPut {
     pub count: usize,
     pub verdict: Verdict,

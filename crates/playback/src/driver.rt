@@ -12,7 +12,7 @@ use records::session::Session;
 
 // What a replay keeps from one part of its input to the next: its filter, the lines and outputs so far, the first len
 // bytes of `line` that came of the next line, and whether no refusal has stopped it.
-#[derive(Drop)]
+#[derive(Clone, Copy)]
 pub struct Replay {
     pub session: Session,
     pub lines: u64,
@@ -23,7 +23,7 @@ pub struct Replay {
 }
 
 // A replay after a part of its input, and what was written.
-#[derive(Drop)]
+#[derive(Clone, Copy)]
 pub struct Fed {
     pub replay: Replay,
     pub wrote: BytesPut,

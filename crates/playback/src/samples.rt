@@ -11,14 +11,14 @@ use text::numbers::parsed;
 use text::parts::part_end;
 
 // A whole line that is a sample within the word: its value, and where the next line starts.
-#[derive(Drop)]
+#[derive(Clone, Copy)]
 pub enum Found {
     Sample(i64, usize),
     Other,
 }
 
 // How many samples were gathered, and where the next line starts.
-#[derive(Drop)]
+#[derive(Clone, Copy)]
 pub struct Gathered {
     pub count: usize,
     pub next: usize,

@@ -11,7 +11,7 @@ use records::parse::Fault;
 use records::session::{Reply, Session, Taken, take_line};
 
 // A replay after some bytes, the place of the next byte, and the place behind what was written.
-#[derive(Drop)]
+#[derive(Clone, Copy)]
 pub struct Advanced {
     pub replay: Replay,
     pub next: usize,
@@ -19,14 +19,14 @@ pub struct Advanced {
 }
 
 // A replay after a line, and the place behind what was written.
-#[derive(Drop)]
+#[derive(Clone, Copy)]
 pub struct Answered {
     pub replay: Replay,
     pub written: usize,
 }
 
 // A line's length so far, and the place of the byte that ends it.
-#[derive(Drop)]
+#[derive(Clone, Copy)]
 pub struct Collected {
     pub len: usize,
     pub at: usize,

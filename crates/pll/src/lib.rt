@@ -17,14 +17,14 @@ use words::casts::{i32_as_i64, i64_as_u32, i64_high, u32_as_i64};
 use words::signed::{add_i32, add_i64, product};
 
 // The lead lag's coefficients, as bits with 32 of them after the point: f0 grows by b0 y0 + b1 y1 + a1 f1.
-#[derive(Drop)]
+#[derive(Clone, Copy)]
 pub struct PLL {
     pub b0: i32,
     pub b1: i32,
     pub a1: i32,
 }
 
-#[derive(Drop)]
+#[derive(Clone, Copy)]
 pub struct PLLState {
     // The clamp of the phase error.
     pub clamp: ClampWrap,
@@ -38,13 +38,13 @@ pub struct PLLState {
 }
 
 // The state after a step, and its phase.
-#[derive(Drop)]
+#[derive(Clone, Copy)]
 pub struct Tracked {
     pub state: PLLState,
     pub y: i32,
 }
 
-#[derive(Drop)]
+#[derive(Clone, Copy)]
 pub struct TrackedBlock {
     pub state: PLLState,
     pub verdict: Verdict,

@@ -10,7 +10,7 @@ use cic64::state::{Cic, Made};
 use unwrap::unwrapper::Unwrapper;
 
 // The turns so far, the decimator, and whether the encoder's plug is in.
-#[derive(Drop)]
+#[derive(Clone, Copy)]
 pub struct Recorder {
     pub plugged: bool,
     pub turns: Unwrapper,
@@ -18,14 +18,14 @@ pub struct Recorder {
 }
 
 // A recorder, and whether the call that gives it was done.
-#[derive(Drop)]
+#[derive(Clone, Copy)]
 pub struct Ready {
     pub recorder: Recorder,
     pub verdict: Verdict,
 }
 
 // A recorder after words, and what they wrote.
-#[derive(Drop)]
+#[derive(Clone, Copy)]
 pub struct Took {
     pub recorder: Recorder,
     pub wrote: Wrote,

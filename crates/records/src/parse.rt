@@ -20,7 +20,7 @@ const MALFORMED: u32 = 75;
 const OUTSIDE: u32 = 76;
 
 // What is wrong with a line: its refusal number, and the place of the field that it is about (the name's is 1), or 0.
-#[derive(Drop)]
+#[derive(Clone, Copy)]
 pub struct Fault {
     pub number: u32,
     pub place: u8,
@@ -28,7 +28,7 @@ pub struct Fault {
 
 // A line's record, or what is wrong with it (02, A2: 73 to 76). A filter is opened with words of 64 bits (`cic64`) or of
 // 32 (`cic`).
-#[derive(Drop)]
+#[derive(Clone, Copy)]
 pub enum Record {
     Open(bool, u32, u32, u32),
     Rate(u32),
@@ -38,7 +38,7 @@ pub enum Record {
 }
 
 // The name in a line's first field.
-#[derive(Drop)]
+#[derive(Clone, Copy)]
 pub enum Name {
     Cic,
     Cic64,
@@ -49,21 +49,21 @@ pub enum Name {
 }
 
 // A number of u32: its refusal number, 75 or 76, or 0 and its value.
-#[derive(Drop)]
+#[derive(Clone, Copy)]
 pub struct Natural {
     pub number: u32,
     pub value: u32,
 }
 
 // The same of the session's word.
-#[derive(Drop)]
+#[derive(Clone, Copy)]
 pub struct Integer {
     pub number: u32,
     pub value: i64,
 }
 
 // The number in a field, and where the field ends.
-#[derive(Drop)]
+#[derive(Clone, Copy)]
 pub struct Cell {
     pub value: Number,
     pub end: usize,

@@ -25,7 +25,7 @@ use words::casts::{i32_as_i64, i64_as_i32};
 
 // The filter, once a `cic` or `cic64` record has made it, and whether that was `cic64`. It computes with words of 64 bits
 // for either; after `cic` they are read in 32, where they are what words of 32 bits would be.
-#[derive(Drop)]
+#[derive(Clone, Copy)]
 pub struct Session {
     pub opened: bool,
     pub wide: bool,
@@ -33,7 +33,7 @@ pub struct Session {
 }
 
 // What a line is answered: nothing, an output with the count that it tells, or what is wrong with it.
-#[derive(Drop)]
+#[derive(Clone, Copy)]
 pub enum Reply {
     Silent,
     Output(Output),
@@ -41,7 +41,7 @@ pub enum Reply {
 }
 
 // The session after a line, and the line's answer.
-#[derive(Drop)]
+#[derive(Clone, Copy)]
 pub struct Taken {
     pub session: Session,
     pub reply: Reply,

@@ -16,7 +16,7 @@ use words::shifts::{shl_u32, shr_i32, shr_u32, shr_u64};
 use words::signed::{add_i32, sub_i32};
 use words::unsigned::{add_u32, add_u64, mul_u32, mul_u64, sub_u32};
 
-#[derive(Drop)]
+#[derive(Clone, Copy)]
 pub struct RPLL {
     // The previous timestamp.
     pub x: i32,
@@ -28,7 +28,7 @@ pub struct RPLL {
     pub y: i32,
 }
 
-#[derive(Drop)]
+#[derive(Clone, Copy)]
 pub struct RPLLConfig {
     // A step lasts 2^dt2 counter cycles.
     pub dt2: u8,
@@ -40,26 +40,26 @@ pub struct RPLLConfig {
 }
 
 // What a step learns: a timestamp in counter cycles, or nothing.
-#[derive(Drop)]
+#[derive(Clone, Copy)]
 pub enum Timestamp {
     At(i32),
     Missing,
 }
 
 // The phase and the frequency, or the number of the refusal.
-#[derive(Drop)]
+#[derive(Clone, Copy)]
 pub enum Estimate {
     Given(i32, i32),
     Refused(u32),
 }
 
-#[derive(Drop)]
+#[derive(Clone, Copy)]
 pub struct Processed {
     pub state: RPLL,
     pub estimate: Estimate,
 }
 
-#[derive(Drop)]
+#[derive(Clone, Copy)]
 pub struct ProcessedBlock {
     pub state: RPLL,
     pub verdict: Verdict,

@@ -17,7 +17,7 @@ const EDGES: [u32; 8] = [
 ];
 
 // The generator's state after a word, and the word.
-#[derive(Drop)]
+#[derive(Clone, Copy)]
 pub struct Drawn {
     pub state: u64,
     pub value: u32,

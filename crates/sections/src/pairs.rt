@@ -5,7 +5,7 @@ ghost use Rattle.sections.specs.Pairs.{digit_of, kind_of, pair_code, codes_of, c
 use adapters::tpa::Tpa;
 
 // What two sections are given: an input, two cells, two coefficients.
-#[derive(Drop)]
+#[derive(Clone, Copy)]
 pub struct Given {
     pub x: i32,
     pub z0: i32,
@@ -15,7 +15,7 @@ pub struct Given {
 }
 
 // What they give: back to the place before them, the first one's cell, and on to the next.
-#[derive(Drop)]
+#[derive(Clone, Copy)]
 pub struct Two {
     pub back: i32,
     pub cell: i32,

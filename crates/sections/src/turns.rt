@@ -6,7 +6,7 @@ ghost use Rattle.sections.specs.Pairs.{pair_code, codes_of};
 use crate::pairs::{Codes, Eight, Given, through, through0, through1, through2, through3};
 
 // A step's output, and the cells after it.
-#[derive(Drop)]
+#[derive(Clone, Copy)]
 pub struct Turned {
     pub y: i32,
     pub cells: Eight,

@@ -3,7 +3,7 @@ use native.Mathlib.Omega.{arith}
 use native.Mathlib.Nat.{pow-suc, pow-succ', div-div-eq-div-mul}
 use mathlib.Core.Path.{◌≡◌, refl, sym, ap, ◌∙◌}
 use mathlib.Core.Bool.{Bool, true, false, cond, ◌&&◌}
-use mathlib.Core.List.{List, [], ◌∷◌, ◌++◌}
+use mathlib.Core.List.{List, [], ◌∷◌}
 use mathlib.Core.Option.{Option, none, some}
 use Prim.Native.Nat.{ℕ, zero, suc, ◌+◌, ◌*◌, ◌/◌, ◌^◌, ◌≤◌, ◌<◌}
 use lib.Dec.{leb, ltb, eqb}
@@ -11,7 +11,7 @@ use lib.IntN.{ℤ, pos, negsuc, nat_abs}
 use lib.ListN.{length, length-append}
 use borrow.Author.Tests.{le-leb, eqb-true, eq-eqb, ltb-false, lt-ltb}
 use Rattle.text.specs.Letters.{bytes}
-use Rattle.text.specs.Numbers.{decimal_of, signed_of}
+use Rattle.text.specs.Numbers.{decimal_of}
 use Rattle.text.specs.Parts.{parted, joined_by, count}
 use Rattle.text.specs.Ranges.{Range, unsigned, signed, lies, all_lie, number_in, numbers_in, texts}
 use Rattle.text.specs.Same.{same}
@@ -94,7 +94,7 @@ cic_fine v name n m r h =
 
 -- a filter that no number refuses
 pub sections_fine : (v : Version) (k arch : ℕ) → wdf_number v k arch ≡ 0 → sections_number k arch ≡ 0
-unfolding wdf.newNumber
+unfolding wdf.new_number
 sections_fine One k arch h = h
 sections_fine Two k arch h = by (sections_number k arch) (eqb (sections_number k arch) 0) refl h
   where

@@ -5,9 +5,9 @@ use mathlib.Core.Path.{◌≡◌, refl, sym, ap, ◌∙◌}
 use mathlib.Core.Bool.{Bool, true, false, cond, ◌&&◌, ◌||◌, true≢false}
 use mathlib.Core.List.{List, [], ◌∷◌, map}
 use mathlib.Core.Option.{Option, none, some}
-use Prim.Native.Nat.{ℕ, zero, suc, ◌+◌, ◌-◌, ◌*◌, ◌≤◌}
+use Prim.Native.Nat.{ℕ, suc, ◌-◌, ◌*◌, ◌≤◌}
 use lib.Dec.{leb, ltb, eqb}
-use lib.IntN.{ℤ, pos}
+use lib.IntN.{pos}
 use lib.ListN.{length}
 use borrow.Author.Tests.{le-leb, leb-true, le-ltb, ltb-false}
 use Rattle.sums.specs.Calls.{new_number}
@@ -24,13 +24,12 @@ use Rattle.wdf.specs.Retired.{moved}
 use Rattle.wdf.proofs.Retired.{moved-number, moved_none, moved_same}
 use Rattle.settings_text.specs.Fields.{is_name}
 use Rattle.settings_text.specs.Laws.{Lawful}
-use Rattle.settings_text.specs.Lines.{Setting, Cic, Wdf, Dither, record_name, formed, cic_number, wdf_number, parameters, heading, form_of, form1, form2}
-use Rattle.settings_text.specs.Moves.{Moved, Text, Refused, placed, placed_text, moved_by, move, raised, lowered, forth, back}
-use Rattle.settings_text.specs.Moves.{and_then, is_dither, any_dither, refused_with, renewed, is_retired, any_retired}
+use Rattle.settings_text.specs.Lines.{Setting, Cic, Wdf, Dither, formed, cic_number, wdf_number, parameters, form_of, form1, form2}
+use Rattle.settings_text.specs.Moves.{Text, Refused, placed, placed_text, move, raised, lowered}
+use Rattle.settings_text.specs.Moves.{any_dither, refused_with, renewed, is_retired, any_retired}
 use Rattle.settings_text.specs.Moves.{ForthAndBack, OnlyRetired, BackRefused, OtherFormRefused}
-use Rattle.settings_text.specs.Stores.{Form, Found, Good, Bad, or_else, record_number, listed_number, list_from, list_number}
+use Rattle.settings_text.specs.Stores.{Form, Found, Good, Bad, record_number, listed_number, list_from, list_number}
 use Rattle.settings_text.specs.Stores.{text_of, lines_in, opened_by, read_of}
-use Rattle.settings_text.specs.declared.version.Version.{Version}
 use Rattle.settings_text.specs.declared.version.Version.TheVariants.{One, Two}
 use Rattle.settings_text.proofs.Lines.{lawful, sections_fine}
 use Rattle.settings_text.proofs.Stores.{read_back, one-text, both_zero, write_zero, no_parameter}
@@ -170,7 +169,7 @@ three_lie n m r q h l =
 
 -- a moved architecture is refused by no number
 moved_fine : (k arch : ℕ) → sections_number k arch ≡ 0 → wdf_number Two k (moved k arch) ≡ 0
-unfolding wdf.newNumber
+unfolding wdf.new_number
 moved_fine k arch e = rw (moved-number k arch, e, moved_none k arch)
 
 raised-kept : (s : Setting) → formed One s ≡ true → parameters One s ≡ 0 → Kept (form_of One) (form_of Two) s (raised s)

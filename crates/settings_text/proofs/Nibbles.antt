@@ -11,7 +11,6 @@ use lib.ListN.{length}
 use borrow.Author.Tests.{lt-ltb, le-ltb, ltb-true, ltb-false, le-leb, lt-leb, leb-true, ne_eqb}
 use Rattle.text.specs.Hex.{hex_digit}
 use Rattle.text.specs.Parts.{count}
-use Rattle.text.specs.Ranges.{both}
 use Rattle.text.specs.Same.{same}
 use Rattle.text.proofs.Ranges.{both_some}
 use Rattle.text.proofs.Sameness.{same_eq}

@@ -1,5 +1,5 @@
 -- 02, A7: names, and architecture nibbles as lower-case hex digits in one field.
-use Rattle.std.specs.Prelude.{Bool, true, false, cond, ◌&&◌, List, [], ◌∷◌, ℕ, zero, suc, ◌+◌, ◌-◌, ◌*◌, ◌/◌, ◌%◌, leb, ltb, length}
+use Rattle.std.specs.Prelude.{Bool, true, cond, ◌&&◌, List, [], ◌∷◌, ℕ, zero, suc, ◌+◌, ◌-◌, ◌*◌, ◌/◌, ◌%◌, leb, ltb, length}
 use Rattle.std.proofs.Math.Option.{Option, none, some}
 use Rattle.text.specs.Hex.{hex_digit}
 use Rattle.text.specs.Letters.{byte, bytes}

@@ -1,5 +1,5 @@
 -- 02, A7, A12 and A13: a record's line, and the two forms.
-use Rattle.std.specs.Prelude.{Bool, true, false, cond, ◌&&◌, List, [], ◌∷◌, ℕ, leb, eqb, ℤ, pos, negsuc, nat_abs, length}
+use Rattle.std.specs.Prelude.{Bool, false, cond, ◌&&◌, List, [], ◌∷◌, ℕ, leb, eqb, ℤ, pos, negsuc, nat_abs, length}
 use Rattle.std.proofs.Math.Option.{Option, none, some}
 use Rattle.std.specs.Int.Signed.{lt_z}
 use Rattle.sums.specs.Calls.{new_number}
@@ -124,7 +124,7 @@ dither_number f cs = cond (leb 1 f && leb f 31) (cond (crossed cs) 41 0) 40
 -- those of a `wdf`: of `Wdf::from_form1`, and in form 2 of `Wdf::new`, which refuses e and f with 53, after 51
 abbrev pub wdf_number : Version → ℕ → ℕ → ℕ
 wdf_number One k arch = sections_number k arch
-wdf_number Two k arch = wdf.newNumber k arch
+wdf_number Two k arch = wdf.new_number k arch
 
 -- the parameter numbers
 unfoldable pub parameters : Version → Setting → ℕ

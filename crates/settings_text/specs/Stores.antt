@@ -1,5 +1,5 @@
 -- 02, A7: a store of settings as lines of text, for any form of its records.
-use Rattle.std.specs.Prelude.{Bool, true, false, cond, List, [], ◌∷◌, ℕ, zero, suc, ◌+◌, leb, eqb, length}
+use Rattle.std.specs.Prelude.{Bool, cond, List, [], ◌∷◌, ℕ, zero, suc, ◌+◌, leb, eqb, length}
 use Rattle.std.proofs.Math.Option.{Option, none, some}
 use Rattle.text.specs.Letters.{newline}
 use Rattle.text.specs.Order.{precedes}

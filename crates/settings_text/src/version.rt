@@ -1,5 +1,5 @@
 // A form of the text: its first line is `set` and this number.
-#[derive(Drop)]
+#[derive(Clone, Copy)]
 pub enum Version {
     One,
     Two,

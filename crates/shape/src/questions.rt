@@ -10,14 +10,14 @@ use crate::powers::{power, power_of_two, shift};
 use crate::runs::low_rate;
 
 // A whole number, or the number of a refusal.
-#[derive(Drop)]
+#[derive(Clone, Copy)]
 pub enum Told {
     Number(u64),
     Refused(u32),
 }
 
 // Whether inputs fit, or the number of a refusal.
-#[derive(Drop)]
+#[derive(Clone, Copy)]
 pub enum Fitting {
     Fits(bool),
     Refused(u32),

@@ -11,7 +11,7 @@ use std::num::wrapping_add_u64;
 // What a decimator's block wrote: the count of its outputs, and what it tells of the first, the unsettled count that
 // it found and its input's number, both 0 where there is none. Output i of the block counts as told that count less i,
 // not below 0, and its number is typeof.i.R more. Told 0: no input from before the last set_rate, resume, clear or new is in it.
-#[derive(Drop)]
+#[derive(Clone, Copy)]
 pub struct Written {
     pub count: usize,
     pub told: usize,
@@ -19,14 +19,14 @@ pub struct Written {
 }
 
 // What a decimator's block wrote, or the number of a refusal.
-#[derive(Drop)]
+#[derive(Clone, Copy)]
 pub enum Wrote {
     Outputs(Written),
     Refused(u32),
 }
 
 // How many inputs an interpolator's block read, or the number of a refusal.
-#[derive(Drop)]
+#[derive(Clone, Copy)]
 pub enum Read {
     Inputs(usize),
     Refused(u32),

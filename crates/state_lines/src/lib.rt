@@ -19,7 +19,7 @@ use words::casts::{i64_as_u64, u64_as_i64};
 use words::unsigned::{add_u64, mul_u64};
 
 // The place behind words that were put, and the check value after them.
-#[derive(Drop)]
+#[derive(Clone, Copy)]
 pub struct WordsPut {
     pub next: usize,
     pub check: u64,

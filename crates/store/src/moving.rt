@@ -10,7 +10,7 @@ use store_write::saving::{Written, write_form1, write_form2};
 use wdf::filter::current_architecture;
 
 // How many bytes were written; or the line, 0 where no line is to blame, and the number of the refusal.
-#[derive(Drop)]
+#[derive(Clone, Copy)]
 pub enum Move {
     Bytes(usize),
     Refused(usize, u32),

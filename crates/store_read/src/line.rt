@@ -20,14 +20,14 @@ use text::parts::part_end;
 use words::casts::{i32_as_u32, u32_as_i32};
 
 // A word, or none.
-#[derive(Drop)]
+#[derive(Clone, Copy)]
 pub enum Natural {
     Within(u32),
     Outside,
 }
 
 // Numbers of some fields: how many, and the first eight as words.
-#[derive(Drop)]
+#[derive(Clone, Copy)]
 pub struct Numbers {
     pub found: bool,
     pub count: usize,
@@ -35,7 +35,7 @@ pub struct Numbers {
 }
 
 // A line's record, if it holds one.
-#[derive(Drop)]
+#[derive(Clone, Copy)]
 pub struct Line {
     pub found: bool,
     pub entry: Entry,

@@ -15,7 +15,7 @@ use text::comparing::same_bytes;
 use text::parts::part_end;
 
 // A line's record, where the line ends, and the number that refuses it or 0.
-#[derive(Drop)]
+#[derive(Clone, Copy)]
 pub struct Step {
     pub entry: Entry,
     pub end: usize,
@@ -23,7 +23,7 @@ pub struct Step {
 }
 
 // The settings, with line and number 0; or no settings, the first bad line, from 1, and its number.
-#[derive(Drop)]
+#[derive(Clone, Copy)]
 pub struct Read {
     pub settings: Settings,
     pub line: usize,

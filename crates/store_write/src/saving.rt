@@ -51,7 +51,7 @@ fn entry_number(version: Version, k: usize, last: Name, entry: Entry) -> u32
 }
 
 // A list's number, and where its text ends in the buffer.
-#[derive(Drop)]
+#[derive(Clone, Copy)]
 pub struct Composed {
     pub end: usize,
     pub number: u32,
@@ -96,7 +96,7 @@ fn compose(version: Version, settings: Settings, out: &mut [u8]) -> Composed
 }
 
 // How many bytes were written, or the number of the refusal.
-#[derive(Drop)]
+#[derive(Clone, Copy)]
 pub enum Written {
     Bytes(usize),
     Refused(u32),

@@ -12,7 +12,7 @@ const A: u64 = b'a' as u64;
 const F: u64 = b'f' as u64;
 
 // The word that sixteen digits give; or bytes that are no such digits.
-#[derive(Drop)]
+#[derive(Clone, Copy)]
 pub enum Pattern {
     Bits(u64),
     Wrong,

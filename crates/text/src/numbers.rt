@@ -8,7 +8,7 @@ const ZERO: u64 = b'0' as u64;
 const NINE: u64 = b'9' as u64;
 
 // A number's sign and size, where a size above 2^63 is given as 2^63 + 1; or bytes that are no number.
-#[derive(Drop)]
+#[derive(Clone, Copy)]
 pub enum Number {
     Plus(u64),
     Minus(u64),

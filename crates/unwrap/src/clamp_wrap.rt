@@ -7,20 +7,20 @@ ghost use Rattle.unwrap.specs.Phases.{clamped_by, clamp_out, clamp_next, clamped
 use crate::wrapping::{Wrap, overflowing_sub};
 use blocks::Verdict;
 
-#[derive(Drop)]
+#[derive(Clone, Copy)]
 pub struct ClampWrap {
     // The last input.
     pub x0: i32,
     pub clamp: Wrap,
 }
 
-#[derive(Drop)]
+#[derive(Clone, Copy)]
 pub struct Clamped {
     pub state: ClampWrap,
     pub y: i32,
 }
 
-#[derive(Drop)]
+#[derive(Clone, Copy)]
 pub struct ClampedBlock {
     pub state: ClampWrap,
     pub verdict: Verdict,

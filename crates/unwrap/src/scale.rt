@@ -7,7 +7,7 @@ use words::casts::i32_as_i64;
 use words::shifts::{shl_i64, shr_i64};
 use words::signed::add_i64;
 
-#[derive(Drop)]
+#[derive(Clone, Copy)]
 pub enum Scaled {
     Value(i32),
     Refused(u32),

@@ -8,19 +8,19 @@ use blocks::Verdict;
 use words::casts::{i32_as_i64, i64_as_i32, i64_high};
 use words::signed::{add_i32, add_i64, sub_i32};
 
-#[derive(Drop)]
+#[derive(Clone, Copy)]
 pub struct Unwrapper {
     // The current output.
     pub y: i64,
 }
 
-#[derive(Drop)]
+#[derive(Clone, Copy)]
 pub struct Unwrapped {
     pub state: Unwrapper,
     pub dx: i32,
 }
 
-#[derive(Drop)]
+#[derive(Clone, Copy)]
 pub struct UnwrappedBlock {
     pub state: Unwrapper,
     pub verdict: Verdict,

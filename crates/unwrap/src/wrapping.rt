@@ -33,7 +33,7 @@ impl Wrap {
     }
 }
 
-#[derive(Drop)]
+#[derive(Clone, Copy)]
 pub struct Difference {
     pub delta: i32,
     pub wrap: Wrap,

@@ -11,14 +11,14 @@ use text::comparing::same_bytes;
 use text::writing::put_bytes;
 
 // What a header tells: samples a second, and the size of the data in bytes.
-#[derive(Drop)]
+#[derive(Clone, Copy)]
 pub struct Recording {
     pub rate: u32,
     pub size: u32,
 }
 
 // A header that was read, or the number of its refusal.
-#[derive(Drop)]
+#[derive(Clone, Copy)]
 pub enum Head {
     Of(Recording),
     Refused(u32),

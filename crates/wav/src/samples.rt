@@ -12,7 +12,7 @@ use words::casts::{i32_as_u32, u32_as_i32};
 use words::shifts::shr_i32;
 
 // How many elements a part gave, and whether it was done.
-#[derive(Drop)]
+#[derive(Clone, Copy)]
 pub struct Part {
     pub count: usize,
     pub verdict: Verdict,

@@ -15,7 +15,6 @@ use Rattle.words.proofs.Reading.{word_is}
 use Rattle.wav_lines.specs.Answers.{field_from, next_from, name_in, shaped_by, filled_in, named_line, line_in}
 use Rattle.wav_lines.specs.declared.answers.Name.{Name}
 use Rattle.wav_lines.specs.declared.answers.Line.{Line}
-use Rattle.wav_lines.specs.declared.answers.Line.TheVariants as Line
 
 pub plus_in : (v : ℕ) → v ≤ 9223372036854775807 → wrap w64 (pos v) ≡ pos v
 unfolding wrap

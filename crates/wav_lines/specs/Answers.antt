@@ -5,15 +5,10 @@ use Rattle.text.specs.Same.{same}
 use Rattle.text.specs.Numbers.{number_of, capped}
 use Rattle.text.specs.Parts.{count, end_of}
 use Rattle.text.specs.declared.numbers.Number.{Number}
-use Rattle.text.specs.declared.numbers.Number.TheVariants as Number
 use Rattle.wav_lines.specs.declared.answers.Natural.{Natural}
-use Rattle.wav_lines.specs.declared.answers.Natural.TheVariants as Natural
 use Rattle.wav_lines.specs.declared.answers.Integer.{Integer}
-use Rattle.wav_lines.specs.declared.answers.Integer.TheVariants as Integer
 use Rattle.wav_lines.specs.declared.answers.Name.{Name}
-use Rattle.wav_lines.specs.declared.answers.Name.TheVariants as Name
 use Rattle.wav_lines.specs.declared.answers.Line.{Line}
-use Rattle.wav_lines.specs.declared.answers.Line.TheVariants as Line
 
 -- the field that starts at a place, and where the next one starts: the line's end where there is none
 abbrev pub field_from : List ℕ → ℕ → List ℕ

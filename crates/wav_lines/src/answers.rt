@@ -12,7 +12,7 @@ use text::parts::{part_end, separators};
 use words::casts::u64_as_i64;
 
 // Samples a second, the power of two that values are divided by, and the greatest told count of an output that is written.
-#[derive(Drop)]
+#[derive(Clone, Copy)]
 pub struct Setting {
     pub rate: u32,
     pub shift: u32,
@@ -20,21 +20,21 @@ pub struct Setting {
 }
 
 // An output's value, and how many outputs from this one on are not settled: 0 where it is.
-#[derive(Drop)]
+#[derive(Clone, Copy)]
 pub struct Output {
     pub value: i64,
     pub told: u64,
 }
 
 // The line that the replay refused, and its number.
-#[derive(Drop)]
+#[derive(Clone, Copy)]
 pub struct Refusal {
     pub line: u64,
     pub number: u64,
 }
 
 // What a line says.
-#[derive(Drop)]
+#[derive(Clone, Copy)]
 pub enum Line {
     Settings(Setting),
     Output(Output),
@@ -44,7 +44,7 @@ pub enum Line {
 }
 
 // The name in a line's first field.
-#[derive(Drop)]
+#[derive(Clone, Copy)]
 pub enum Name {
     Y,
     End,
@@ -54,14 +54,14 @@ pub enum Name {
 }
 
 // A number from 0 to 2^63, or that there is none.
-#[derive(Drop)]
+#[derive(Clone, Copy)]
 pub enum Natural {
     Of(u64),
     None,
 }
 
 // A number within i64, or that there is none.
-#[derive(Drop)]
+#[derive(Clone, Copy)]
 pub enum Integer {
     Of(i64),
     None,

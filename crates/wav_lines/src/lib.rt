@@ -64,7 +64,7 @@ pub fn write_inputs(samples: &[i32], out: &mut [u8]) -> Part
 }
 
 // A value divided by a power of two, a sample within i16, or that it is outside.
-#[derive(Drop)]
+#[derive(Clone, Copy)]
 pub enum Divided {
     Sample(i32),
     Outside,

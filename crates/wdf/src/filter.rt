@@ -12,7 +12,7 @@ use blocks::Verdict;
 use sections::runs::{run_eight, run_two};
 
 // A filter. Coefficients and cells beyond its sections are kept and never matter.
-#[derive(Drop)]
+#[derive(Clone, Copy)]
 pub struct Wdf {
     // How many sections there are, up to 8.
     pub sections: usize,
@@ -25,21 +25,21 @@ pub struct Wdf {
 }
 
 // A filter, and whether the call that gives it was done.
-#[derive(Drop)]
+#[derive(Clone, Copy)]
 pub struct Answer {
     pub state: Wdf,
     pub verdict: Verdict,
 }
 
 // What a step gives out: the output, or the number of its refusal.
-#[derive(Drop)]
+#[derive(Clone, Copy)]
 pub enum Out {
     Given(i32),
     Refused(u32),
 }
 
 // A step's output, and the filter after it.
-#[derive(Drop)]
+#[derive(Clone, Copy)]
 pub struct Stepped {
     pub state: Wdf,
     pub out: Out,

@@ -14,7 +14,7 @@ use words::casts::u32_as_i32;
 use words::unsigned::add_u32;
 
 // The next word, or anything else.
-#[derive(Drop)]
+#[derive(Clone, Copy)]
 pub enum Found {
     Word(i32),
     Other,

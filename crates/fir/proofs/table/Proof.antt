@@ -9,5 +9,5 @@ returns : tie.Need-returns
 unfolding sum total windows row entries tens ways
 returns c = (table_is _ refl, refl)
 
-pub table-spec : {M : Type 1} → statement M
-table-spec = tie.close (tie.spec returns)
+pub table_spec : {M : Type 1} → statement M
+table_spec = tie.close (tie.spec returns)

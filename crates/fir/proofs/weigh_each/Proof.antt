@@ -10,46 +10,46 @@ use Rattle.fir.proofs.Standing.{WeighsEach, weighs_start, weighs_room, weighs_lo
 use Rattle.fir.proofs.weigh_each.Statement.{statement}
 use Rattle.fir.proofs.weigh_each.Tie as tie
 
-abbrev invariant-loop : tie.invariant-loop
+abbrev invariant-loop : tie.invariant-loop-due
 invariant-loop cells countdown input out₀ due₀ k₀ out due k = WeighsEach cells countdown input out₀ due k out
 
-abbrev decreases-loop : tie.decreases-loop
+abbrev decreases-loop : tie.decreases-loop-due
 decreases-loop cells countdown input out₀ due₀ k₀ out due k = length input - due
 
-loop-holds : tie.Need-loop-init invariant-loop decreases-loop
+loop-holds : tie.Need-loop-due-init invariant-loop decreases-loop
 loop-holds c = weighs_start c.args.cells.now c.args.countdown c.args.input.now c.args.out.now c.requires.2
 
 -- there is room for the output
-room : (c : tie.After-weigh invariant-loop decreases-loop)
-    → (c.before.before.loop.k < length c.before.before.before.args.out.now)
-    × (length c.before.before.loop.out ≡ length c.before.before.before.args.out.now)
+room : (c : tie.After-weigh-y invariant-loop decreases-loop)
+    → (c.before.before.loop-due.k < length c.before.before.before.args.out.now)
+    × (length c.before.before.loop-due.out ≡ length c.before.before.before.args.out.now)
 room c =
     let l = c.before.before in let p = l.before in let a = p.args in
-    weighs_room a.cells.now a.countdown a.input.now a.out.now p.requires.2 l.loop.due l.loop.k l.loop.out
-    c.before.loop-test.true l.loop.invariant
+    weighs_room a.cells.now a.countdown a.input.now a.out.now p.requires.2 l.loop-due.due l.loop-due.k l.loop-due.out
+    c.before.loop-due-test.true l.loop-due.invariant
 
-loop-again : tie.Need-loop-preserved invariant-loop decreases-loop
+loop-again : tie.Need-loop-due-preserved invariant-loop decreases-loop
 loop-again c =
     let l = c.before.before in let p = l.before in let a = p.args in
-    weighs_turn a.cells.now a.countdown a.input.now a.out.now p.requires.2 l.loop.due l.loop.k l.loop.out
-    (to_z w32 (of_z w32 c.weigh.result)) c.before.loop-test.true l.loop.invariant
-    (read w32 c.weigh.result c.weigh.type-inv ∙ c.weigh.ensures)
+    weighs_turn a.cells.now a.countdown a.input.now a.out.now p.requires.2 l.loop-due.due l.loop-due.k l.loop-due.out
+    (to_z w32 (of_z w32 c.weigh-y.result)) c.before.loop-due-test.true l.loop-due.invariant
+    (read w32 c.weigh-y.result c.weigh-y.type_inv ∙ c.weigh-y.ensures)
 
-same_length : tie.Need-same-length invariant-loop decreases-loop
+same_length : tie.Need-shape_of-out invariant-loop decreases-loop
 same_length c =
     let l = c.before in let p = l.before in let a = p.args in
-    let r = weighs_long a.cells.now a.countdown a.input.now a.out.now p.requires.2 l.loop.due l.loop.k
-    l.loop.out l.loop.invariant in
+    let r = weighs_long a.cells.now a.countdown a.input.now a.out.now p.requires.2 l.loop-due.due l.loop-due.k
+    l.loop-due.out l.loop-due.invariant in
     search rules
 
 returns : tie.Need-returns invariant-loop decreases-loop
 returns c =
     let l = c.before in let p = l.before in let a = p.args in
-    weighs_end a.cells.now a.countdown a.input.now a.out.now p.requires.2 l.loop.due l.loop.k l.loop.out
-    c.loop-test.false l.loop.invariant
+    weighs_end a.cells.now a.countdown a.input.now a.out.now p.requires.2 l.loop-due.due l.loop-due.k l.loop-due.out
+    c.loop-due-test.false l.loop-due.invariant
 
-pub weigh-each-spec : {M : Type 1} → statement M
-weigh-each-spec =
+pub weigh_each_spec : {M : Type 1} → statement M
+weigh_each_spec =
     tie.close
     (tie.spec invariant-loop decreases-loop loop-holds (λ c. search rules) (λ c κs. search rules) (λ c. let r = room c in search rules)
     (λ c. let r = room c in search rules) (λ c. let r = room c in search rules) (λ c. search rules) (λ c. search rules) loop-again

@@ -7,7 +7,6 @@ use Rattle.sums.proofs.Lent as lent
 use Rattle.lent64.specs.declared.state.LentCic.{LentCic}
 use Rattle.lent64.specs.declared.stretches.Numbers.{Numbers}
 use Rattle.lent64.specs.declared.stretches.Gave.{Gave}
-use Rattle.lent64.specs.declared.stretches.Gave.TheVariants as Gave
 
 -- The numbers without and with the number of inputs.
 abbrev pub numbers_in : LentCic → Numbers

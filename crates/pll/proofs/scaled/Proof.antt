@@ -13,15 +13,15 @@ use Rattle.pll.proofs.Splitting.{split_whole}
 use Rattle.pll.proofs.scaled.Statement.{statement}
 use Rattle.pll.proofs.scaled.Tie as tie
 
-mul_low : tie.Need-overflow-mul-low
+mul_low : tie.Need-overflow_mul-low
 mul_low c =
     let n = c.before in let w = n.before in let s = w.before in
     rw (
-      read w64 w.i32-as-i64.result w.i32-as-i64.type-inv,
-      w.i32-as-i64.ensures,
-      read w64 c.u32-as-i64.result c.u32-as-i64.type-inv,
-      c.u32-as-i64.ensures,
-      n.i64-as-u32.ensures,
+      read w64 w.i32_as_i64.result w.i32_as_i64.type_inv,
+      w.i32_as_i64.ensures,
+      read w64 c.u32_as_i64.result c.u32_as_i64.type_inv,
+      c.u32_as_i64.ensures,
+      n.i64_as_u32.ensures,
       to_z-of_z w32 s.args.a1 s.ranges.a1,
       to_z-of_z w64 s.args.f0 s.ranges.f0,
     )
@@ -39,17 +39,17 @@ returns c =
     let m = a.a1 *ℤ pos (word w32 a.f0) in
     let f = low_fits a.a1 a.f0 s.ranges.a1 in
     rw (
-      read w64 c.add-i64.result c.add-i64.type-inv,
-      c.add-i64.ensures,
-      read w64 p.product.result p.product.type-inv,
+      read w64 c.add_i64.result c.add_i64.type_inv,
+      c.add_i64.ensures,
+      read w64 p.product.result p.product.type_inv,
       p.product.ensures,
-      read w32 h.i64-high.result h.i64-high.type-inv,
-      h.i64-high.ensures,
-      read w64 w.i32-as-i64.result w.i32-as-i64.type-inv,
-      w.i32-as-i64.ensures,
-      read w64 l.u32-as-i64.result l.u32-as-i64.type-inv,
-      l.u32-as-i64.ensures,
-      n.i64-as-u32.ensures,
+      read w32 h.i64_high.result h.i64_high.type_inv,
+      h.i64_high.ensures,
+      read w64 w.i32_as_i64.result w.i32_as_i64.type_inv,
+      w.i32_as_i64.ensures,
+      read w64 l.u32_as_i64.result l.u32_as_i64.type_inv,
+      l.u32_as_i64.ensures,
+      n.i64_as_u32.ensures,
       to_z-of_z w32 a.a1 s.ranges.a1,
       to_z-of_z w64 a.f0 s.ranges.f0,
       to_z-of_z w64 m f,
@@ -57,7 +57,7 @@ returns c =
     )
     (ap (wrap w64) (split_whole a.a1 a.f0))
 
-pub scaled-spec : {M : Type 1} → statement M
-scaled-spec =
+pub scaled_spec : {M : Type 1} → statement M
+scaled_spec =
     tie.close (tie.spec (λ c κs. search rules) (λ c κs. search rules) (λ c κs. search rules) mul_low
     (λ c κs. search rules) (λ c κs. search rules) (λ c κs. search rules) returns)

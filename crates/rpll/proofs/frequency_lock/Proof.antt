@@ -21,22 +21,22 @@ returns c =
     let d = m.before in
     let s = d.before in
     let a = s.args in
-    rw (c.add-u32.ensures, b.sub-u32.ensures)
-    (lock a.ff a.dx a.dt2 a.shift r.shl-u322.result n.u64-as-u32.result
-    (r.shl-u322.ensures ∙ bit (32 + a.dt2 - a.shift) (omega arith))
+    rw (c.add_u32.ensures, b.sub_u32.ensures)
+    (lock a.ff a.dx a.dt2 a.shift r.shl_u32-p_ref.result n.u64_as_u32-p_sig.result
+    (r.shl_u32-p_ref.ensures ∙ bit (32 + a.dt2 - a.shift) (omega arith))
     (rw (
-      n.u64-as-u32.ensures,
-      q.shr-u64.ensures,
-      p.add-u64.ensures,
-      m.mul-u64.ensures,
-      d.i32-as-u64.ensures,
+      n.u64_as_u32-p_sig.ensures,
+      q.shr_u64.ensures,
+      p.add_u64.ensures,
+      m.mul_u64-p_sig_64.ensures,
+      d.i32_as_u64.ensures,
       to_z-of_z w32 a.dx s.ranges.dx,
     )
-    (signal a.ff a.dx a.shift h.shl-u32.result (omega arith) (omega arith)
-    (h.shl-u32.ensures ∙ bit (a.shift - 1) (omega arith)))))
+    (signal a.ff a.dx a.shift h.shl_u32-half.result (omega arith) (omega arith)
+    (h.shl_u32-half.ensures ∙ bit (a.shift - 1) (omega arith)))))
 
-pub frequency-lock-spec : {M : Type 1} → statement M
-frequency-lock-spec =
+pub frequency_lock_spec : {M : Type 1} → statement M
+frequency_lock_spec =
     tie.close (tie.spec (λ c κs. search rules) (λ c κs. search rules) (λ c. search rules) (λ c κs. search rules)
     (λ c. search rules) (λ c κs. search rules) (λ c κs. search rules) (λ c κs. search rules) (λ c. search rules)
     (λ c. search rules) (λ c κs. search rules) (λ c κs. search rules) (λ c κs. search rules) returns)

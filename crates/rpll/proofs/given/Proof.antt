@@ -9,10 +9,10 @@ returns : tie.Need-returns
 returns c =
     let u = c.before in
     rw (
-      read w32 u.before.args.state.y c.struct_told.given.1.1.1.0.1,
-      read w32 u.u32-as-i32.result u.u32-as-i32.type-inv,
-      u.u32-as-i32.ensures,
+      read w32 u.before.args.state.y c.struct_told-1.given.1.1.1.0.1,
+      read w32 u.u32_as_i32.result u.u32_as_i32.type_inv,
+      u.u32_as_i32.ensures,
     )
 
-pub given-spec : {M : Type 1} → statement M
-given-spec = tie.close (tie.spec (λ c κs. search rules) returns)
+pub given_spec : {M : Type 1} → statement M
+given_spec = tie.close (tie.spec (λ c κs. search rules) returns)

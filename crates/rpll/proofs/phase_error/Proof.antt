@@ -10,10 +10,10 @@ use Rattle.rpll.proofs.Rounding.{bit, miss}
 use Rattle.rpll.proofs.phase_error.Statement.{statement}
 use Rattle.rpll.proofs.phase_error.Tie as tie
 
-rem-dt : tie.Need-nonzero-rem-dt
+rem-dt : tie.Need-nonzero_rem-dt
 rem-dt c =
     let a = c.before.before.before.args in
-    rw (c.shl-u32.ensures, bit a.dt2 (omega arith)) (pow_pos a.dt2)
+    rw (c.shl_u32.ensures, bit a.dt2 (omega arith)) (pow_pos a.dt2)
 
 returns : tie.Need-returns
 returns c =
@@ -27,25 +27,25 @@ returns c =
     let s = z.before in
     let a = s.args in
     rw (
-      read w32 c.shr-i32.result c.shr-i32.type-inv,
-      c.shr-i32.ensures,
-      read w32 d.sub-i322.result d.sub-i322.type-inv,
-      d.sub-i322.ensures,
-      read w32 y.u32-as-i32.result y.u32-as-i32.type-inv,
-      y.u32-as-i32.ensures,
-      m.mul-u32.ensures,
-      g.shr-u32.ensures,
-      n.i32-as-u32.ensures,
-      read w32 z.sub-i32.result z.sub-i32.type-inv,
-      z.sub-i32.ensures,
+      read w32 c.shr_i32.result c.shr_i32.type_inv,
+      c.shr_i32.ensures,
+      read w32 d.sub_i32-2.result d.sub_i32-2.type_inv,
+      d.sub_i32-2.ensures,
+      read w32 y.u32_as_i32-y_ref.result y.u32_as_i32-y_ref.type_inv,
+      y.u32_as_i32-y_ref.ensures,
+      m.mul_u32.ensures,
+      g.shr_u32.ensures,
+      n.i32_as_u32.ensures,
+      read w32 z.sub_i32.result z.sub_i32.type_inv,
+      z.sub_i32.ensures,
       to_z-of_z w32 a.x s.ranges.x,
       to_z-of_z w32 a.y s.ranges.y,
     )
-    (miss a.f a.x a.y a.dt2 a.shift b.shl-u32.result (omega arith) (omega arith) (omega arith)
-    (b.shl-u32.ensures ∙ bit a.dt2 (omega arith)))
+    (miss a.f a.x a.y a.dt2 a.shift b.shl_u32.result (omega arith) (omega arith) (omega arith)
+    (b.shl_u32.ensures ∙ bit a.dt2 (omega arith)))
 
-pub phase-error-spec : {M : Type 1} → statement M
-phase-error-spec =
+pub phase_error_spec : {M : Type 1} → statement M
+phase_error_spec =
     tie.close (tie.spec (λ c κs. search rules) (λ c κs. search rules) (λ c κs. search rules) rem-dt
     (λ c κs. search rules) (λ c κs. search rules) (λ c κs. search rules) (λ c κs. search rules) (λ c. search rules)
     (λ c κs. search rules) returns)

@@ -10,31 +10,31 @@ use Rattle.wav_lines.proofs.Dividing.{too_low, too_high, inside}
 use Rattle.wav_lines.proofs.divide.Statement.{statement}
 use Rattle.wav_lines.proofs.divide.Tie as tie
 
-returns : tie.Need-returns
+returns : tie.Need-returns-then-quotient-ltminus32768
 returns c =
-    let q = c.before.shr-i64 in
+    let q = c.before.shr_i64-quotient in
     let a = c.before.before in
     let e = rw (to_z-of_z w64 a.args.value a.ranges.value) at q.ensures in
-    too_low q.result (rw (read w64 q.result q.type-inv) at c.if1.true) ∙ ap fitted e
+    too_low q.result (rw (read w64 q.result q.type_inv) at c.if-quotient-ltminus32768.true) ∙ ap fitted e
 
-returns-2 : tie.Need-returns-2
+returns-2 : tie.Need-returns-then-quotient-gt32767
 returns-2 c =
-    let q = c.before.before.shr-i64 in
+    let q = c.before.before.shr_i64-quotient in
     let a = c.before.before.before in
     let e = rw (to_z-of_z w64 a.args.value a.ranges.value) at q.ensures in
-    too_high q.result (rw (read w64 q.result q.type-inv) at c.if2.true) ∙ ap fitted e
+    too_high q.result (rw (read w64 q.result q.type_inv) at c.if-quotient-gt32767.true) ∙ ap fitted e
 
-returns-3 : tie.Need-returns-3
+returns-3 : tie.Need-returns
 returns-3 c =
     let p = c.before.before in
-    let q = p.before.shr-i64 in
+    let q = p.before.shr_i64-quotient in
     let a = p.before.before in
-    let f = read w64 q.result q.type-inv in
+    let f = read w64 q.result q.type_inv in
     let e = rw (to_z-of_z w64 a.args.value a.ranges.value) at q.ensures in
-    let r = c.i64-as-i32 in
-    let s = read w32 r.result r.type-inv ∙ (rw f at r.ensures) in
-    ap Sample s ∙ inside q.result (rw f at p.if1.false) (rw f at c.before.if2.false) ∙ ap fitted e
+    let r = c.i64_as_i32 in
+    let s = read w32 r.result r.type_inv ∙ (rw f at r.ensures) in
+    ap Sample s ∙ inside q.result (rw f at p.if-quotient-ltminus32768.false) (rw f at c.before.if-quotient-gt32767.false) ∙ ap fitted e
 
-pub divide-spec : {M : Type 1} → statement M
-divide-spec =
+pub divide_spec : {M : Type 1} → statement M
+divide_spec =
     tie.close (tie.spec (λ c κs. search rules) returns returns-2 (λ c κs. search rules) returns-3)

@@ -14,25 +14,25 @@ use Rattle.wav_lines.proofs.Putting.{lines_on, lines_done}
 use Rattle.wav_lines.proofs.put_inputs.Statement.{statement}
 use Rattle.wav_lines.proofs.put_inputs.Tie as tie
 
-abbrev invariant-loop : tie.invariant-loop
+abbrev invariant-loop : tie.invariant-loop-i
 invariant-loop samples out₀ at₀ i₀ out at i =
     (i ≤ length samples) × (at ≤ 14 * i) × (length out ≡ length out₀) × Wrote out₀ 0 (input_lines (take i samples)) at out
 
-abbrev decreases-loop : tie.decreases-loop
+abbrev decreases-loop : tie.decreases-loop-i
 decreases-loop samples out₀ at₀ i₀ out at i = length samples - i
 
-loop-holds : tie.Need-loop-init invariant-loop decreases-loop
+loop-holds : tie.Need-loop-i-init invariant-loop decreases-loop
 loop-holds c = (omega arith, omega arith, refl, nothing c.before.args.out.now 0)
 
-loop-again : tie.Need-loop-preserved invariant-loop decreases-loop
+loop-again : tie.Need-loop-i-preserved invariant-loop decreases-loop
 loop-again c =
     let p = c.before.before in
     let q = p.before.before in
     let o = q.before.before in
     let start = o.before.before in
-    let l = o.loop in
+    let l = o.loop-i in
     let xs = start.args.samples.now in
-    let written = rw (read w32 (get_or xs l.i (pos 0)) q.x.given) at p.put-input.ensures in
+    let written = rw (read w32 (get_or xs l.i (pos 0)) q.x-1.given) at p.put_input-at.ensures in
     let w = written.0 in (
       omega arith,
       omega (arith, written.1),
@@ -42,10 +42,10 @@ loop-again c =
 
 returns : tie.Need-returns invariant-loop decreases-loop
 returns c =
-    let l = c.before.loop in
-    lines_done _ _ c.before.before.before.args.samples.now l.i _ c.loop-test.false l.invariant.3
+    let l = c.before.loop-i in
+    lines_done _ _ c.before.before.before.args.samples.now l.i _ c.loop-i-test.false l.invariant.3
 
-pub put-inputs-spec : {M : Type 1} → statement M
-put-inputs-spec =
+pub put_inputs_spec : {M : Type 1} → statement M
+put_inputs_spec =
     tie.close (tie.spec invariant-loop decreases-loop loop-holds (λ c. search rules) (λ c. search rules) (λ c κs. search rules)
     (λ c. search rules) (λ c. search rules) loop-again (λ c. search rules) returns)

@@ -13,27 +13,27 @@ use Rattle.cic64.specs.Word.{width}
 use Rattle.cic64.proofs.settling.level.Statement.{statement}
 use Rattle.cic64.proofs.settling.level.Tie as tie
 
-abbrev invariant-loop : tie.invariant-loop
+abbrev invariant-loop : tie.invariant-loop-i
 invariant-loop m x cells₀ i₀ cells i = (i ≤ m) × (cells ≡ replicate i (to_z width x) ++ replicate (64 - i) (pos 0))
 
-abbrev decreases-loop : tie.decreases-loop
+abbrev decreases-loop : tie.decreases-loop-i
 decreases-loop m x cells₀ i₀ cells i = m - i
 
-loop-holds : tie.Need-loop-init invariant-loop decreases-loop
+loop-holds : tie.Need-loop-i-init invariant-loop decreases-loop
 loop-holds c = (omega arith, refl)
 
-loop-again : tie.Need-loop-preserved invariant-loop decreases-loop
+loop-again : tie.Need-loop-i-preserved invariant-loop decreases-loop
 loop-again c =
-    let q = c.before in let l = q.loop in let p = q.before in let x = to_z width (of_z width p.args.x) in
+    let q = c.before in let l = q.loop-i in let p = q.before in let x = to_z width (of_z width p.args.x) in
     (omega arith, ap (λ cells. set cells l.i x) l.invariant.1 ∙ level_turn 64 l.i x (pos 0) (omega arith))
 
 returns : tie.Need-returns invariant-loop decreases-loop
 returns c =
-    let q = c.before in let l = q.loop in let p = q.before in
+    let q = c.before in let l = q.loop-i in let p = q.before in
     let e : l.i ≡ p.args.m = omega arith in
     rw (e, to_z-of_z width p.args.x p.ranges.x) at l.invariant.1
 
-pub level-spec : {M : Type 1} → statement M
-level-spec =
+pub level_spec : {M : Type 1} → statement M
+level_spec =
     tie.close (tie.spec invariant-loop decreases-loop loop-holds (λ c. search rules) (λ c. search rules) (λ c. search rules)
     (λ c. search rules) loop-again returns)

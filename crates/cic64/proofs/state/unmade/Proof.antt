@@ -4,7 +4,7 @@ use Rattle.cic64.proofs.state.unmade.Statement.{statement}
 use Rattle.cic64.proofs.state.unmade.Tie as tie
 
 returns : tie.Need-returns
-returns c = rw c.zeros.ensures
+returns c = rw c.zeros-state.ensures
 
-pub unmade-spec : {M : Type 1} → statement M
-unmade-spec = tie.close (tie.spec (λ c κs. search rules) returns)
+pub unmade_spec : {M : Type 1} → statement M
+unmade_spec = tie.close (tie.spec (λ c κs. search rules) returns)

@@ -8,5 +8,5 @@ returns : tie.Need-returns
 unfolding zeroed
 returns c = refl
 
-pub zeros-spec : {M : Type 1} → statement M
-zeros-spec = tie.close (tie.spec returns)
+pub zeros_spec : {M : Type 1} → statement M
+zeros_spec = tie.close (tie.spec returns)

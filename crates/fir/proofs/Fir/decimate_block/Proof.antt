@@ -6,26 +6,26 @@ use Rattle.fir.proofs.Turns.{refuses, writes}
 use Rattle.fir.proofs.Fir.decimate_block.Statement.{statement}
 use Rattle.fir.proofs.Fir.decimate_block.Tie as tie
 
-returns : tie.Need-returns
+returns : tie.Need-returns-then-out-need
 returns c =
-    let p : tie.Start = search in let k : tie.After-low-rate = search in let a = p.args in
-    refuses a.self a.input.now a.out.now (rw k.low-rate.ensures at c.if1.true)
+    let p : tie.Start = search in let k : tie.After-low_rate-need = search in let a = p.args in
+    refuses a.self a.input.now a.out.now (rw k.low_rate-need.ensures at c.if-out-need.true)
 
-cast-countdown : tie.Need-overflow-cast-countdown
+cast-countdown : tie.Need-overflow_cast-countdown
 cast-countdown c =
-    let p : tie.Start = search in let w : tie.After-weigh-each = search in let a = p.args in
-    record { fits = rw w.weigh-each.ensures.0 (due_small a.self.countdown (length a.input.now) (search rules)) }
+    let p : tie.Start = search in let w : tie.After-weigh_each-left = search in let a = p.args in
+    record { fits = rw w.weigh_each-left.ensures.0 (due_small a.self.countdown (length a.input.now) (search rules)) }
 
-returns-2 : tie.Need-returns-2
+returns-2 : tie.Need-returns
 returns-2 c =
-    let p : tie.Start = search in let k : tie.After-low-rate = search in let e : tie.Else1 = search in
-    let w : tie.After-weigh-each = search in let a = p.args in
-    writes a.self a.input.now a.out.now k.low-rate.result w.weigh-each.result c.keep.result
-    w.weigh-each.last.1.1.1.0 e.if1.left k.low-rate.ensures w.weigh-each.ensures.0 c.keep.ensures
-    w.weigh-each.ensures.1
+    let p : tie.Start = search in let k : tie.After-low_rate-need = search in let e : tie.Else-out-need = search in
+    let w : tie.After-weigh_each-left = search in let a = p.args in
+    writes a.self a.input.now a.out.now k.low_rate-need.result w.weigh_each-left.result c.keep-cells.result
+    w.weigh_each-left.new.out e.if-out-need.false k.low_rate-need.ensures w.weigh_each-left.ensures.0 c.keep-cells.ensures
+    w.weigh_each-left.ensures.1
 
-pub decimate-block-spec : {M : Type 1} → statement M
-decimate-block-spec =
+pub decimate_block_spec : {M : Type 1} → statement M
+decimate_block_spec =
     tie.close
     (tie.spec (λ c κs. search rules) returns (λ c. search rules) (λ c κs. search rules) (λ c κs. search rules) cast-countdown
     (λ c. search rules) returns-2)

@@ -17,10 +17,10 @@ use Rattle.lent64.specs.Word.{width, word_ops}
 use Rattle.lent64.proofs.cascade.comb.Statement.{statement}
 use Rattle.lent64.proofs.cascade.comb.Tie as tie
 
-abbrev invariant-loop : tie.invariant-loop
+abbrev invariant-loop : tie.invariant-loop-i
 invariant-loop cells₀ base m x last end oldest i₀ cells i = (i ≤ last) × (length cells ≡ 64) × (cells ≡ shifted base i cells₀)
 
-abbrev decreases-loop : tie.decreases-loop
+abbrev decreases-loop : tie.decreases-loop-i
 decreases-loop cells₀ base m x last end oldest i₀ cells i = last - i
 
 -- x less the oldest cell is what the line gives
@@ -34,7 +34,7 @@ less-oldest p r fits old e =
     let o = read width (get_or a.cells.now a.base (pos 0)) old in
     read width r fits ∙ (rw (b, o) at e) ∙ sym (less_at word_ops a.base a.m a.cells.now a.x p.requires.0)
 
-returns : tie.Need-returns invariant-loop decreases-loop
+returns : tie.Need-returns-then-m-eq1 invariant-loop decreases-loop
 returns c =
     let o = c.before in let p = o.before.before in let a = p.args in
     let b = to_z-of_z width a.x p.ranges.x in
@@ -43,36 +43,36 @@ returns c =
     (shift_start a.cells.now a.base) in
     record {
       cells = rw b (rw add-zero at end);
-      last = less-oldest p c.sub.result c.sub.type-inv o.only.given c.sub.ensures;
+      last = less-oldest p c.sub.result c.sub.type_inv o.only-1.given c.sub.ensures;
     }
 
-loop-holds : tie.Need-loop-init invariant-loop decreases-loop
+loop-holds : tie.Need-loop-i-init invariant-loop decreases-loop
 loop-holds c =
     let p = c.before.before in (omega arith, p.requires.2, shift_start p.args.cells.now p.args.base)
 
-loop-again : tie.Need-loop-preserved invariant-loop decreases-loop
+loop-again : tie.Need-loop-i-preserved invariant-loop decreases-loop
 loop-again c =
-    let q = c.before.before in let l = q.loop in let p = q.before.before.before in let a = p.args in
+    let q = c.before.before in let l = q.loop-i in let p = q.before.before.before in let a = p.args in
     let short : a.base + l.i + 1 < length a.cells.now = omega (arith, p.requires.2) in
     let old = get_or l.cells (a.base + l.i + 1) (pos 0) in
     let turn = shift_turn a.cells.now a.base l.i (pos 0) l.cells (to_z width (of_z width old)) short l.invariant.2
-    (read width old c.cell.given) in
+    (read width old c.cell-1.given) in
     (omega arith, simp length-set l.invariant.1, turn)
 
-returns-2 : tie.Need-returns-2 invariant-loop decreases-loop
+returns-2 : tie.Need-returns invariant-loop decreases-loop
 returns-2 c =
-    let q = c.before.before in let l = q.loop in let o = q.before in let p = o.before.before in let a = p.args in
+    let q = c.before.before in let l = q.loop-i in let o = q.before in let p = o.before.before in let a = p.args in
     let b = to_z-of_z width a.x p.ranges.x in
     let e : l.i + 1 ≡ a.m = omega arith in
     let at : l.i ≡ a.m - 1 = omega arith in
     let end = shift_end a.cells.now a.base l.i (pos 0) a.m l.cells a.x e (omega (arith, p.requires.2)) l.invariant.2 in
     record {
       cells = rw (b, ← at) end;
-      last = less-oldest p c.sub2.result c.sub2.type-inv o.oldest.given c.sub2.ensures;
+      last = less-oldest p c.sub-2.result c.sub-2.type_inv o.oldest-1.given c.sub-2.ensures;
     }
 
-pub comb-spec : {M : Type 1} → statement M
-comb-spec =
+pub comb_spec : {M : Type 1} → statement M
+comb_spec =
     tie.close (tie.spec invariant-loop decreases-loop (λ c. search rules) (λ c. search rules) (λ c. search rules) (λ c. search rules)
     (λ c κs. search rules) returns (λ c. search rules) (λ c. search rules) (λ c. search rules) (λ c. search rules) loop-holds
     (λ c. search rules) (λ c. search rules) (λ c. search rules) (λ c. search rules) (λ c. search rules) (λ c. search rules)

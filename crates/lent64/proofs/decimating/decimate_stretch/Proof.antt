@@ -14,34 +14,29 @@ use Rattle.lent64.specs.Inner.Apart.{figures_of}
 use Rattle.lent64.proofs.decimating.decimate_stretch.Statement.{statement}
 use Rattle.lent64.proofs.decimating.decimate_stretch.Tie as tie
 
--- the inputs have run
-abbrev ran-in : tie.After-last-arg → tie.After-integrate-inputs
-ran-in c = c.before.before.before
-
 last-requires : tie.Need-last-requires
 last-requires c κs =
-    let g = ran-in c in let p = g.before.before.before in let a = p.args in (
-      p.pre.0.few,
-      ap length g.integrate-inputs.ensures
-          ∙ ran_length word_ops a.n _ a.integrators.now (omega (arith, p.pre.0.few, p.pre.1.long8)) ∙ p.pre.1.long8,
+    let a = c.args in (
+      c.requires.0.few,
+      ap length c.integrate_inputs.ensures
+          ∙ ran_length word_ops a.n _ a.integrators.now (omega (arith, c.requires.0.few, c.requires.1.long8)) ∙ c.requires.1.long8,
     )
 
 returns : tie.Need-returns
 returns c =
-    let d = c.before.before in let la = d.before in let g = ran-in la.before in let p = g.before.before.before in
-    let a = p.args in
-    let y = read width d.difference-ring.result d.difference-ring.type-inv in
+    let a = c.args in
+    let y = read width c.difference_ring-y.result c.difference_ring-y.type_inv in
     let x = get_or a.input.now (a.i + a.first.countdown) (pos 0) in
-    rw y (reaches word_ops a.n a.at (figures_of a.first) a.integrators.now a.combs.now p.pre.0 p.pre.1
-    a.input.now a.i p.pre.2
-    g.integrate-inputs.last.0 d.difference-ring.new.0 _ _ d.difference-ring.result c.before.lowered.result
+    rw y (reaches word_ops a.n a.at (figures_of a.first) a.integrators.now a.combs.now c.requires.0 c.requires.1
+    a.input.now a.i c.requires.2
+    c.integrate_inputs.new.cells c.difference_ring-y.new.cells _ _ c.difference_ring-y.result c.lowered.result
     c.following.result
-    g.integrate-inputs.ensures (read width x la.before.before.before.x.given)
-    (read width la.last.result la.last.type-inv ∙ la.last.ensures) d.difference-ring.ensures c.before.lowered.ensures
-    (rw c.following.ensures (follows a.at a.first.delay p.pre.0.inside)))
+    c.integrate_inputs.ensures (read width x c.x-1.given)
+    (read width c.last.result c.last.type_inv ∙ c.last.ensures) c.difference_ring-y.ensures c.lowered.ensures
+    (rw c.following.ensures (follows a.at a.first.delay c.requires.0.inside)))
 
-pub decimate-stretch-spec : {M : Type 1} → statement M
-decimate-stretch-spec =
+pub decimate_stretch_spec : {M : Type 1} → statement M
+decimate_stretch_spec =
     tie.close (tie.spec (λ c. search rules) (λ c. search rules) (λ c. search rules) (λ c κs. search rules)
     (λ c. search rules) (λ c. search rules) last-requires (λ c κs. search rules) (λ c κs. search rules)
     (λ c κs. search rules) returns)

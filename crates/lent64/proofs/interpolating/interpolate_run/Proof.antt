@@ -4,8 +4,8 @@ use Rattle.lent64.proofs.interpolating.interpolate_run.Statement.{statement}
 use Rattle.lent64.proofs.interpolating.interpolate_run.Tie as tie
 
 returns : tie.Need-returns
-returns c = let d = c.before in rw c.unroll.ensures d.before.before.before.interpolate-by-order.ensures.1
+returns c = let d = c.before in rw c.unroll.ensures d.before.before.before.interpolate_by_order-r.ensures.1
 
-pub interpolate-run-spec : {M : Type 1} → statement M
-interpolate-run-spec =
+pub interpolate_run_spec : {M : Type 1} → statement M
+interpolate_run_spec =
     tie.close (tie.spec (λ c κs. search rules) (λ c κs. search rules) (λ c. search rules) returns)

@@ -5,8 +5,7 @@ use Prim.Native.Nat.{ℕ, ◌+◌, ◌-◌, ◌*◌, ◌^◌, ◌<◌, ◌≤◌
 use native.Mathlib.Omega.{arith}
 use lib.IntN.{ℤ, pos}
 use lib.ListN.{length, get_or}
-use mir.Val.{to_z, of_z, Fits}
-use mir.ValLaws.{to_z-of_z, of_z_fits}
+use mir.Val.{to_z, of_z}
 use Rattle.words.proofs.Reading.{read}
 use Rattle.sums.specs.State.{State}
 use Rattle.sums.proofs.Fills.{Filling, filling_start, filling_read}
@@ -34,21 +33,21 @@ at-hold n countdown hold = record {
   hold = hold;
 }
 
-abbrev invariant-loop : tie.invariant-loop
+abbrev invariant-loop : tie.invariant-loop-countdown
 invariant-loop integrators₀ combs₀ n first input out₀ delay span countdown₀ hold₀ at₀ k₀ i₀ integrators combs out countdown hold at k i =
     Filling word_ops input out₀ out (apart first integrators₀ combs₀) (ringed (at-hold first countdown (to_z width hold)) integrators combs at) k i
     × Ring n at (at-hold first countdown (to_z width hold)) combs
     × (length integrators ≡ 8) × (countdown ≤ 65536) × (delay ≡ first.delay) × (span ≡ first.rate + 1)
 
-abbrev decreases-loop : tie.decreases-loop
+abbrev decreases-loop : tie.decreases-loop-countdown
 decreases-loop integrators₀ combs₀ n first input out₀ delay span countdown₀ hold₀ at₀ k₀ i₀ integrators combs out countdown hold at k i = length input - k
 
 -- the state as the block began, and the numbers as a turn finds them
 abbrev begun : tie.Start invariant-loop decreases-loop → State ℤ
 begun p = apart p.args.first p.args.integrators.now p.args.combs.now
 
-abbrev found : tie.At-loop invariant-loop decreases-loop → Figures ℤ
-found q = let p : tie.Start invariant-loop decreases-loop = search in at-hold p.args.first q.loop.countdown (to_z width q.loop.hold)
+abbrev found : tie.At-loop-countdown invariant-loop decreases-loop → Figures ℤ
+found q = let p : tie.Start invariant-loop decreases-loop = search in at-hold p.args.first q.loop-countdown.countdown (to_z width q.loop-countdown.hold-bits)
 
 room : (p : tie.Start invariant-loop decreases-loop) → length p.args.out.now * 4 < 2 ^ 63
 room p = search rules
@@ -60,26 +59,26 @@ held : (p : tie.Start invariant-loop decreases-loop) → to_z width (of_z width 
 held p = search rules
 
 -- a turn's test, and the sample that it reads
-more : (q : tie.At-loop invariant-loop decreases-loop) → let p : tie.Start invariant-loop decreases-loop = search in
-    q.loop.countdown < length q.loop.out - q.loop.i → q.loop.countdown < length p.args.out.now - q.loop.i
-more q h = omega (arith, h, q.loop.invariant.0.same)
+more : (q : tie.At-loop-countdown invariant-loop decreases-loop) → let p : tie.Start invariant-loop decreases-loop = search in
+    q.loop-countdown.countdown < length q.loop-countdown.out - q.loop-countdown.i → q.loop-countdown.countdown < length p.args.out.now - q.loop-countdown.i
+more q h = omega (arith, h, q.loop-countdown.invariant.0.same)
 
-there : (q : tie.At-loop invariant-loop decreases-loop) → let p : tie.Start invariant-loop decreases-loop = search in
-    q.loop.countdown < length q.loop.out - q.loop.i → q.loop.k < length p.args.input.now
+there : (q : tie.At-loop-countdown invariant-loop decreases-loop) → let p : tie.Start invariant-loop decreases-loop = search in
+    q.loop-countdown.countdown < length q.loop-countdown.out - q.loop-countdown.i → q.loop-countdown.k < length p.args.input.now
 there q h =
-    let p : tie.Start invariant-loop decreases-loop = search in let l = q.loop in let a = p.args in
+    let p : tie.Start invariant-loop decreases-loop = search in let l = q.loop-countdown in let a = p.args in
     filling_read word_ops a.input.now a.out.now (begun p) l.out
     (ringed (found q) l.integrators l.combs l.at) l.k l.i l.invariant.0 (more q h)
 
-loop-holds : tie.Need-loop-init invariant-loop decreases-loop
+loop-holds : tie.Need-loop-countdown-init invariant-loop decreases-loop
 loop-holds c =
-    let p : tie.Start invariant-loop decreases-loop = search in let a = p.args in let f = fit (begun p) p.pre.1 in
+    let p : tie.Start invariant-loop decreases-loop = search in let a = p.args in let f = fit (begun p) p.requires.1 in
     let none = turned_none a.first.delay f.good.short a.first.order a.combs.now in
     rw (held p) (
-      rw none (filling_start word_ops a.input.now a.out.now (begun p) f p.pre.2),
+      rw none (filling_start word_ops a.input.now a.out.now (begun p) f p.requires.2),
       record {
-        order = p.pre.0;
-        few = omega (arith, p.pre.0, f.good.few);
+        order = p.requires.0;
+        few = omega (arith, p.requires.0, f.good.few);
         short = f.good.short;
         inside = omega (arith, f.good.some);
         long = f.long64;
@@ -90,112 +89,112 @@ loop-holds c =
       refl,
     )
 
-sub-loop : tie.Need-overflow-sub-loop invariant-loop decreases-loop
-sub-loop c = let q : tie.At-loop invariant-loop decreases-loop = search in omega (arith, q.loop.inv.0.within)
+sub-loop : tie.Need-overflow_sub-out invariant-loop decreases-loop
+sub-loop c = let q : tie.At-loop-countdown invariant-loop decreases-loop = search in omega (arith, q.loop-countdown.invariant.0.within)
 
-add-end : tie.Need-overflow-add-end invariant-loop decreases-loop
+add-end : tie.Need-overflow_add-end invariant-loop decreases-loop
 add-end c =
-    let p : tie.Start invariant-loop decreases-loop = search in let q : tie.At-loop invariant-loop decreases-loop = search in
-    omega (arith, c.loop-test.true, q.loop.inv.0.within, q.loop.inv.0.same, room p)
+    let p : tie.Start invariant-loop decreases-loop = search in let q : tie.At-loop-countdown invariant-loop decreases-loop = search in
+    omega (arith, c.loop-countdown-test.true, q.loop-countdown.invariant.0.within, q.loop-countdown.invariant.0.same, room p)
 
-integrate-outputs-requires : tie.Need-integrate-outputs-requires invariant-loop decreases-loop
+integrate-outputs-requires : tie.Need-integrate_outputs-requires invariant-loop decreases-loop
 integrate-outputs-requires c κs =
-    let q : tie.At-loop invariant-loop decreases-loop = search in let t : tie.In-loop invariant-loop decreases-loop = search in
-    (q.loop.inv.1.few, omega arith, omega (arith, t.loop-test.taken, q.loop.inv.0.within), q.loop.inv.2)
+    let q : tie.At-loop-countdown invariant-loop decreases-loop = search in let t : tie.In-loop-countdown invariant-loop decreases-loop = search in
+    (q.loop-countdown.invariant.1.few, omega arith, omega (arith, t.loop-countdown-test.true, q.loop-countdown.invariant.0.within), q.loop-countdown.invariant.2)
 
-mul-x : tie.Need-overflow-mul-x invariant-loop decreases-loop
+mul-x : tie.Need-offset_bounds-input-k invariant-loop decreases-loop
 mul-x c =
-    let p : tie.Start invariant-loop decreases-loop = search in let q : tie.At-loop invariant-loop decreases-loop = search in let t : tie.In-loop invariant-loop decreases-loop = search in
-    omega (arith, there q t.loop-test.taken, wide p)
+    let p : tie.Start invariant-loop decreases-loop = search in let q : tie.At-loop-countdown invariant-loop decreases-loop = search in let t : tie.In-loop-countdown invariant-loop decreases-loop = search in
+    omega (arith, there q t.loop-countdown-test.true, wide p)
 
-shared-slice-copy-out-x : tie.Need-shared-slice-copy-out-x invariant-loop decreases-loop
+shared-slice-copy-out-x : tie.Need-bounds-input-k invariant-loop decreases-loop
 shared-slice-copy-out-x c =
-    let q : tie.At-loop invariant-loop decreases-loop = search in let t : tie.In-loop invariant-loop decreases-loop = search in there q t.loop-test.taken
+    let q : tie.At-loop-countdown invariant-loop decreases-loop = search in let t : tie.In-loop-countdown invariant-loop decreases-loop = search in there q t.loop-countdown-test.true
 
-difference-ring-requires : tie.Need-difference-ring-requires invariant-loop decreases-loop
+difference-ring-requires : tie.Need-difference_ring-hold-requires invariant-loop decreases-loop
 difference-ring-requires c κs =
-    let q : tie.At-loop invariant-loop decreases-loop = search in let g = q.loop.inv.1 in (g.few, omega (arith, g.inside, g.short), g.long)
+    let q : tie.At-loop-countdown invariant-loop decreases-loop = search in let g = q.loop-countdown.invariant.1 in (g.few, omega (arith, g.inside, g.short), g.long)
 
-add-k : tie.Need-overflow-add-k invariant-loop decreases-loop
+add-k : tie.Need-overflow_add-k invariant-loop decreases-loop
 add-k c =
-    let p : tie.Start invariant-loop decreases-loop = search in let q : tie.At-loop invariant-loop decreases-loop = search in let t : tie.In-loop invariant-loop decreases-loop = search in
-    omega (arith, there q t.loop-test.taken, wide p)
+    let p : tie.Start invariant-loop decreases-loop = search in let q : tie.At-loop-countdown invariant-loop decreases-loop = search in let t : tie.In-loop-countdown invariant-loop decreases-loop = search in
+    omega (arith, there q t.loop-countdown-test.true, wide p)
 
-loop-less : tie.Need-loop-smaller invariant-loop decreases-loop
+loop-less : tie.Need-loop-countdown-smaller invariant-loop decreases-loop
 loop-less c =
-    let q : tie.At-loop invariant-loop decreases-loop = search in let t : tie.In-loop invariant-loop decreases-loop = search in
-    omega (arith, there q t.loop-test.taken)
+    let q : tie.At-loop-countdown invariant-loop decreases-loop = search in let t : tie.In-loop-countdown invariant-loop decreases-loop = search in
+    omega (arith, there q t.loop-countdown-test.true)
 
 -- a turn's sample has gone through the combs into the hold
-fed : (c : tie.After-following invariant-loop decreases-loop) → let p : tie.Start invariant-loop decreases-loop = search in let q : tie.At-loop invariant-loop decreases-loop = search in
-    let d : tie.After-difference-ring invariant-loop decreases-loop = search in
-    let x = get_or p.args.input.now q.loop.k (pos 0) in
-    InterpolateSample word_ops p.args.n q.loop.at (found q) q.loop.combs (to_z width (of_z width x))
-    (at-hold p.args.first (p.args.first.rate + 1) d.difference-ring.result) d.difference-ring.last.0 c.following.result
+fed : (c : tie.After-following-at invariant-loop decreases-loop) → let p : tie.Start invariant-loop decreases-loop = search in let q : tie.At-loop-countdown invariant-loop decreases-loop = search in
+    let d : tie.After-difference_ring-hold invariant-loop decreases-loop = search in
+    let x = get_or p.args.input.now q.loop-countdown.k (pos 0) in
+    InterpolateSample word_ops p.args.n q.loop-countdown.at (found q) q.loop-countdown.combs (to_z width (of_z width x))
+    (at-hold p.args.first (p.args.first.rate + 1) d.difference_ring-hold.result) d.difference_ring-hold.new.cells c.following-at.result
 fed c =
-    let p : tie.Start invariant-loop decreases-loop = search in let q : tie.At-loop invariant-loop decreases-loop = search in
-    let d : tie.After-difference-ring invariant-loop decreases-loop = search in
-    let g = q.loop.inv.1 in
-    feeds word_ops p.args.n q.loop.at (found q) q.loop.combs g _ d.difference-ring.result c.following.result
-    d.difference-ring.last.0 d.difference-ring.ensures
-    (rw (c.following.ensures, q.loop.inv.4) (follows q.loop.at p.args.first.delay g.inside))
+    let p : tie.Start invariant-loop decreases-loop = search in let q : tie.At-loop-countdown invariant-loop decreases-loop = search in
+    let d : tie.After-difference_ring-hold invariant-loop decreases-loop = search in
+    let g = q.loop-countdown.invariant.1 in
+    feeds word_ops p.args.n q.loop-countdown.at (found q) q.loop-countdown.combs g _ d.difference_ring-hold.result c.following-at.result
+    d.difference_ring-hold.new.cells d.difference_ring-hold.ensures
+    (rw (c.following-at.ensures, q.loop-countdown.invariant.4) (follows q.loop-countdown.at p.args.first.delay g.inside))
 
-loop-again : tie.Need-loop-preserved invariant-loop decreases-loop
+loop-again : tie.Need-loop-countdown-preserved invariant-loop decreases-loop
 loop-again c =
-    let p : tie.Start invariant-loop decreases-loop = search in let q : tie.At-loop invariant-loop decreases-loop = search in let t : tie.In-loop invariant-loop decreases-loop = search in
-    let w : tie.After-integrate-outputs invariant-loop decreases-loop = search in let v : tie.After-x invariant-loop decreases-loop = search in
-    let d : tie.After-difference-ring invariant-loop decreases-loop = search in
-    let l = q.loop in let a = p.args in let g = l.inv.1 in let e = w.integrate-outputs in
+    let p : tie.Start invariant-loop decreases-loop = search in let q : tie.At-loop-countdown invariant-loop decreases-loop = search in let t : tie.In-loop-countdown invariant-loop decreases-loop = search in
+    let w : tie.After-integrate_outputs invariant-loop decreases-loop = search in let v : tie.After-x-1 invariant-loop decreases-loop = search in
+    let d : tie.After-difference_ring-hold invariant-loop decreases-loop = search in
+    let l = q.loop-countdown in let a = p.args in let g = l.invariant.1 in let e = w.integrate_outputs in
     let x = get_or a.input.now l.k (pos 0) in
-    rw (read width d.difference-ring.result d.difference-ring.ok) (
+    rw (read width d.difference_ring-hold.result d.difference_ring-hold.type_inv) (
       interpolate_turn word_ops a.n a.input.now a.out.now l.out (begun p) (found q) l.integrators l.combs l.at l.k l.i
-          l.inv.0 g (more q t.loop-test.taken) e.last.0 e.last.1.1.1.0 e.ensures (to_z width (of_z width x))
-          (read width x v.x.given) _ d.difference-ring.last.0 c.following.result (fed c),
+          l.invariant.0 g (more q t.loop-countdown-test.true) e.new.cells e.new.out e.ensures (to_z width (of_z width x))
+          (read width x v.x-1.given) _ d.difference_ring-hold.new.cells c.following-at.result (fed c),
       (fed c).ring,
-      ap length e.ensures.cells ∙ ran_length word_ops a.n _ l.integrators (omega (arith, g.few, l.inv.2)) ∙ l.inv.2,
-      omega (arith, (fit (begun p) p.pre.1).good.slow),
-      l.inv.4,
-      l.inv.5,
+      ap length e.ensures.cells ∙ ran_length word_ops a.n _ l.integrators (omega (arith, g.few, l.invariant.2)) ∙ l.invariant.2,
+      omega (arith, (fit (begun p) p.requires.1).good.slow),
+      l.invariant.4,
+      l.invariant.5,
     )
 
-integrate-outputs-requires-2 : tie.Need-integrate-outputs-requires-2 invariant-loop decreases-loop
+integrate-outputs-requires-2 : tie.Need-integrate_outputs-requires-2 invariant-loop decreases-loop
 integrate-outputs-requires-2 c κs =
-    let q : tie.At-loop invariant-loop decreases-loop = search in
-    (q.loop.inv.1.few, q.loop.inv.0.within, omega arith, q.loop.inv.2)
+    let q : tie.At-loop-countdown invariant-loop decreases-loop = search in
+    (q.loop-countdown.invariant.1.few, q.loop-countdown.invariant.0.within, omega arith, q.loop-countdown.invariant.2)
 
-sub-left : tie.Need-overflow-sub-left invariant-loop decreases-loop
-sub-left c = let q : tie.At-loop invariant-loop decreases-loop = search in q.loop.inv.0.within
+sub-left : tie.Need-overflow_sub-left invariant-loop decreases-loop
+sub-left c = let q : tie.At-loop-countdown invariant-loop decreases-loop = search in q.loop-countdown.invariant.0.within
 
-sub-numbers : tie.Need-overflow-sub-numbers invariant-loop decreases-loop
-sub-numbers c = let t : tie.After-loop invariant-loop decreases-loop = search in t.loop-test.left
+sub-numbers : tie.Need-overflow_sub-numbers invariant-loop decreases-loop
+sub-numbers c = let t : tie.After-loop-countdown invariant-loop decreases-loop = search in t.loop-countdown-test.false
 
-cast-numbers : tie.Need-overflow-cast-numbers invariant-loop decreases-loop
-cast-numbers c = let q : tie.At-loop invariant-loop decreases-loop = search in record { fits = omega (arith, q.loop.inv.3) }
+cast-numbers : tie.Need-overflow_cast-numbers invariant-loop decreases-loop
+cast-numbers c = let q : tie.At-loop-countdown invariant-loop decreases-loop = search in record { fits = omega (arith, q.loop-countdown.invariant.3) }
 
 -- the hold's outputs have filled the slice
-filled : (c : tie.After-integrate-outputs2 invariant-loop decreases-loop) → let p : tie.Start invariant-loop decreases-loop = search in
-    let q : tie.At-loop invariant-loop decreases-loop = search in let l = q.loop in
+filled : (c : tie.After-integrate_outputs-2 invariant-loop decreases-loop) → let p : tie.Start invariant-loop decreases-loop = search in
+    let q : tie.At-loop-countdown invariant-loop decreases-loop = search in let l = q.loop-countdown in
     InterpolateRest word_ops p.args.n l.i (found q) l.integrators l.out
-    (at-hold p.args.first (l.countdown - (length l.out - l.i)) (to_z width l.hold)) c.integrate-outputs2.new.0
-    c.integrate-outputs2.new.1.1.1.0
-filled c = record { numbers = refl; climb = c.integrate-outputs2.ensures }
+    (at-hold p.args.first (l.countdown - (length l.out - l.i)) (to_z width l.hold-bits)) c.integrate_outputs-2.new.cells
+    c.integrate_outputs-2.new.out
+filled c = record { numbers = refl; climb = c.integrate_outputs-2.ensures }
 
-same_length : tie.Need-same-length invariant-loop decreases-loop
+same_length : tie.Need-shape_of-out invariant-loop decreases-loop
 same_length c =
-    let p : tie.Start invariant-loop decreases-loop = search in let q : tie.At-loop invariant-loop decreases-loop = search in let t : tie.After-loop invariant-loop decreases-loop = search in
-    let w : tie.After-integrate-outputs2 invariant-loop decreases-loop = search in let l = q.loop in let a = p.args in let e = w.integrate-outputs2 in
+    let p : tie.Start invariant-loop decreases-loop = search in let q : tie.At-loop-countdown invariant-loop decreases-loop = search in let t : tie.After-loop-countdown invariant-loop decreases-loop = search in
+    let w : tie.After-integrate_outputs-2 invariant-loop decreases-loop = search in let l = q.loop-countdown in let a = p.args in let e = w.integrate_outputs-2 in
     interpolate-same word_ops a.n a.input.now a.out.now l.out (begun p) (found q) l.integrators l.combs l.at l.k l.i
-    l.inv.0 l.inv.1 (omega (arith, t.loop-test.left, l.inv.0.same)) _ e.last.0 e.last.1.1.1.0 (filled w)
+    l.invariant.0 l.invariant.1 (omega (arith, t.loop-countdown-test.false, l.invariant.0.same)) _ e.new.cells e.new.out (filled w)
 
 returns : tie.Need-returns invariant-loop decreases-loop
 returns c =
-    let p : tie.Start invariant-loop decreases-loop = search in let q : tie.At-loop invariant-loop decreases-loop = search in let t : tie.After-loop invariant-loop decreases-loop = search in
-    let w : tie.After-integrate-outputs2 invariant-loop decreases-loop = search in let l = q.loop in let a = p.args in let e = w.integrate-outputs2 in
+    let p : tie.Start invariant-loop decreases-loop = search in let q : tie.At-loop-countdown invariant-loop decreases-loop = search in let t : tie.After-loop-countdown invariant-loop decreases-loop = search in
+    let w : tie.After-integrate_outputs-2 invariant-loop decreases-loop = search in let l = q.loop-countdown in let a = p.args in let e = w.integrate_outputs-2 in
     interpolate-ends word_ops a.n a.input.now a.out.now l.out (begun p) (found q) l.integrators l.combs l.at l.k l.i
-    l.inv.0 l.inv.1 (omega (arith, t.loop-test.left, l.inv.0.same)) _ e.last.0 e.last.1.1.1.0 (filled w)
+    l.invariant.0 l.invariant.1 (omega (arith, t.loop-countdown-test.false, l.invariant.0.same)) _ e.new.cells e.new.out (filled w)
 
-pub interpolate-stretches-spec : {M : Type 1} → statement M
-interpolate-stretches-spec =
+pub interpolate_stretches_spec : {M : Type 1} → statement M
+interpolate_stretches_spec =
     tie.close (tie.spec invariant-loop decreases-loop (λ c. search rules) (λ c. search rules) (λ c. search rules) loop-holds sub-loop add-end
     integrate-outputs-requires mul-x shared-slice-copy-out-x difference-ring-requires (λ c κs. search rules) add-k loop-less loop-again
     integrate-outputs-requires-2 sub-left sub-numbers cast-numbers same_length returns)

@@ -12,16 +12,16 @@ use Rattle.lent64.specs.Word.{width, word_ops}
 use Rattle.lent64.proofs.stretches.last.Statement.{statement}
 use Rattle.lent64.proofs.stretches.last.Tie as tie
 
-returns : tie.Need-returns
+returns : tie.Need-returns-then-n-eq0
 unfolding last_of
-returns c = rw c.if1.true (to_z-of_z width c.before.args.x c.before.ranges.x)
+returns c = rw c.if-n-eq0.true (to_z-of_z width c.before.args.x c.before.ranges.x)
 
-returns-2 : tie.Need-returns-2
+returns-2 : tie.Need-returns
 returns-2 c =
     let a = c.before.before.args in
-    read width (get_or a.cells.now (a.n - 1) (pos 0)) c.result.given
-    ∙ last_at word_ops a.n a.x a.cells.now (omega (arith, c.before.if1.false))
+    read width (get_or a.cells.now (a.n - 1) (pos 0)) c.result-1.given
+    ∙ last_at word_ops a.n a.x a.cells.now (omega (arith, c.before.if-n-eq0.false))
 
-pub last-spec : {M : Type 1} → statement M
-last-spec =
+pub last_spec : {M : Type 1} → statement M
+last_spec =
     tie.close (tie.spec returns (λ c. search rules) (λ c. search rules) (λ c. search rules) returns-2)

@@ -17,28 +17,28 @@ returns c =
     let s = t.before.before in
     let a = s.args in let p = a.self in
     rw (
-      read w64 c.add-i643.result c.add-i643.type-inv,
-      c.add-i643.ensures,
-      read w64 j.add-i642.result j.add-i642.type-inv,
-      j.add-i642.ensures,
-      read w64 d.scaled.result d.scaled.type-inv,
+      read w64 c.add_i64-2.result c.add_i64-2.type_inv,
+      c.add_i64-2.ensures,
+      read w64 j.add_i64.result j.add_i64.type_inv,
+      j.add_i64.ensures,
+      read w64 d.scaled.result d.scaled.type_inv,
       d.scaled.ensures,
-      read w64 z.add-i64.result z.add-i64.type-inv,
-      z.add-i64.ensures,
-      read w64 u.product2.result u.product2.type-inv,
-      u.product2.ensures,
-      read w64 t.product.result t.product.type-inv,
+      read w64 z.add_i64-zero.result z.add_i64-zero.type_inv,
+      z.add_i64-zero.ensures,
+      read w64 u.product-2.result u.product-2.type_inv,
+      u.product-2.ensures,
+      read w64 t.product.result t.product.type_inv,
       t.product.ensures,
       to_z-of_z w64 a.f0 s.ranges.f0,
       to_z-of_z w32 a.y0 s.ranges.y0,
       to_z-of_z w32 a.y1 s.ranges.y1,
-      read w32 p.b0 t.before.struct_told.given.0.1,
-      read w32 p.b1 u.before.struct-told2.given.1.0.1,
-      read w32 p.a1 d.before.struct-told3.given.1.1.0.1,
+      read w32 p.b0 t.before.struct_told-1.given.0.1,
+      read w32 p.b1 u.before.struct_told-2-1.given.1.0.1,
+      read w32 p.a1 d.before.struct_told-3-1.given.1.1.0.1,
     )
     (lead p a.f0 a.y0 a.y1)
 
-pub lead-lag-spec : {M : Type 1} → statement M
-lead-lag-spec =
+pub lead_lag_spec : {M : Type 1} → statement M
+lead_lag_spec =
     tie.close (tie.spec (λ c κs. search rules) (λ c κs. search rules) (λ c κs. search rules) (λ c κs. search rules)
     (λ c κs. search rules) (λ c κs. search rules) returns)

@@ -25,31 +25,31 @@ returns c =
     let g = t.before in
     let s = g.before in
     let a = s.args in
-    let z = e.process.result.y in
-    let b = h.struct-told2.given.1.0.1 in
+    let z = e.process-error.result.y in
+    let b = h.struct_told-2-1.given.1.0.1 in
     let k : SFits w32 z = record { sfits = b } in
     rw (
-      read w64 c.add-i64.result c.add-i64.type-inv,
-      c.add-i64.ensures,
-      read w64 l.lead-lag.result l.lead-lag.type-inv,
-      l.lead-lag.ensures,
-      read w32 n.add-i322.result n.add-i322.type-inv,
-      n.add-i322.ensures,
+      read w64 c.add_i64.result c.add_i64.type_inv,
+      c.add_i64.ensures,
+      read w64 l.lead_lag-f0.result l.lead_lag-f0.type_inv,
+      l.lead_lag-f0.ensures,
+      read w32 n.add_i32-y0.result n.add_i32-y0.type_inv,
+      n.add_i32-y0.ensures,
       read w32 z b,
       to_z-of_z w32 (shr_z z 2) (sfits_le (mag_shr z 2) k),
-      e.process.ensures,
-      read w32 j.add-i32.result j.add-i32.type-inv,
-      j.add-i32.ensures,
+      e.process-error.ensures,
+      read w32 j.add_i32.result j.add_i32.type_inv,
+      j.add_i32.ensures,
       to_z-of_z w32 a.x s.ranges.x,
-      read w32 g.predict.result.y t.struct_told.given.1.0.1,
-      g.predict.ensures,
-      read w32 a.state.z0 z0.struct-told3.given.1.0.1,
-      read w32 a.state.y0 y0.struct-told5.given.1.1.0.1,
-      read w64 a.state.f0 f0.struct-told4.given.1.1.1.0.1,
-      read w64 a.state.f f.struct-told6.given.1.1.1.1.0.1,
+      read w32 g.predict-ahead.result.y t.struct_told-1.given.1.0.1,
+      g.predict-ahead.ensures,
+      read w32 a.state.z0 z0.struct_told-3-1.given.1.0.1,
+      read w32 a.state.y0 y0.struct_told-5-1.given.1.1.0.1,
+      read w64 a.state.f0 f0.struct_told-4-1.given.1.1.1.0.1,
+      read w64 a.state.f f.struct_told-6-1.given.1.1.1.1.0.1,
     )
 
-pub process-spec : {M : Type 1} → statement M
-process-spec =
+pub process_spec : {M : Type 1} → statement M
+process_spec =
     tie.close (tie.spec (λ c κs. search rules) (λ c κs. search rules) (λ c κs. search rules) (λ c κs. search rules)
     (λ c κs. search rules) (λ c κs. search rules) returns)

@@ -9,10 +9,10 @@ returns : tie.Need-returns
 returns c =
     let t = c.before in
     rw (
-      read w32 c.i64-high.result c.i64-high.type-inv,
-      c.i64-high.ensures,
-      read w64 t.before.args.self.f t.struct_told.given.1.1.1.1.0.1,
+      read w32 c.i64_high.result c.i64_high.type_inv,
+      c.i64_high.ensures,
+      read w64 t.before.args.self.f t.struct_told-1.given.1.1.1.1.0.1,
     )
 
-pub frequency-spec : {M : Type 1} → statement M
-frequency-spec = tie.close (tie.spec (λ c κs. search rules) returns)
+pub frequency_spec : {M : Type 1} → statement M
+frequency_spec = tie.close (tie.spec (λ c κs. search rules) returns)

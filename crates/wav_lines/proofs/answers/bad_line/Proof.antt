@@ -6,12 +6,12 @@ use Rattle.wav_lines.proofs.answers.bad_line.Tie as tie
 returns : tie.Need-returns
 returns c =
     let p = c.before.before.before in
-    let q = c.before.before.number-at2 in
-    let a = p.before.before.after in
-    rw (p.natural-of.ensures, p.before.number_at.ensures, c.before.natural-of2.ensures, q.ensures, a.ensures.0)
-    at c.bad-of.ensures
+    let q = c.before.before.number_at-2 in
+    let a = p.before.before.after-second in
+    rw (p.natural_of-place.ensures, p.before.number_at.ensures, c.before.natural_of-number.ensures, q.ensures, a.ensures.0)
+    at c.bad_of.ensures
 
-pub bad-line-spec : {M : Type 1} → statement M
-bad-line-spec =
+pub bad_line_spec : {M : Type 1} → statement M
+bad_line_spec =
     tie.close (tie.spec (λ c κs. search rules) (λ c κs. search rules) (λ c κs. search rules) (λ c κs. search rules)
     (λ c κs. search rules) (λ c κs. search rules) returns)

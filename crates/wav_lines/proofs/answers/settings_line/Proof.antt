@@ -7,13 +7,13 @@ returns : tie.Need-returns
 returns c =
     let p = c.before.before.before in
     let q = p.before.before in
-    let a = q.before.before.after in
-    let b = q.before.after2 in
-    let first = rw (p.before.natural-of.ensures, q.number_at.ensures) at c.settings-of.ensures in
-    let second = rw (c.before.before.natural-of2.ensures, p.number-at2.ensures) at first in
-    rw (c.before.kept_at.ensures, b.ensures.0, a.ensures.0) at second
+    let a = q.before.before.after-second in
+    let b = q.before.after-third in
+    let first = rw (p.before.natural_of-rate.ensures, q.number_at.ensures) at c.settings_of.ensures in
+    let second = rw (c.before.before.natural_of-shift.ensures, p.number_at-2.ensures) at first in
+    rw (c.before.kept_at-most.ensures, b.ensures.0, a.ensures.0) at second
 
-pub settings-line-spec : {M : Type 1} → statement M
-settings-line-spec =
+pub settings_line_spec : {M : Type 1} → statement M
+settings_line_spec =
     tie.close (tie.spec (λ c κs. search rules) (λ c κs. search rules) (λ c κs. search rules) (λ c κs. search rules)
     (λ c κs. search rules) (λ c κs. search rules) (λ c κs. search rules) (λ c κs. search rules) returns)

@@ -9,20 +9,20 @@ use Rattle.cic64.proofs.Ways.{refuses, takes, keeps, sets}
 use Rattle.cic64.proofs.state.Cic.clear.Statement.{statement}
 use Rattle.cic64.proofs.state.Cic.clear.Tie as tie
 
-returns : tie.Need-returns
+returns : tie.Need-returns-then-number-ne0
 unfolding clear_state
 returns c =
-    let a = c.before.before.before.args.self in let f = c.before.before.refusal in
-    c.kept.ensures ∙ refuses f.result (refusal (state_of a)) f.ensures (state_of a) _ _ c.before.if1.true
-    a.inputs (keeps f.result (refusal (state_of a)) f.ensures a.inputs 0 c.before.if1.true)
+    let a = c.before.before.before.args.self in let f = c.before.before.refusal-number in
+    c.kept.ensures ∙ refuses f.result (refusal (state_of a)) f.ensures (state_of a) _ _ c.before.if-number-ne0.true
+    a.inputs (keeps f.result (refusal (state_of a)) f.ensures a.inputs 0 c.before.if-number-ne0.true)
 
-returns-2 : tie.Need-returns-2
+returns-2 : tie.Need-returns
 unfolding clear_state
 returns-2 c =
-    let a = c.before.before.before.args.self in let f = c.before.before.refusal in
-    takes f.result (refusal (state_of a)) f.ensures (state_of a) _ _ c.before.if1.false c.zeros.result
-    (c.zeros.ensures ∙ ap (λ n. cic_of (record { state = zeroed word_ops a.order a.delay a.rate; inputs = n }))
-    (sets f.result (refusal (state_of a)) f.ensures a.inputs 0 c.before.if1.false))
+    let a = c.before.before.before.args.self in let f = c.before.before.refusal-number in
+    takes f.result (refusal (state_of a)) f.ensures (state_of a) _ _ c.before.if-number-ne0.false c.zeros-state.result
+    (c.zeros-state.ensures ∙ ap (λ n. cic_of (record { state = zeroed word_ops a.order a.delay a.rate; inputs = n }))
+    (sets f.result (refusal (state_of a)) f.ensures a.inputs 0 c.before.if-number-ne0.false))
 
 pub clear_spec : {M : Type 1} → statement M
 clear_spec =

@@ -6,10 +6,10 @@ use Rattle.cic64.proofs.state.Cic.decimate_block.Tie as tie
 
 returns : tie.Need-returns
 returns c =
-    let p : tie.Start = search in let n : tie.After-numbers = search in let d : tie.After-decimate-block = search in
-    let j : tie.After-joined = search in let a = p.args in let r = d.decimate_block in
-    rw j.joined.ensures
-    (decimated a.self _ a.input.now a.out.now r.last.1.1.1.1.0 r.result.wrote (rw n.numbers.ensures at r.ensures))
+    let p : tie.Start = search in let n : tie.After-numbers = search in let d : tie.After-decimate_block-r = search in
+    let j : tie.After-joined-state = search in let a = p.args in let r = d.decimate_block-r in
+    rw j.joined-state.ensures
+    (decimated a.self _ a.input.now a.out.now r.new.out r.result.wrote (rw n.numbers.ensures at r.ensures))
 
-pub decimate-block-spec : {M : Type 1} → statement M
-decimate-block-spec = tie.close (tie.spec (λ c κs. search rules) (λ c κs. search rules) (λ c κs. search rules) (λ c. search rules) returns)
+pub decimate_block_spec : {M : Type 1} → statement M
+decimate_block_spec = tie.close (tie.spec (λ c κs. search rules) (λ c κs. search rules) (λ c κs. search rules) (λ c. search rules) returns)

@@ -6,10 +6,10 @@ use Rattle.cic64.proofs.state.Cic.interpolate.Tie as tie
 
 returns : tie.Need-returns
 returns c =
-    let p : tie.Start = search in let n : tie.After-numbers = search in let d : tie.After-interpolate = search in
-    let j : tie.After-joined = search in let r = d.interpolate in
-    rw j.joined.ensures
+    let p : tie.Start = search in let n : tie.After-numbers = search in let d : tie.After-interpolate-t = search in
+    let j : tie.After-joined-state = search in let r = d.interpolate-t in
+    rw j.joined-state.ensures
     (risen p.args.self _ p.args.sample r.result.out (rw n.numbers.ensures at r.ensures))
 
-pub interpolate-spec : {M : Type 1} → statement M
-interpolate-spec = tie.close (tie.spec (λ c κs. search rules) (λ c κs. search rules) (λ c κs. search rules) returns)
+pub interpolate_spec : {M : Type 1} → statement M
+interpolate_spec = tie.close (tie.spec (λ c κs. search rules) (λ c κs. search rules) (λ c κs. search rules) returns)

@@ -6,10 +6,10 @@ use Rattle.cic64.proofs.state.Cic.interpolate_block.Tie as tie
 
 returns : tie.Need-returns
 returns c =
-    let p : tie.Start = search in let n : tie.After-numbers = search in let d : tie.After-interpolate-block = search in
-    let j : tie.After-joined = search in let a = p.args in let r = d.interpolate_block in
-    rw j.joined.ensures
-    (filled a.self _ a.input.now a.out.now r.last.1.1.1.1.0 r.result.read (rw n.numbers.ensures at r.ensures))
+    let p : tie.Start = search in let n : tie.After-numbers = search in let d : tie.After-interpolate_block-r = search in
+    let j : tie.After-joined-state = search in let a = p.args in let r = d.interpolate_block-r in
+    rw j.joined-state.ensures
+    (filled a.self _ a.input.now a.out.now r.new.out r.result.read (rw n.numbers.ensures at r.ensures))
 
-pub interpolate-block-spec : {M : Type 1} → statement M
-interpolate-block-spec = tie.close (tie.spec (λ c κs. search rules) (λ c κs. search rules) (λ c κs. search rules) (λ c. search rules) returns)
+pub interpolate_block_spec : {M : Type 1} → statement M
+interpolate_block_spec = tie.close (tie.spec (λ c κs. search rules) (λ c κs. search rules) (λ c κs. search rules) (λ c. search rules) returns)

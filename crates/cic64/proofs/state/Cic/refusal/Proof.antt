@@ -4,7 +4,7 @@ use Rattle.cic64.proofs.state.Cic.refusal.Statement.{statement}
 use Rattle.cic64.proofs.state.Cic.refusal.Tie as tie
 
 returns : tie.Need-returns
-returns c = c.refusal-of.ensures
+returns c = c.refusal_of.ensures
 
-pub refusal-spec : {M : Type 1} → statement M
-refusal-spec = tie.close (tie.spec (λ c κs. search rules) returns)
+pub refusal_spec : {M : Type 1} → statement M
+refusal_spec = tie.close (tie.spec (λ c κs. search rules) returns)

@@ -11,26 +11,26 @@ use Rattle.cic64.proofs.Ways.{refuses, takes, keeps, sets}
 use Rattle.cic64.proofs.state.Cic.resume.Statement.{statement}
 use Rattle.cic64.proofs.state.Cic.resume.Tie as tie
 
-returns : tie.Need-returns
+returns : tie.Need-returns-then-number-ne0
 unfolding resume_state
 returns c =
-    let a = c.before.before.before.args in let f = c.before.before.refusal-of in
+    let a = c.before.before.before.args in let f = c.before.before.refusal_of-number in
     c.unmade.ensures ∙ refuses f.result (resume_number a.order a.delay a.rate a.countdown) f.ensures (blank word_ops) _ _
-    c.before.if1.true 0 (keeps f.result _ f.ensures 0 a.inputs c.before.if1.true)
+    c.before.if-number-ne0.true 0 (keeps f.result _ f.ensures 0 a.inputs c.before.if-number-ne0.true)
 
-mul-unsettled : tie.Need-overflow-mul-unsettled
+mul-unsettled : tie.Need-overflow_mul-unsettled
 mul-unsettled c =
-    let a = c.before.before.args in let f = c.before.refusal-of in
-    let ok = sound a.order a.delay a.rate a.countdown 0 (sym f.ensures ∙ c.if1.false) in
+    let a = c.before.before.args in let f = c.before.refusal_of-number in
+    let ok = sound a.order a.delay a.rate a.countdown 0 (sym f.ensures ∙ c.if-number-ne0.false) in
     small a.order a.delay ok.few ok.short
 
-returns-2 : tie.Need-returns-2
+returns-2 : tie.Need-returns
 unfolding resume_state
 returns-2 c =
-    let p = c.before.before in let a = p.args in let f = c.before.refusal-of in
-    takes f.result (resume_number a.order a.delay a.rate a.countdown) f.ensures (blank word_ops) _ _ c.if1.false _
-    (rw (to_z-of_z width a.hold p.ranges.hold, ← sets f.result _ f.ensures 0 a.inputs c.if1.false))
+    let p = c.before.before in let a = p.args in let f = c.before.refusal_of-number in
+    takes f.result (resume_number a.order a.delay a.rate a.countdown) f.ensures (blank word_ops) _ _ c.if-number-ne0.false _
+    (rw (to_z-of_z width a.hold p.ranges.hold, ← sets f.result _ f.ensures 0 a.inputs c.if-number-ne0.false))
 
-pub resume-spec : {M : Type 1} → statement M
-resume-spec =
+pub resume_spec : {M : Type 1} → statement M
+resume_spec =
     tie.close (tie.spec (λ c κs. search rules) (λ c κs. search rules) returns mul-unsettled returns-2)

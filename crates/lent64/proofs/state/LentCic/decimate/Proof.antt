@@ -4,7 +4,6 @@ use mathlib.Core.Path.{◌≡◌, refl, sym, ◌∙◌}
 use native.Mathlib.Numerals.{add-one}
 use native.Mathlib.Omega.{arith}
 use lib.IntN.{ℤ}
-use mir.Val.{to_z, of_z}
 use mir.ValLaws.{to_z-of_z}
 use Rattle.words.proofs.Reading.{read}
 use Rattle.sums.specs.Counted.{Counted, take_number}
@@ -21,59 +20,59 @@ use Rattle.lent64.proofs.state.LentCic.decimate.Tie as tie
 abbrev given : tie.Start → Counted ℤ
 given p = counted p.args.self p.args.integrators.now p.args.combs.now
 
-accepted : (c : tie.Else1) → take_number (given c.before.before) 1 ≡ 0
-accepted c = sym c.before.take-number.ensures ∙ c.if1.false
+accepted : (c : tie.Else-number-ne0) → take_number (given c.before.before) 1 ≡ 0
+accepted c = sym c.before.take_number-number.ensures ∙ c.if-number-ne0.false
 
-returns : tie.Need-returns
+returns : tie.Need-returns-then-number-ne0
 returns c =
-    let p : tie.Start = search in let f : tie.After-take-number = search in
-    step_refuses (given p) p.args.x f.take-number.result f.take-number.ensures c.if1.true
+    let p : tie.Start = search in let f : tie.After-take_number-number = search in
+    step_refuses (given p) p.args.x f.take_number-number.result f.take_number-number.ensures c.if-number-ne0.true
 
-ready : (c : tie.After-sixty-four) → let p : tie.Start = search in Ready (given p).state
+ready : (c : tie.After-sixty_four) → let p : tie.Start = search in Ready (given p).state
 ready c =
-    let p : tie.Start = search in let e : tie.Else1 = search in let i : tie.After-eight = search in
-    record { accepted = take_accepts (given p) 1 (accepted e); long8 = i.eight.ensures; long64 = c.sixty-four.ensures }
+    let p : tie.Start = search in let e : tie.Else-number-ne0 = search in let i : tie.After-eight = search in
+    record { accepted = take_accepts (given p) 1 (accepted e); long8 = i.eight.ensures; long64 = c.sixty_four.ensures }
 
-integrate-requires : tie.Need-integrate-requires
+integrate-requires : tie.Need-integrate-sum-requires
 integrate-requires c κs =
-    let p : tie.Start = search in let l : tie.After-sixty-four = search in ((fit (given p).state (ready l)).good.few, (ready l).long8)
+    let p : tie.Start = search in let l : tie.After-sixty_four = search in ((fit (given p).state (ready l)).good.few, (ready l).long8)
 
 -- the integrators have run from x
-summed : (c : tie.After-integrate) → let p : tie.Start = search in let i = c.integrate in
-    Integrates word_ops p.args.self.order p.args.integrators.now p.args.x i.new.0 i.result
-summed c = let p : tie.Start = search in rw (to_z-of_z width p.args.x p.fits.x) at c.integrate.ensures
+summed : (c : tie.After-integrate-sum) → let p : tie.Start = search in let i = c.integrate-sum in
+    Integrates word_ops p.args.self.order p.args.integrators.now p.args.x i.new.cells i.result
+summed c = let p : tie.Start = search in rw (to_z-of_z width p.args.x p.ranges.x) at c.integrate-sum.ensures
 
-add-inputs : tie.Need-overflow-add-inputs
+add-inputs : tie.Need-overflow_add-inputs
 add-inputs c =
-    let p : tie.Start = search in let e : tie.Else1 = search in
+    let p : tie.Start = search in let e : tie.Else-number-ne0 = search in
     record { fits = omega (arith, take-room (given p) 1 (accepted e)) }
 
-returns-2 : tie.Need-returns-2
+returns-2 : tie.Need-returns-then-self-gt0
 returns-2 c =
-    let p : tie.Start = search in let e : tie.Else1 = search in let l : tie.After-sixty-four = search in
-    let g : tie.After-integrate = search in let k : tie.Then2 = search in let a = p.args in
+    let p : tie.Start = search in let e : tie.Else-number-ne0 = search in let l : tie.After-sixty_four = search in
+    let g : tie.After-integrate-sum = search in let k : tie.Then-self-gt0 = search in let a = p.args in
     step_waits (given p) a.x (accepted e) _ _ (add-one a.self.inputs)
-    (waits word_ops (given p).state (ready l) a.x g.integrate.last.0 g.integrate.result (summed g) k.if2.taken a.self.hold refl)
+    (waits word_ops (given p).state (ready l) a.x g.integrate-sum.new.cells g.integrate-sum.result (summed g) k.if-self-gt0.true a.self.hold refl)
 
-difference-requires : tie.Need-difference-requires
+difference-requires : tie.Need-difference-value-requires
 difference-requires c κs =
-    let p : tie.Start = search in let l : tie.After-sixty-four = search in let ok = (fit (given p).state (ready l)).good in
+    let p : tie.Start = search in let l : tie.After-sixty_four = search in let ok = (fit (given p).state (ready l)).good in
     (ok.few, ok.some, ok.short, (ready l).long64)
 
-returns-3 : tie.Need-returns-3
+returns-3 : tie.Need-returns
 returns-3 c =
-    let p : tie.Start = search in let e : tie.Else1 = search in let l : tie.After-sixty-four = search in
-    let g : tie.After-integrate = search in let k : tie.Else2 = search in let v : tie.After-difference = search in
+    let p : tie.Start = search in let e : tie.Else-number-ne0 = search in let l : tie.After-sixty_four = search in
+    let g : tie.After-integrate-sum = search in let k : tie.Else-self-gt0 = search in let v : tie.After-difference-value = search in
     let w : tie.After-lowered = search in
-    let a = p.args in let i = g.integrate in let d = v.difference in
-    let combs : Combs word_ops a.self.order a.self.delay a.combs.now i.result d.last.0 d.result =
-    rw (read width i.result i.ok) at d.ensures in
-    rw (read width d.result d.ok)
+    let a = p.args in let i = g.integrate-sum in let d = v.difference-value in
+    let combs : Combs word_ops a.self.order a.self.delay a.combs.now i.result d.new.cells d.result =
+    rw (read width i.result i.type_inv) at d.ensures in
+    rw (read width d.result d.type_inv)
     (step_gives (given p) a.x (accepted e) _ _ (add-one a.self.inputs) d.result a.self.unsettled
-    (gives word_ops (given p).state (ready l) a.x i.last.0 i.result (summed g) k.if2.left d.result w.lowered.result
-    d.last.0 combs w.lowered.ensures))
+    (gives word_ops (given p).state (ready l) a.x i.new.cells i.result (summed g) k.if-self-gt0.false d.result w.lowered.result
+    d.new.cells combs w.lowered.ensures))
 
-pub decimate-spec : {M : Type 1} → statement M
-decimate-spec =
+pub decimate_spec : {M : Type 1} → statement M
+decimate_spec =
     tie.close (tie.spec (λ c κs. search rules) returns (λ c κs. search rules) (λ c κs. search rules) integrate-requires add-inputs
     (λ c. search rules) returns-2 difference-requires (λ c κs. search rules) returns-3)

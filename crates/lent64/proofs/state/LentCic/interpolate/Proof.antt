@@ -20,61 +20,61 @@ use Rattle.lent64.proofs.state.LentCic.interpolate.Tie as tie
 abbrev given : tie.Start → Counted ℤ
 given p = counted p.args.self p.args.integrators.now p.args.combs.now
 
-accepted : (c : tie.Else1) → refusal (given c.before.before).state ≡ 0
-accepted c = sym c.before.refusal.ensures ∙ c.if1.false
+accepted : (c : tie.Else-number-ne0) → refusal (given c.before.before).state ≡ 0
+accepted c = sym c.before.refusal-number.ensures ∙ c.if-number-ne0.false
 
-returns : tie.Need-returns
+returns : tie.Need-returns-then-number-ne0
 returns c =
-    let p : tie.Start = search in let f : tie.After-refusal = search in
-    rise_refuses (given p) (sample_of p.args.sample) f.refusal.result
-    (rise-state (given p).state f.refusal.result f.refusal.ensures c.if1.true (sample_of p.args.sample)) c.if1.true
+    let p : tie.Start = search in let f : tie.After-refusal-number = search in
+    rise_refuses (given p) (sample_of p.args.sample) f.refusal-number.result
+    (rise-state (given p).state f.refusal-number.result f.refusal-number.ensures c.if-number-ne0.true (sample_of p.args.sample)) c.if-number-ne0.true
 
-ready : (c : tie.After-sixty-four) → let p : tie.Start = search in Ready (given p).state
+ready : (c : tie.After-sixty_four) → let p : tie.Start = search in Ready (given p).state
 ready c =
-    let e : tie.Else1 = search in let i : tie.After-eight = search in
-    record { accepted = accepted e; long8 = i.eight.ensures; long64 = c.sixty-four.ensures }
+    let e : tie.Else-number-ne0 = search in let i : tie.After-eight = search in
+    record { accepted = accepted e; long8 = i.eight.ensures; long64 = c.sixty_four.ensures }
 
-returns-2 : tie.Need-returns-2
+returns-2 : tie.Need-returns-then-countdown-eq0
 returns-2 c =
-    let p : tie.Start = search in let e : tie.Else1 = search in
-    let none-given : p.args.sample ≡ Missing = c.before.enum_told.given.1 in
-    rise_refuses (given p) (sample_of p.args.sample) 22 (rw none-given (sym (missing_number (given p).state (accepted e) c.if2.true)))
+    let p : tie.Start = search in let e : tie.Else-number-ne0 = search in
+    let none-given : p.args.sample ≡ Missing = c.before.in_default.is in
+    rise_refuses (given p) (sample_of p.args.sample) 22 (rw none-given (sym (missing_number (given p).state (accepted e) c.if-countdown-eq0.true)))
     (λ z. omega arith)
 
-interpolate-step-requires : tie.Need-interpolate-step-requires
-interpolate-step-requires c κs = let l : tie.After-sixty-four = search in ready l
+interpolate-step-requires : tie.Need-interpolate_step-requires
+interpolate-step-requires c κs = let l : tie.After-sixty_four = search in ready l
 
-returns-3 : tie.Need-returns-3
+returns-3 : tie.Need-returns-in_default
 returns-3 c =
-    let p : tie.Start = search in let e : tie.Else1 = search in let k : tie.Else2 = search in let d : tie.After-interpolate-step = search in
+    let p : tie.Start = search in let e : tie.Else-number-ne0 = search in let k : tie.Else-countdown-eq0 = search in let d : tie.After-interpolate_step = search in
     let s = (given p).state in
-    let none-given : p.args.sample ≡ Missing = k.before.enum_told.given.1 in
+    let none-given : p.args.sample ≡ Missing = k.before.in_default.is in
     rise_takes (given p) (sample_of p.args.sample)
-    (rw none-given (held_number s (accepted e) (omega (arith, k.if2.left)))) _
-    (rw none-given (not_due word_ops s.countdown _ (omega (arith, k.if2.left)))) _ _ d.interpolate-step.ensures
+    (rw none-given (held_number s (accepted e) (omega (arith, k.if-countdown-eq0.false)))) _
+    (rw none-given (not_due word_ops s.countdown _ (omega (arith, k.if-countdown-eq0.false)))) _ _ d.interpolate_step.ensures
 
-returns-4 : tie.Need-returns-4
+returns-4 : tie.Need-returns-then-countdown-gt0
 returns-4 c =
-    let p : tie.Start = search in let e : tie.Else1 = search in let k : tie.After-sample = search in
-    let x = k.sample.given.0.0 in
-    let some-given : p.args.sample ≡ Given x = k.sample.given.1 in
+    let p : tie.Start = search in let e : tie.Else-number-ne0 = search in let k : tie.In-Given = search in
+    let x = k.in-Given.x in
+    let some-given : p.args.sample ≡ Given x = k.in-Given.is in
     rise_refuses (given p) (sample_of p.args.sample) 21
-    (rw some-given (sym (early_number (given p).state (accepted e) x c.if3.true))) (λ z. omega arith)
+    (rw some-given (sym (early_number (given p).state (accepted e) x c.if-countdown-gt0.true))) (λ z. omega arith)
 
-interpolate-step-requires-2 : tie.Need-interpolate-step-requires-2
-interpolate-step-requires-2 c κs = let l : tie.After-sixty-four = search in ready l
+interpolate-step-requires-2 : tie.Need-interpolate_step-requires-2
+interpolate-step-requires-2 c κs = let l : tie.After-sixty_four = search in ready l
 
-returns-5 : tie.Need-returns-5
+returns-5 : tie.Need-returns
 returns-5 c =
-    let p : tie.Start = search in let e : tie.Else1 = search in let h : tie.Else3 = search in let k : tie.After-sample = search in
-    let d : tie.After-interpolate-step2 = search in
-    let s = (given p).state in let x = k.sample.given.0.0 in
-    let some-given : p.args.sample ≡ Given x = k.sample.given.1 in
+    let p : tie.Start = search in let e : tie.Else-number-ne0 = search in let h : tie.Else-countdown-gt0 = search in let k : tie.In-Given = search in
+    let d : tie.After-interpolate_step-2 = search in
+    let s = (given p).state in let x = k.in-Given.x in
+    let some-given : p.args.sample ≡ Given x = k.in-Given.is in
     let read-x : to_z width (of_z width x) ≡ x = search rules in
-    rise_takes (given p) (sample_of p.args.sample) (rw some-given (due_number s (accepted e) x (omega (arith, h.if3.left)))) _
-    (rw some-given (is_due word_ops s.countdown x h.if3.left)) _ _ (rw read-x at d.interpolate-step2.ensures)
+    rise_takes (given p) (sample_of p.args.sample) (rw some-given (due_number s (accepted e) x (omega (arith, h.if-countdown-gt0.false)))) _
+    (rw some-given (is_due word_ops s.countdown x h.if-countdown-gt0.false)) _ _ (rw read-x at d.interpolate_step-2.ensures)
 
-pub interpolate-spec : {M : Type 1} → statement M
-interpolate-spec =
+pub interpolate_spec : {M : Type 1} → statement M
+interpolate_spec =
     tie.close (tie.spec (λ c κs. search rules) returns (λ c κs. search rules) (λ c κs. search rules) (λ c. search rules) (λ c. search rules)
     returns-2 interpolate-step-requires returns-3 returns-4 interpolate-step-requires-2 returns-5)

@@ -4,7 +4,7 @@ use Rattle.lent64.proofs.state.LentCic.refusal.Statement.{statement}
 use Rattle.lent64.proofs.state.LentCic.refusal.Tie as tie
 
 returns : tie.Need-returns
-returns c = c.refusal-of.ensures
+returns c = c.refusal_of.ensures
 
-pub refusal-spec : {M : Type 1} → statement M
-refusal-spec = tie.close (tie.spec (λ c κs. search rules) returns)
+pub refusal_spec : {M : Type 1} → statement M
+refusal_spec = tie.close (tie.spec (λ c κs. search rules) returns)
