@@ -1,14 +1,14 @@
 -- Before each record: what is left to judge (Judging), and the lines so far.
 use borrow.Author.Rules.{rules}
 use native.Mathlib.Omega.{arith}
-use mathlib.Core.Path.{◌≡◌, refl, sym, ap, ◌∙◌}
+use mathlib.Core.Path.{◌≡◌, refl, ap, ◌∙◌}
 use Prim.Native.Nat.{◌-◌, ◌*◌, ◌≤◌}
 use lib.ListN.{length}
 use Rattle.store_write.specs.Writing.{Ended}
 use Rattle.store_write.proofs.Judging.{Judging, judged_all, judged_bad, judged_many, judged_on, judging_none, lines_all}
 use Rattle.store_write.proofs.Judging.{lines_none, lines_on, lines_to}
-use Rattle.entries-1.proofs.Arrays.{unmapped}
-use Rattle.entries-1.specs.Entries.{name_bytes}
+use Rattle.entries.proofs.Arrays.{unmapped}
+use Rattle.entries.specs.Entries.{name_bytes}
 use Rattle.store_write.proofs.saving.compose.Statement.{statement}
 use Rattle.store_write.proofs.saving.compose.Tie as tie
 
@@ -23,7 +23,7 @@ decreases-loop version out₀ entries count last₀ end₀ i₀ out last end i =
 loop-holds : tie.Need-loop-i-init invariant-loop decreases-loop
 loop-holds c =
     let begin : tie.Start invariant-loop decreases-loop = search in
-    let l : length begin.args.settings.entries-1 ≡ 64 = search (unmapped, rules) in
+    let l : length begin.args.settings.entries ≡ 64 = search (unmapped, rules) in
     let at-put-heading : tie.After-put_heading-end invariant-loop decreases-loop = search in
     let at-no-name : tie.After-no_name-last invariant-loop decreases-loop = search in
     let h = at-put-heading.put_heading-end.ensures.high in
@@ -32,10 +32,10 @@ loop-holds c =
       l,
       omega arith,
       omega arith,
-      judging_none begin.args.version begin.args.settings.entries-1 begin.args.settings.count
+      judging_none begin.args.version begin.args.settings.entries begin.args.settings.count
           at-no-name.no_name-last.result (ap name_bytes at-no-name.no_name-last.ensures),
       lines_none
-          begin.args.settings.entries-1 _ _,
+          begin.args.settings.entries _ _,
     )
 
 same_length : tie.Need-shape_of-out-then-i-ge64 invariant-loop decreases-loop
@@ -52,7 +52,7 @@ returns c =
     let at-put-heading : tie.After-put_heading-end invariant-loop decreases-loop = search in
     let a = begin.args in
     record {
-      judged = judged_many a.version a.settings.entries-1 a.settings.count turn.loop-i.last turn.loop-i.i turn.loop-i.invariant.0
+      judged = judged_many a.version a.settings.entries a.settings.count turn.loop-i.last turn.loop-i.i turn.loop-i.invariant.0
           turn.loop-i.invariant.3 inside.loop-i-test.true c.if-i-ge64.true;
       wrote = λ z. absurd (omega arith);
       long = turn.loop-i.invariant.4.long ∙ at-put-heading.put_heading-end.ensures.long;
@@ -74,7 +74,7 @@ returns-2 c =
     let at-put-heading : tie.After-put_heading-end invariant-loop decreases-loop = search in
     let a = begin.args in
     record {
-      judged = judged_bad a.version a.settings.entries-1 a.settings.count turn.loop-i.last turn.loop-i.i turn.loop-i.invariant.0
+      judged = judged_bad a.version a.settings.entries a.settings.count turn.loop-i.last turn.loop-i.i turn.loop-i.invariant.0
           turn.loop-i.invariant.3 inside.loop-i-test.true else1.if-i-ge64.false _ _ refl at-entry-number.entry_number-number.result
           at-entry-number.entry_number-number.ensures.0 c.if-number-ne0.true;
       wrote = λ z. absurd (c.if-number-ne0.true z);
@@ -111,10 +111,10 @@ loop-again c =
       n,
       p,
       q,
-      judged_on a.version a.settings.entries-1 a.settings.count l.last l.i n l.invariant.3 inside.loop-i-test.true
+      judged_on a.version a.settings.entries a.settings.count l.last l.i n l.invariant.3 inside.loop-i-test.true
           else1.if-i-ge64.false _ _ refl at-entry-number.entry_number-number.result at-entry-number.entry_number-number.ensures.0
           else2.if-number-ne0.false s.0,
-      lines_on a.settings.entries-1 _ _ l.i _ _ _ _ _ _ (omega arith) refl (omega arith) l.invariant.4 at-put-line.put_line-end.ensures,
+      lines_on a.settings.entries _ _ l.i _ _ _ _ _ _ (omega arith) refl (omega arith) l.invariant.4 at-put-line.put_line-end.ensures,
     )
 
 same-length-3 : tie.Need-shape_of-out invariant-loop decreases-loop
@@ -132,8 +132,8 @@ returns-3 c =
     let l = turn.loop-i in
     let f = l.invariant.3.few in
     record {
-      judged = judged_all a.version a.settings.entries-1 a.settings.count l.last l.i l.invariant.0 l.invariant.3 c.loop-i-test.false;
-      wrote = λ z. lines_all a.version a.settings.entries-1 a.settings.count l.i _ _ _ _ _ (omega arith) l.invariant.3.room
+      judged = judged_all a.version a.settings.entries a.settings.count l.last l.i l.invariant.0 l.invariant.3 c.loop-i-test.false;
+      wrote = λ z. lines_all a.version a.settings.entries a.settings.count l.i _ _ _ _ _ (omega arith) l.invariant.3.room
           at-put-heading.put_heading-end.ensures l.invariant.4;
       long = l.invariant.4.long ∙ at-put-heading.put_heading-end.ensures.long;
     }

@@ -6,7 +6,6 @@ use Prim.Native.Nat.{◌≤◌}
 use lib.ListN.{length}
 use lib.Seq.{length-take-le}
 use mir.Syntax.{w32}
-use borrow.Author.Tests.{not-true, not-false}
 use borrow.Author.Rules.{rules}
 use Rattle.words.specs.Words.{wrap}
 use Rattle.entries.specs.Entries.{name_bytes}
@@ -18,29 +17,29 @@ returns : tie.Need-returns-then-len-gt16
 returns c =
     let begin : tie.Start = search in
     let a = begin.args in
-    let l : length a.entry.a-1 ≡ 8 = search rules in
-    let b : length a.entry.name-1.bytes-1 ≡ 16 = search rules in
+    let l : length a.entry.a ≡ 8 = search rules in
+    let b : length a.entry.name.bytes ≡ 16 = search rules in
     (name-long a.version a.k (name_bytes a.last) a.entry l b c.if-len-gt16.true, λ z. absurd (omega arith))
 
 array-share-prefix-bytes : tie.Need-slice_bounds-bytes-end
 array-share-prefix-bytes c =
     let begin : tie.Start = search in
-    let b : length begin.args.entry.name-1.bytes-1 ≡ 16 = search rules in
+    let b : length begin.args.entry.name.bytes ≡ 16 = search rules in
     omega arith
 
 slice-aggregate-is-name : tie.Need-slice_bounds-is_name-end
 slice-aggregate-is-name c =
     let begin : tie.Start = search in
-    let b : length begin.args.entry.name-1.bytes-1 ≡ 16 = search rules in
-    let h : begin.args.entry.name-1.len ≤ length begin.args.entry.name-1.bytes-1 = omega arith in
+    let b : length begin.args.entry.name.bytes ≡ 16 = search rules in
+    let h : begin.args.entry.name.len ≤ length begin.args.entry.name.bytes = omega arith in
     sym (length-take-le _ _ h)
 
 returns-2 : tie.Need-returns-then-not-is_name
 returns-2 c =
     let begin : tie.Start = search in
     let a = begin.args in
-    let l : length a.entry.a-1 ≡ 8 = search rules in
-    let b : length a.entry.name-1.bytes-1 ≡ 16 = search rules in
+    let l : length a.entry.a ≡ 8 = search rules in
+    let b : length a.entry.name.bytes ≡ 16 = search rules in
     let named : tie.After-is_name = search in
     let short : tie.Else-len-gt16 = search in (
       name_wrong a.version a.k (name_bytes a.last) a.entry l b short.if-len-gt16.false (sym named.is_name.ensures ∙ c.if-not-is_name.true),
@@ -51,8 +50,8 @@ returns-3 : tie.Need-returns-then-not-allowed
 returns-3 c =
     let begin : tie.Start = search in
     let a = begin.args in
-    let l : length a.entry.a-1 ≡ 8 = search rules in
-    let b : length a.entry.name-1.bytes-1 ≡ 16 = search rules in
+    let l : length a.entry.a ≡ 8 = search rules in
+    let b : length a.entry.name.bytes ≡ 16 = search rules in
     let is : tie.Else-not-is_name = search in
     let named : tie.After-is_name = search in
     let short : tie.Else-len-gt16 = search in
@@ -66,8 +65,8 @@ returns-4 : tie.Need-returns
 returns-4 c =
     let begin : tie.Start = search in
     let a = begin.args in
-    let l : length a.entry.a-1 ≡ 8 = search rules in
-    let b : length a.entry.name-1.bytes-1 ≡ 16 = search rules in
+    let l : length a.entry.a ≡ 8 = search rules in
+    let b : length a.entry.name.bytes ≡ 16 = search rules in
     let fits : tie.Else-not-allowed = search in
     let is : tie.Else-not-is_name = search in
     let named : tie.After-is_name = search in
@@ -79,8 +78,8 @@ returns-4 c =
           (sym asked.allowed.ensures ∙ fits.if-not-allowed.false) n,
       λ z. (
         short.if-len-gt16.false,
-        few-sections a.version a.k (name_bytes a.last) (name_bytes a.entry.name-1) a.entry.kind
-            (map (wrap w32) a.entry.a-1) (sym n ∙ z),
+        few-sections a.version a.k (name_bytes a.last) (name_bytes a.entry.name) a.entry.kind
+            (map (wrap w32) a.entry.a) (sym n ∙ z),
       ),
     )
 

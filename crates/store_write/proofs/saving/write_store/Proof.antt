@@ -1,9 +1,9 @@
 -- The list's number, then the slice's length, then the copy (Saved).
 use borrow.Author.Rules.{rules}
 use native.Mathlib.Omega.{arith}
-use mathlib.Core.Path.{◌≡◌, sym, ◌∙◌}
-use Prim.Native.Nat.{ℕ, ◌≤◌}
-use lib.ListN.{length, replicate, length-replicate}
+use mathlib.Core.Path.{sym}
+use Prim.Native.Nat.{ℕ}
+use lib.ListN.{length-replicate}
 use lib.Seq.{length-take-le}
 use Rattle.store_write.proofs.Saved.{all_written, bad_list, short_slice}
 use Rattle.store_write.proofs.saving.write_store.Statement.{statement}
@@ -40,7 +40,7 @@ slice-aggregate-put-bytes c =
     let h = e.high in
     let g = e.long in
     let l = length-replicate {A = ℕ} 9030 0 in
-    sym (length-take-le at-compose.compose-c.result.end at-compose.compose-c.last.1.1.0 (omega arith))
+    sym (length-take-le at-compose.compose-c.result.end at-compose.compose-c.new.out (omega arith))
 
 returns-3 : tie.Need-returns
 returns-3 c =

@@ -1,8 +1,7 @@
 -- Each arm puts its own fields.
 use borrow.Author.Rules.{rules}
 use native.Mathlib.Omega.{arith}
-use mathlib.Core.Path.{sym, ap}
-use Prim.Native.Nat.{ℕ, ◌≤◌}
+use mathlib.Core.Path.{ap}
 use Rattle.store_write.specs.Writing.{sections}
 use Rattle.store_write.proofs.Putting.{wider}
 use Rattle.store_write.proofs.writing.put_body.Statement.{statement}
@@ -12,18 +11,18 @@ put-wdf-requires : tie.Need-put_wdf-requires
 put-wdf-requires c κs =
     let begin : tie.Start = search in
     let s = begin.requires.1 in
-    let e = ap sections c.before.before.kind-in-Wdf-1.given.1 in
+    let e = ap sections c.in-Wdf.is in
     (begin.requires.0, omega arith, begin.requires.2)
 
 returns : tie.Need-returns-in-Cic
 returns c =
     let at-put-cic : tie.After-put_cic = search in
-    rw c.before.before.before.before.before.kind-1.given.1 (wider at-put-cic.put_cic.ensures (omega arith))
+    rw c.in-Cic.is (wider at-put-cic.put_cic.ensures (omega arith))
 
 returns-2 : tie.Need-returns-in-Wdf
 returns-2 c =
     let at-put-wdf : tie.After-put_wdf = search in
-    rw c.before.before.before.before.before.kind-in-Wdf-1.given.1 at-put-wdf.put_wdf.ensures
+    rw c.in-Wdf.is at-put-wdf.put_wdf.ensures
 
 put-dither-requires : tie.Need-put_dither-requires
 put-dither-requires c κs =
@@ -33,7 +32,7 @@ put-dither-requires c κs =
 returns-3 : tie.Need-returns-in-Dither
 returns-3 c =
     let at-put-dither : tie.After-put_dither = search in
-    rw c.before.before.before.before.before.kind-in-Dither-1.given.1 at-put-dither.put_dither.ensures
+    rw c.in-Dither.is at-put-dither.put_dither.ensures
 
 pub put_body_spec : {M : Type 1} → statement M
 put_body_spec =

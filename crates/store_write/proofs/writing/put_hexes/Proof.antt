@@ -1,6 +1,5 @@
 -- The digits so far, and what is left of the word (Hexing).
 use borrow.Author.Rules.{rules}
-use native.Mathlib.Omega.{arith}
 use Prim.Native.Nat.{◌+◌, ◌-◌, ◌≤◌}
 use lib.ListN.{length}
 use Rattle.store_write.proofs.Putting.{Hexing, hexing_done, hexing_long, hexing_none, hexing_on}

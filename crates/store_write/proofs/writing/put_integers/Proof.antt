@@ -1,7 +1,7 @@
 -- A coefficient a turn.
 use borrow.Author.Rules.{rules}
 use native.Mathlib.Omega.{arith}
-use mathlib.Core.Path.{◌≡◌, refl, sym, ap, ◌∙◌}
+use mathlib.Core.Path.{◌≡◌}
 use Prim.Native.Nat.{◌+◌, ◌*◌, ◌-◌, ◌≤◌}
 use lib.IntN.{pos}
 use mir.Syntax.{w32}
@@ -53,7 +53,7 @@ loop-again c =
       r,
       integers_on a.out.now a.at (map (wrap w32) a.a.now) l.i l.out l.next _ _
           (to_z w32 (of_z w32 (get_or a.a.now l.i (pos 0)))) (omega arith) (omega (arith, wrapped_length a.a.now))
-          (read_wrapped a.a.now l.i (omega arith) c.before.before.before.before.v-1.given) l.invariant.4
+          (read_wrapped a.a.now l.i (omega arith) c.v-1.given) l.invariant.4
           at-put-integer.put_integer-next.ensures,
     )
 
