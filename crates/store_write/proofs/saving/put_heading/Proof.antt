@@ -5,21 +5,21 @@ use Rattle.store_write.proofs.Putting.{bytes-ended}
 use Rattle.store_write.proofs.saving.put_heading.Statement.{statement}
 use Rattle.store_write.proofs.saving.put_heading.Tie as tie
 
-returns : tie.Need-returns
+returns : tie.Need-returns-in-One
 returns c =
-    let put : tie.After-put-bytes = search in
+    let put : tie.After-put_bytes = search in
     let begin : tie.Start = search in
-    rw c.before.before.before.before.before.enum_told.given.1
-    (bytes-ended _ _ _ _ _ _ begin.pre (omega arith) put.put-bytes.ensures)
+    rw c.before.before.before.before.before.enum_told-1.given.1
+    (bytes-ended _ _ _ _ _ _ begin.requires (omega arith) put.put_bytes.ensures)
 
-returns-2 : tie.Need-returns-2
+returns-2 : tie.Need-returns-in-Two
 returns-2 c =
-    let put : tie.After-put-bytes2 = search in
+    let put : tie.After-put_bytes-in-Two = search in
     let begin : tie.Start = search in
-    rw c.before.before.before.before.before.enum-told2.given.1
-    (bytes-ended _ _ _ _ _ _ begin.pre (omega arith) put.put-bytes2.ensures)
+    rw c.before.before.before.before.before.enum_told-in-Two-1.given.1
+    (bytes-ended _ _ _ _ _ _ begin.requires (omega arith) put.put_bytes-in-Two.ensures)
 
-pub put-heading-spec : {M : Type 1} → statement M
-put-heading-spec =
+pub put_heading_spec : {M : Type 1} → statement M
+put_heading_spec =
     tie.close (tie.spec (λ c. search rules) (λ c. search rules) (λ c κs. search rules) (λ c. search rules)
     (λ c. search rules) (λ c κs. search rules) (λ c. search rules) returns (λ c. search rules) returns-2)
