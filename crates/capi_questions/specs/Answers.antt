@@ -1,10 +1,8 @@
 -- A question's answer as the number of its refusal, 0 where it was answered, and what stands where its value was asked for: the value, or what
 -- was there.
-use Rattle.std.specs.Prelude.{Bool, true, false, ◌≡◌, ℕ}
+use Rattle.std.specs.Prelude.{true, false, ◌≡◌, ℕ}
 use Rattle.shape.specs.declared.questions.Told.{Told}
-use Rattle.shape.specs.declared.questions.Told.TheVariants as Told
 use Rattle.shape.specs.declared.questions.Fitting.{Fitting}
-use Rattle.shape.specs.declared.questions.Fitting.TheVariants as Fitting
 
 unfoldable pub told_number : Told → ℕ
 told_number (Told.Number v) = 0

@@ -13,6 +13,7 @@ ghost use Rattle.capi_questions.specs.Answers.{told_number, told_or, fitting_num
 use shape::numbers::refusal_of;
 use shape::questions::{Fitting, Told, fit, gain, gain_log2, low_rate_length, response_length};
 
+#[tactic(auto, unfolding(crate::specs::Answers::told_number))]
 fn told_number(t: Told) -> u32
     ensures { result ≡ told_number t }
 {
@@ -22,6 +23,7 @@ fn told_number(t: Told) -> u32
     }
 }
 
+#[tactic(auto, unfolding(crate::specs::Answers::told_or))]
 fn told_or(t: Told, old: u64) -> u64
     ensures { result ≡ told_or t old }
 {
@@ -31,6 +33,7 @@ fn told_or(t: Told, old: u64) -> u64
     }
 }
 
+#[tactic(auto, unfolding(crate::specs::Answers::fitting_number))]
 fn fitting_number(t: Fitting) -> u32
     ensures { result ≡ fitting_number t }
 {
@@ -40,6 +43,7 @@ fn fitting_number(t: Fitting) -> u32
     }
 }
 
+#[tactic(auto, unfolding(crate::specs::Answers::fitting_or))]
 fn fitting_or(t: Fitting, old: u32) -> u32
     ensures { result ≡ fitting_or t old }
 {

@@ -6,9 +6,9 @@ use Rattle.capi_questions.proofs.mittenload_gain.Tie as tie
 
 returns : tie.Need-returns
 returns c =
-    let d : tie.After-gain = search in
-    let o : tie.After-told-or = search in
-    tells d.gain.result _ _ _ _ d.gain.ensures o.told-or.ensures c.told-number.ensures
+    let d : tie.After-gain-t = search in
+    let o : tie.After-told_or-v = search in
+    tells d.gain-t.result _ _ _ _ d.gain-t.ensures o.told_or-v.ensures c.told_number.ensures
 
-pub mittenload-gain-spec : {M : Type 1} → statement M
-mittenload-gain-spec = tie.close (tie.spec (λ c κs. search rules) (λ c κs. search rules) (λ c κs. search rules) returns)
+pub mittenload_gain_spec : {M : Type 1} → statement M
+mittenload_gain_spec = tie.close (tie.spec (λ c κs. search rules) (λ c κs. search rules) (λ c κs. search rules) returns)

@@ -6,9 +6,9 @@ use Rattle.capi_questions.proofs.mittenload_low_rate_length.Tie as tie
 
 returns : tie.Need-returns
 returns c =
-    let d : tie.After-low-rate-length = search in
-    let o : tie.After-told-or = search in
-    tells d.low-rate-length.result _ _ _ _ d.low-rate-length.ensures o.told-or.ensures c.told-number.ensures
+    let d : tie.After-low_rate_length-t = search in
+    let o : tie.After-told_or-v = search in
+    tells d.low_rate_length-t.result _ _ _ _ d.low_rate_length-t.ensures o.told_or-v.ensures c.told_number.ensures
 
-pub mittenload-low-rate-length-spec : {M : Type 1} → statement M
-mittenload-low-rate-length-spec = tie.close (tie.spec (λ c κs. search rules) (λ c κs. search rules) (λ c κs. search rules) returns)
+pub mittenload_low_rate_length_spec : {M : Type 1} → statement M
+mittenload_low_rate_length_spec = tie.close (tie.spec (λ c κs. search rules) (λ c κs. search rules) (λ c κs. search rules) returns)

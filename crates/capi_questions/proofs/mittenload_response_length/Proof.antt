@@ -6,9 +6,9 @@ use Rattle.capi_questions.proofs.mittenload_response_length.Tie as tie
 
 returns : tie.Need-returns
 returns c =
-    let d : tie.After-response-length = search in
-    let o : tie.After-told-or = search in
-    tells d.response-length.result _ _ _ _ d.response-length.ensures o.told-or.ensures c.told-number.ensures
+    let d : tie.After-response_length-t = search in
+    let o : tie.After-told_or-v = search in
+    tells d.response_length-t.result _ _ _ _ d.response_length-t.ensures o.told_or-v.ensures c.told_number.ensures
 
-pub mittenload-response-length-spec : {M : Type 1} → statement M
-mittenload-response-length-spec = tie.close (tie.spec (λ c κs. search rules) (λ c κs. search rules) (λ c κs. search rules) returns)
+pub mittenload_response_length_spec : {M : Type 1} → statement M
+mittenload_response_length_spec = tie.close (tie.spec (λ c κs. search rules) (λ c κs. search rules) (λ c κs. search rules) returns)

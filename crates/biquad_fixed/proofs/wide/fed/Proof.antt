@@ -12,25 +12,25 @@ returns c =
     let k = c.before in let p = k.before in let h = p.before in let r = h.before in let l = r.before in let s = l.before in
     let acc = s.args.acc in let y = s.args.y in let a = s.args.a in
     rw (
-      read w64 c.add-i642.result c.add-i642.type-inv,
-      c.add-i642.ensures,
-      read w64 k.add-i64.result k.add-i64.type-inv,
-      k.add-i64.ensures,
-      read w64 p.product.result p.product.type-inv,
-      p.product.ensures,
-      read w32 h.i64-high.result h.i64-high.type-inv,
-      h.i64-high.ensures,
-      read w64 r.shr-i64.result r.shr-i64.type-inv,
-      r.shr-i64.ensures,
-      read w64 l.low_Product.result l.low_Product.type-inv,
-      l.low_Product.ensures,
+      read w64 c.add_i64-2.result c.add_i64-2.type_inv,
+      c.add_i64-2.ensures,
+      read w64 k.add_i64.result k.add_i64.type_inv,
+      k.add_i64.ensures,
+      read w64 p.product-high.result p.product-high.type_inv,
+      p.product-high.ensures,
+      read w32 h.i64_high.result h.i64_high.type_inv,
+      h.i64_high.ensures,
+      read w64 r.shr_i64-low.result r.shr_i64-low.type_inv,
+      r.shr_i64-low.ensures,
+      read w64 l.low_product.result l.low_product.type_inv,
+      l.low_product.ensures,
       to_z-of_z w64 acc s.ranges.acc,
       to_z-of_z w64 y s.ranges.y,
       to_z-of_z w32 a s.ranges.a,
     )
     (fed_is acc y a)
 
-pub fed-spec : {M : Type 1} → statement M
-fed-spec =
+pub fed_spec : {M : Type 1} → statement M
+fed_spec =
     tie.close (tie.spec (λ c κs. search rules) (λ c κs. search rules) (λ c κs. search rules) (λ c κs. search rules)
     (λ c κs. search rules) (λ c κs. search rules) returns)

@@ -10,12 +10,12 @@ returns : tie.Need-returns
 returns c =
     let k = c.before in let s = k.before in
     rw (
-      read w64 c.u32-as-i64.result c.u32-as-i64.type-inv,
-      c.u32-as-i64.ensures,
-      k.i64-as-u32.ensures,
+      read w64 c.u32_as_i64.result c.u32_as_i64.type_inv,
+      c.u32_as_i64.ensures,
+      k.i64_as_u32.ensures,
       to_z-of_z w64
           s.args.y s.ranges.y,
     )
 
-pub low-of-spec : {M : Type 1} → statement M
-low-of-spec = tie.close (tie.spec (λ c κs. search rules) (λ c κs. search rules) returns)
+pub low_of_spec : {M : Type 1} → statement M
+low_of_spec = tie.close (tie.spec (λ c κs. search rules) (λ c κs. search rules) returns)

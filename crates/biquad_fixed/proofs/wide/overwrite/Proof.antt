@@ -12,20 +12,20 @@ returns c =
     let h = c.before in let l = h.before in let i = l.before in let s = i.before in
     let acc = s.args.acc in let y = s.args.y in
     rw (
-      read w64 c.add-i64.result c.add-i64.type-inv,
-      c.add-i64.ensures,
-      read w64 h.shl-i64.result h.shl-i64.type-inv,
-      h.shl-i64.ensures,
-      read w64 i.i32-as-i64.result i.i32-as-i64.type-inv,
-      i.i32-as-i64.ensures,
-      read w64 l.low_of.result l.low_of.type-inv,
-      l.low_of.ensures,
+      read w64 c.add_i64.result c.add_i64.type_inv,
+      c.add_i64.ensures,
+      read w64 h.shl_i64.result h.shl_i64.type_inv,
+      h.shl_i64.ensures,
+      read w64 i.i32_as_i64-high.result i.i32_as_i64-high.type_inv,
+      i.i32_as_i64-high.ensures,
+      read w64 l.low_of-low.result l.low_of-low.type_inv,
+      l.low_of-low.ensures,
       to_z-of_z w64 acc s.ranges.acc,
       to_z-of_z w32 y s.ranges.y,
     )
     (overwritten_is acc y s.ranges.y)
 
-pub overwrite-spec : {M : Type 1} → statement M
-overwrite-spec =
+pub overwrite_spec : {M : Type 1} → statement M
+overwrite_spec =
     tie.close (tie.spec (λ c κs. search rules) (λ c κs. search rules) (λ c κs. search rules) (λ c κs. search rules)
     returns)

@@ -14,41 +14,41 @@ use Rattle.biquad_fixed.specs.Forms.{wide_out, wide_next}
 use Rattle.biquad_fixed.proofs.wide.turn_at.Statement.{statement}
 use Rattle.biquad_fixed.proofs.wide.turn_at.Tie as tie
 
-abbrev invariant-loop : tie.invariant-loop
+abbrev invariant-loop : tie.invariant-loop-i
 invariant-loop f xs ys₀ known t₀ i₀ ys t i = Going (wide_out known) (wide_next known) t₀ xs ys t i
 
-abbrev decreases-loop : tie.decreases-loop
+abbrev decreases-loop : tie.decreases-loop-i
 decreases-loop f xs ys₀ known t₀ i₀ ys t i = length xs - i
 
-loop-holds : tie.Need-loop-init invariant-loop decreases-loop
+loop-holds : tie.Need-loop-i-init invariant-loop decreases-loop
 loop-holds c = start _ _ _ _ _ (sym c.before.requires.0)
 
-turn-requires : tie.Need-turn-requires invariant-loop decreases-loop
-turn-requires c κs = let k = c.before.before.before in rw k.at.ensures k.before.requires.1
+turn-requires : tie.Need-turn-turned-requires invariant-loop decreases-loop
+turn-requires c κs = let k = c.before.before.before in rw k.at-known.ensures k.before.requires.1
 
-loop-again : tie.Need-loop-preserved invariant-loop decreases-loop
+loop-again : tie.Need-loop-i-preserved invariant-loop decreases-loop
 loop-again c =
-    let k = c.before.before in let at = k.before.before.before in let v = at.before.at.result in let a = at.before.before.args in
-    let x = get_or a.xs.now at.loop.i (pos 0) in
-    let r = read w32 x k.before.turn-arg.given in
+    let k = c.before.before in let at = k.before.before.before in let v = at.before.at-known.result in let a = at.before.before.args in
+    let x = get_or a.xs.now at.loop-i.i (pos 0) in
+    let r = read w32 x k.before.turn-arg-1.given in
     rw (
-      read w32 k.turn.result.y c.before.struct_told.given.1.0.1,
-      k.turn.ensures.0,
-      k.turn.ensures.1,
+      read w32 k.turn-turned.result.y c.before.struct_told-1.given.1.0.1,
+      k.turn-turned.ensures.0,
+      k.turn-turned.ensures.1,
       r,
     )
-    (turn (wide_out v) (wide_next v) a.s a.xs.now at.loop.ys at.loop.t at.loop.i (pos 0)
-    k.before.before.loop-test.true at.loop.invariant)
+    (turn (wide_out v) (wide_next v) a.s a.xs.now at.loop-i.ys at.loop-i.t at.loop-i.i (pos 0)
+    k.before.before.loop-i-test.true at.loop-i.invariant)
 
 returns : tie.Need-returns invariant-loop decreases-loop
 returns c =
-    let k = c.before.before in let a = k.before.args in let l = c.before.loop in
-    let e : k.at.result ≡ a.c = k.at.ensures in
+    let k = c.before.before in let a = k.before.args in let l = c.before.loop-i in
+    let e : k.at-known.result ≡ a.c = k.at-known.ensures in
     subst (λ (v : Biquad). Ran (wide_out v) (wide_next v) a.s a.xs.now l.t l.ys) e
-    (done (wide_out k.at.result) (wide_next k.at.result) a.s a.xs.now l.ys l.t l.i c.loop-test.false l.invariant)
+    (done (wide_out k.at-known.result) (wide_next k.at-known.result) a.s a.xs.now l.ys l.t l.i c.loop-i-test.false l.invariant)
 
-pub turn-at-spec : {M : Type 1} → statement M
-turn-at-spec =
+pub turn_at_spec : {M : Type 1} → statement M
+turn_at_spec =
     tie.close (tie.spec invariant-loop decreases-loop (λ c κs. search rules) loop-holds (λ c. search rules) (λ c. search rules) turn-requires
     (λ c. search rules) (λ c. search rules) (λ c. search rules) (λ c. search rules) loop-again (λ c. omega arith)
     returns)

@@ -12,18 +12,18 @@ returns : tie.Need-returns
 returns c =
     let p3 = c.before in let t3 = p3.before in let s1 = t3.before in let p2 = s1.before in
     let p1 = p2.before.before in let t = p1.before in let s = t.before in let a = s.args in
-    let g = t.struct_told.given in
+    let g = t.struct_told-1.given in
     rw (
-      read w64 c.add-i642.result c.add-i642.type-inv,
-      c.add-i642.ensures,
-      read w64 s1.add-i64.result s1.add-i64.type-inv,
-      s1.add-i64.ensures,
-      read w64 p1.product.result p1.product.type-inv,
+      read w64 c.add_i64-2.result c.add_i64-2.type_inv,
+      c.add_i64-2.ensures,
+      read w64 s1.add_i64.result s1.add_i64.type_inv,
+      s1.add_i64.ensures,
+      read w64 p1.product.result p1.product.type_inv,
       p1.product.ensures,
-      read w64 p2.product2.result p2.product2.type-inv,
-      p2.product2.ensures,
-      read w64 p3.product3.result p3.product3.type-inv,
-      p3.product3.ensures,
+      read w64 p2.product-2.result p2.product-2.type_inv,
+      p2.product-2.ensures,
+      read w64 p3.product-3.result p3.product-3.type_inv,
+      p3.product-3.ensures,
       read w32 a.self.b0 g.0.1,
       read w32 a.self.b1 g.1.0.1,
       read w32 a.self.b2 g.1.1.0.1,
@@ -33,7 +33,7 @@ returns c =
     )
     (wrap_left w64 (a.self.b0 *ℤ a.x0 +ℤ a.self.b1 *ℤ a.x1) (a.self.b2 *ℤ a.x2))
 
-pub inputs-spec : {M : Type 1} → statement M
-inputs-spec =
+pub inputs_spec : {M : Type 1} → statement M
+inputs_spec =
     tie.close (tie.spec (λ c κs. search rules) (λ c κs. search rules) (λ c κs. search rules) (λ c κs. search rules)
     (λ c κs. search rules) returns)

@@ -11,30 +11,30 @@ use Rattle.biquad_fixed.proofs.Numbers.{refused-answer}
 use Rattle.biquad_fixed.proofs.dither.DirectForm1Dither.process.Statement.{statement}
 use Rattle.biquad_fixed.proofs.dither.DirectForm1Dither.process.Tie as tie
 
-returns : tie.Need-returns
+returns : tie.Need-returns-then-number-ne0
 returns c =
     let k = c.before in let a = k.before.args in let n = fraction_number 1 a.c in
-    let h : n ≡ 0 → ⊥ = λ z. c.if1.true (k.fraction.ensures ∙ z) in
+    let h : n ≡ 0 → ⊥ = λ z. c.if-number-ne0.true (k.fraction-number.ensures ∙ z) in
     rw (
-      k.fraction.ensures,
+      k.fraction-number.ensures,
       ← refused-answer n (dither_out a.c a.self a.x0) h,
       ← kept n a.self
           (dither_next a.c a.self a.x0) h,
     )
 
-turn-requires : tie.Need-turn-requires
-turn-requires c κs = sym c.before.fraction.ensures ∙ c.if1.false
+turn-requires : tie.Need-turn-turned-requires
+turn-requires c κs = sym c.before.fraction-number.ensures ∙ c.if-number-ne0.false
 
-returns-2 : tie.Need-returns-2
+returns-2 : tie.Need-returns
 returns-2 c =
     let k = c.before.before in let e = k.before in let s = e.before.before in let a = s.args in
     rw (
-      read w32 k.turn.result.y c.struct_told.given.1.0.1,
-      k.turn.ensures.0,
-      k.turn.ensures.1,
+      read w32 k.turn-turned.result.y c.struct_told-1.given.1.0.1,
+      k.turn-turned.ensures.0,
+      k.turn-turned.ensures.1,
       to_z-of_z w32 a.x0 s.ranges.x0,
-      sym e.before.fraction.ensures ∙ e.if1.false,
+      sym e.before.fraction-number.ensures ∙ e.if-number-ne0.false,
     )
 
-pub process-spec : {M : Type 1} → statement M
-process-spec = tie.close (tie.spec (λ c κs. search rules) returns turn-requires returns-2)
+pub process_spec : {M : Type 1} → statement M
+process_spec = tie.close (tie.spec (λ c κs. search rules) returns turn-requires returns-2)

@@ -11,31 +11,31 @@ use Rattle.biquad_fixed.proofs.Numbers.{refused-answer}
 use Rattle.biquad_fixed.proofs.dither.DirectForm1Dither.process_clamp.Statement.{statement}
 use Rattle.biquad_fixed.proofs.dither.DirectForm1Dither.process_clamp.Tie as tie
 
-returns : tie.Need-returns
+returns : tie.Need-returns-then-number-ne0
 returns c =
     let k = c.before in let a = k.before.args in let n = clamp_number 1 a.c in
-    let h : n ≡ 0 → ⊥ = λ z. c.if1.true (k.refusal.ensures ∙ z) in
+    let h : n ≡ 0 → ⊥ = λ z. c.if-number-ne0.true (k.refusal-number.ensures ∙ z) in
     rw (
-      k.refusal.ensures,
+      k.refusal-number.ensures,
       ← refused-answer n (dither_held a.c a.self a.x0) h,
       ← kept n a.self
           (dither_onward a.c a.self a.x0) h,
     )
 
-turn-clamp-requires : tie.Need-turn-clamp-requires
-turn-clamp-requires c κs = sym c.before.refusal.ensures ∙ c.if1.false
+turn-clamp-requires : tie.Need-turn_clamp-turned-requires
+turn-clamp-requires c κs = sym c.before.refusal-number.ensures ∙ c.if-number-ne0.false
 
-returns-2 : tie.Need-returns-2
+returns-2 : tie.Need-returns
 returns-2 c =
     let k = c.before.before in let e = k.before in let s = e.before.before in let a = s.args in
     rw (
-      read w32 k.turn-clamp.result.y c.struct_told.given.1.0.1,
-      k.turn-clamp.ensures.0,
-      k.turn-clamp.ensures.1,
+      read w32 k.turn_clamp-turned.result.y c.struct_told-1.given.1.0.1,
+      k.turn_clamp-turned.ensures.0,
+      k.turn_clamp-turned.ensures.1,
       to_z-of_z w32 a.x0 s.ranges.x0,
-      sym e.before.refusal.ensures ∙ e.if1.false,
+      sym e.before.refusal-number.ensures ∙ e.if-number-ne0.false,
     )
 
-pub process-clamp-spec : {M : Type 1} → statement M
-process-clamp-spec =
+pub process_clamp_spec : {M : Type 1} → statement M
+process_clamp_spec =
     tie.close (tie.spec (λ c κs. search rules) returns turn-clamp-requires returns-2)

@@ -17,24 +17,24 @@ unfolding dither_sum
 returns c =
     let j = c.before in let u = j.before in let k = u.before in let q = k.before in
     let p = q.before.before.before in let i = p.before.before.before in let t = i.before.before in let s = t.before in
-    let a = s.args in let g = t.struct_told.given in let f = i.before.before in let n = p.before.before.struct-told3.given in
+    let a = s.args in let g = t.struct_told-1.given in let f = i.before.before in let n = p.before.before.struct_told-3-1.given in
     let inputs = forward a.c a.x0 a.self.x1 a.self.x2 in
     let outputs = a.c.a1 *ℤ a.self.y1 +ℤ a.c.a2 *ℤ a.self.y2 in
     rw (
-      read w64 c.add-i643.result c.add-i643.type-inv,
-      c.add-i643.ensures,
-      read w64 j.add-i642.result j.add-i642.type-inv,
-      j.add-i642.ensures,
-      read w64 u.u32-as-i64.result u.u32-as-i64.type-inv,
-      u.u32-as-i64.ensures,
-      read w64 k.add-i64.result k.add-i64.type-inv,
-      k.add-i64.ensures,
-      read w64 p.product.result p.product.type-inv,
+      read w64 c.add_i64-2.result c.add_i64-2.type_inv,
+      c.add_i64-2.ensures,
+      read w64 j.add_i64.result j.add_i64.type_inv,
+      j.add_i64.ensures,
+      read w64 u.u32_as_i64.result u.u32_as_i64.type_inv,
+      u.u32_as_i64.ensures,
+      read w64 k.add_i64-outputs.result k.add_i64-outputs.type_inv,
+      k.add_i64-outputs.ensures,
+      read w64 p.product.result p.product.type_inv,
       p.product.ensures,
-      read w64 q.product2.result q.product2.type-inv,
-      q.product2.ensures,
-      read w64 i.inputs.result i.inputs.type-inv,
-      i.inputs.ensures,
+      read w64 q.product-2.result q.product-2.type_inv,
+      q.product-2.ensures,
+      read w64 i.inputs-inputs.result i.inputs-inputs.type_inv,
+      i.inputs-inputs.ensures,
       to_z-of_z w32 a.x0 s.ranges.x0,
       read w32 a.self.x1 g.0.1,
       read w32 a.self.x2 g.1.0.1,
@@ -45,7 +45,7 @@ returns c =
     )
     (ap (λ (z : ℤ). wrap w64 (pos a.self.e +ℤ z)) (wrap-add w64 inputs outputs) ∙ wrap_right w64 (pos a.self.e) (inputs +ℤ outputs))
 
-pub sum-spec : {M : Type 1} → statement M
-sum-spec =
+pub sum_spec : {M : Type 1} → statement M
+sum_spec =
     tie.close (tie.spec (λ c κs. search rules) (λ c κs. search rules) (λ c κs. search rules) (λ c κs. search rules)
     (λ c κs. search rules) (λ c κs. search rules) (λ c κs. search rules) returns)

@@ -13,28 +13,28 @@ use Rattle.biquad_fixed.proofs.Shifts.{output, error}
 use Rattle.biquad_fixed.proofs.dither.DirectForm1Dither.turn.Statement.{statement}
 use Rattle.biquad_fixed.proofs.dither.DirectForm1Dither.turn.Tie as tie
 
-sub-shl-i64 : tie.Need-overflow-sub-shl-i64
+sub-shl-i64 : tie.Need-overflow_sub-f
 sub-shl-i64 c = omega (arith, in_range_law 1 c.before.args.c c.before.requires)
 
-sub-shr-u32 : tie.Need-overflow-sub-shr-u32
+sub-shr-u32 : tie.Need-overflow_sub-f-2
 sub-shr-u32 c = let s = c.before.before.before in omega (arith, in_range_law 1 s.args.c s.requires)
 
 returns : tie.Need-returns
 returns c =
     let h = c.before in let r = h.before in let w = r.before in let l = w.before in let m = l.before in let s = m.before in
-    let a = s.args in let g = c.struct_told.given in let i = in_range_law 1 a.c s.requires in
+    let a = s.args in let g = c.struct_told-1.given in let i = in_range_law 1 a.c s.requires in
     let up : (32 - a.c.f) % 64 ≡ 32 - a.c.f = mod-eq_of_lt (omega arith) in
     let down : (32 - a.c.f) % 32 ≡ 32 - a.c.f = mod-eq_of_lt (omega arith) in
     rw (
-      read w32 h.i64-high.result h.i64-high.type-inv,
-      h.i64-high.ensures,
-      r.shr-u32.ensures,
+      read w32 h.i64_high-y.result h.i64_high-y.type_inv,
+      h.i64_high-y.ensures,
+      r.shr_u32-e.ensures,
       down,
-      w.i64-as-u32.ensures,
-      read w64 l.shl-i64.result l.shl-i64.type-inv,
-      l.shl-i64.ensures,
+      w.i64_as_u32.ensures,
+      read w64 l.shl_i64-acc.result l.shl_i64-acc.type_inv,
+      l.shl_i64-acc.ensures,
       up,
-      read w64 m.sum.result m.sum.type-inv,
+      read w64 m.sum.result m.sum.type_inv,
       m.sum.ensures,
       to_z-of_z w32 a.x0 s.ranges.x0,
       read w32 a.self.x1 g.0.1,

@@ -7,26 +7,26 @@ use Rattle.biquad_fixed.specs.Answers.{fraction_number}
 use Rattle.biquad_fixed.proofs.wide.DirectForm1Wide.block.Statement.{statement}
 use Rattle.biquad_fixed.proofs.wide.DirectForm1Wide.block.Tie as tie
 
-returns : tie.Need-returns
+returns : tie.Need-returns-then-xs-ys
 returns c =
     let a = c.before.args in
-    unlike (fraction_number 0 a.c) (wide_out a.c) (wide_next a.c) a.self a.xs.now a.ys.now c.if1.true
+    unlike (fraction_number 0 a.c) (wide_out a.c) (wide_next a.c) a.self a.xs.now a.ys.now c.if-xs-ys.true
 
-returns-2 : tie.Need-returns-2
+returns-2 : tie.Need-returns-then-number-ne0
 returns-2 c =
     let k = c.before in let e = k.before in let a = e.before.args in
-    rw k.fraction.ensures (own (fraction_number 0 a.c) (wide_out a.c) (wide_next a.c) a.self a.xs.now a.ys.now
-    e.if1.false (λ z. c.if2.true (k.fraction.ensures ∙ z)))
+    rw k.fraction-number.ensures (own (fraction_number 0 a.c) (wide_out a.c) (wide_next a.c) a.self a.xs.now a.ys.now
+    e.if-xs-ys.false (λ z. c.if-number-ne0.true (k.fraction-number.ensures ∙ z)))
 
-turn-all-requires : tie.Need-turn-all-requires
-turn-all-requires c κs = (c.before.before.before.if1.false, sym c.before.before.fraction.ensures ∙ c.before.if2.false)
+turn-all-requires : tie.Need-turn_all-state-requires
+turn-all-requires c κs = (c.before.before.before.if-xs-ys.false, sym c.before.before.fraction-number.ensures ∙ c.before.if-number-ne0.false)
 
-returns-3 : tie.Need-returns-3
+returns-3 : tie.Need-returns
 returns-3 c =
     let k = c.before in let e = k.before.before in let f = e.before in let a = f.before.before.args in
-    taken (fraction_number 0 a.c) (wide_out a.c) (wide_next a.c) a.self a.xs.now a.ys.now k.turn-all.result _
-    f.before.if1.false
-    (sym f.fraction.ensures ∙ e.if2.false) k.turn-all.ensures.0 k.turn-all.ensures.1
+    taken (fraction_number 0 a.c) (wide_out a.c) (wide_next a.c) a.self a.xs.now a.ys.now k.turn_all-state.result _
+    f.before.if-xs-ys.false
+    (sym f.fraction-number.ensures ∙ e.if-number-ne0.false) k.turn_all-state.ensures.0 k.turn_all-state.ensures.1
 
 pub block_spec : {M : Type 1} → statement M
 block_spec =

@@ -7,27 +7,27 @@ use Rattle.biquad_fixed.specs.Answers.{clamp_number}
 use Rattle.biquad_fixed.proofs.wide.DirectForm1Wide.block_clamp.Statement.{statement}
 use Rattle.biquad_fixed.proofs.wide.DirectForm1Wide.block_clamp.Tie as tie
 
-returns : tie.Need-returns
+returns : tie.Need-returns-then-xs-ys
 returns c =
     let a = c.before.args in
-    unlike (clamp_number 0 a.c) (wide_held a.c) (wide_onward a.c) a.self a.xs.now a.ys.now c.if1.true
+    unlike (clamp_number 0 a.c) (wide_held a.c) (wide_onward a.c) a.self a.xs.now a.ys.now c.if-xs-ys.true
 
-returns-2 : tie.Need-returns-2
+returns-2 : tie.Need-returns-then-number-ne0
 returns-2 c =
     let k = c.before in let e = k.before in let a = e.before.args in
-    rw k.refusal.ensures (own (clamp_number 0 a.c) (wide_held a.c) (wide_onward a.c) a.self a.xs.now a.ys.now
-    e.if1.false (λ z. c.if2.true (k.refusal.ensures ∙ z)))
+    rw k.refusal-number.ensures (own (clamp_number 0 a.c) (wide_held a.c) (wide_onward a.c) a.self a.xs.now a.ys.now
+    e.if-xs-ys.false (λ z. c.if-number-ne0.true (k.refusal-number.ensures ∙ z)))
 
-turn-clamp-all-requires : tie.Need-turn-clamp-all-requires
-turn-clamp-all-requires c κs = (c.before.before.before.if1.false, sym c.before.before.refusal.ensures ∙ c.before.if2.false)
+turn-clamp-all-requires : tie.Need-turn_clamp_all-state-requires
+turn-clamp-all-requires c κs = (c.before.before.before.if-xs-ys.false, sym c.before.before.refusal-number.ensures ∙ c.before.if-number-ne0.false)
 
-returns-3 : tie.Need-returns-3
+returns-3 : tie.Need-returns
 returns-3 c =
     let k = c.before in let e = k.before.before in let f = e.before in let a = f.before.before.args in
     taken (clamp_number 0 a.c) (wide_held a.c) (wide_onward a.c) a.self a.xs.now a.ys.now
-    k.turn-clamp-all.result _ f.before.if1.false
-    (sym f.refusal.ensures ∙ e.if2.false) k.turn-clamp-all.ensures.0 k.turn-clamp-all.ensures.1
+    k.turn_clamp_all-state.result _ f.before.if-xs-ys.false
+    (sym f.refusal-number.ensures ∙ e.if-number-ne0.false) k.turn_clamp_all-state.ensures.0 k.turn_clamp_all-state.ensures.1
 
-pub block-clamp-spec : {M : Type 1} → statement M
-block-clamp-spec =
+pub block_clamp_spec : {M : Type 1} → statement M
+block_clamp_spec =
     tie.close (tie.spec returns (λ c κs. search rules) returns-2 turn-clamp-all-requires (λ c. search rules) returns-3)

@@ -15,13 +15,13 @@ returns : tie.Need-returns
 unfolding wide_sum
 returns c =
     let f = c.before.before.before in let i = f.before.before.before in let t = i.before.before in let s = t.before in
-    let a = s.args in let g = t.struct_told.given in let k = f.before.struct-told4.given in
+    let a = s.args in let g = t.struct_told-1.given in let k = f.before.struct_told-4-1.given in
     rw (
-      read w64 c.fed2.result c.fed2.type-inv,
-      c.fed2.ensures,
-      read w64 f.fed.result f.fed.type-inv,
+      read w64 c.fed-2.result c.fed-2.type_inv,
+      c.fed-2.ensures,
+      read w64 f.fed.result f.fed.type_inv,
       f.fed.ensures,
-      read w64 i.inputs.result i.inputs.type-inv,
+      read w64 i.inputs.result i.inputs.type_inv,
       i.inputs.ensures,
       to_z-of_z w32 a.x0 s.ranges.x0,
       read w32 a.self.x1 g.0.1,
@@ -34,6 +34,6 @@ returns c =
     (wrap_inner w64 (forward a.c a.x0 a.self.x1 a.self.x2) (floor_div (a.self.y1 *ℤ a.c.a1) (2 ^ 32))
     (floor_div (a.self.y2 *ℤ a.c.a2) (2 ^ 32)))
 
-pub sum-spec : {M : Type 1} → statement M
-sum-spec =
+pub sum_spec : {M : Type 1} → statement M
+sum_spec =
     tie.close (tie.spec (λ c κs. search rules) (λ c κs. search rules) (λ c κs. search rules) returns)

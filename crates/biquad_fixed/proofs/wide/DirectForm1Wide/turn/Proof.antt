@@ -11,21 +11,21 @@ use Rattle.biquad_fixed.proofs.Numbers.{in_range_law}
 use Rattle.biquad_fixed.proofs.wide.DirectForm1Wide.turn.Statement.{statement}
 use Rattle.biquad_fixed.proofs.wide.DirectForm1Wide.turn.Tie as tie
 
-sub-shl-i64 : tie.Need-overflow-sub-shl-i64
+sub-shl-i64 : tie.Need-overflow_sub-f
 sub-shl-i64 c = omega (arith, in_range_law 0 c.before.args.c c.before.requires)
 
 returns : tie.Need-returns
 returns c =
     let h = c.before in let l = h.before in let m = l.before in let s = m.before in
-    let a = s.args in let g = c.struct_told.given in
+    let a = s.args in let g = c.struct_told-1.given in
     let up : (32 - a.c.f) % 64 ≡ 32 - a.c.f = mod-eq_of_lt (omega arith) in
     rw (
-      read w32 h.i64-high.result h.i64-high.type-inv,
-      h.i64-high.ensures,
-      read w64 l.shl-i64.result l.shl-i64.type-inv,
-      l.shl-i64.ensures,
+      read w32 h.i64_high-y.result h.i64_high-y.type_inv,
+      h.i64_high-y.ensures,
+      read w64 l.shl_i64-acc.result l.shl_i64-acc.type_inv,
+      l.shl_i64-acc.ensures,
       up,
-      read w64 m.sum.result m.sum.type-inv,
+      read w64 m.sum.result m.sum.type_inv,
       m.sum.ensures,
       to_z-of_z w32 a.x0 s.ranges.x0,
       read w32 a.self.x1 g.0.1,
