@@ -7,7 +7,7 @@
 use blocks::Verdict;
 use cic::runs::{Wrote, settled_number, settled_part};
 use cic::state::Cic;
-use libc::STDOUT_FILENO;
+use std::io;
 use words::unsigned::{add_u64, mul_u64};
 
 // What a block left: the filter to go on with, how many of its outputs may be believed, the number of the first such
@@ -58,28 +58,23 @@ fn number_of(verdict: Verdict) -> u32 {
 }
 
 // Whether this is the number of a refusal, and then it is told.
-fn refused(number: u32) -> bool {
+fn refused(rt: &impl Print, number: u32) -> io::Result<bool> {
     if number == 0 {
-        return false;
+        return Ok(false);
     }
-    io::write_all(STDOUT_FILENO, b"refused by number ");
-    io::print_decimal(STDOUT_FILENO, number as u64);
-    io::write_all(STDOUT_FILENO, b"\n");
-    true
+    println!(rt; "refused by number {number}")?;
+    Ok(true)
 }
 
-fn tell(believed: usize, sample: u64) {
-    io::print_decimal(STDOUT_FILENO, believed as u64);
-    io::write_all(STDOUT_FILENO, b" outputs may be believed, from sample ");
-    io::print_decimal(STDOUT_FILENO, sample);
-    io::write_all(STDOUT_FILENO, b" on\n");
+fn tell(rt: &impl Print, believed: usize, sample: u64) -> io::Result<()> {
+    println!(rt; "{believed} outputs may be believed, from sample {sample} on")
 }
 
-fn main() {
+fn main(rt: HostRuntime) -> io::Result<()> {
     let made = Cic::new(3, 1, 3);
     let opened = made.verdict;
-    if refused(number_of(opened)) {
-        return;
+    if refused(&rt, number_of(opened))? {
+        return Ok(());
     }
     let filter = made.state;
     // What came before the plug was pulled.
@@ -88,23 +83,23 @@ fn main() {
     // The plug is back in.
     let again = state.set_rate(state.rate());
     let reset = again.verdict;
-    if refused(number_of(reset)) {
-        return;
+    if refused(&rt, number_of(reset))? {
+        return Ok(());
     }
     let ready = again.state;
     // The samples since then: 28 of them give 7 outputs, of which the first N.M = 3 are not to be believed.
     let samples = [7i32; 28];
     let mut out = [0i32; 28];
     let first = decimate(ready, &samples, &mut out);
-    if refused(first.refusal) {
-        return;
+    if refused(&rt, first.refusal)? {
+        return Ok(());
     }
-    tell(first.believed, first.sample);
+    tell(&rt, first.believed, first.sample)?;
     // The next block goes on from the state that this one left.
     let next = first.filter;
     let second = decimate(next, &samples, &mut out);
-    if refused(second.refusal) {
-        return;
+    if refused(&rt, second.refusal)? {
+        return Ok(());
     }
-    tell(second.believed, second.sample);
+    tell(&rt, second.believed, second.sample)
 }

@@ -11,8 +11,10 @@ use biquad::direct_form1::DirectForm1;
 use biquad::direct_form2_transposed::DirectForm2Transposed;
 use blocks::Verdict;
 use rust_answers::doubles::{from_bits, to_bits};
+use rust_answers::input::read_full;
 use rust_answers::lines::{double, line, report, tally, unlike_double};
 use rust_answers::runs::{digest_double, draw};
+use std::io;
 use words::unsigned::add_u64;
 
 const LINES: u32 = 600;
@@ -264,7 +266,7 @@ fn weight(w: [u32; 40]) -> u64 {
 }
 
 // All lines with this code.
-fn compare(text: &[u8], code: u32, name: &[u8]) {
+fn compare(rt: &impl Print, text: &[u8], code: u32, name: &[u8]) -> io::Result<()> {
     let mut cases: u64 = 0;
     let mut differ: u64 = 0;
     for i in 0..LINES {
@@ -274,7 +276,8 @@ fn compare(text: &[u8], code: u32, name: &[u8]) {
             differ = add_u64(differ, differs(w));
         }
     }
-    report(name, cases, differ);
+    report(rt, name, cases, differ)?;
+    Ok(())
 }
 
 fn limits(min: f64, max: f64) -> BiquadClamp {
@@ -354,33 +357,37 @@ fn refusals() -> u64 {
     refused(below, -1.0, nan, 41)
 }
 
-fn compare_steps(text: &[u8]) {
-    compare(text, 1, b"direct form 1, step");
-    compare(text, 2, b"direct form 1 clamped, step");
-    compare(text, 3, b"direct form 2 transposed, step");
-    compare(text, 4, b"direct form 2 transposed clamped, step");
+fn compare_steps(rt: &impl Print, text: &[u8]) -> io::Result<()> {
+    compare(rt, text, 1, b"direct form 1, step")?;
+    compare(rt, text, 2, b"direct form 1 clamped, step")?;
+    compare(rt, text, 3, b"direct form 2 transposed, step")?;
+    compare(rt, text, 4, b"direct form 2 transposed clamped, step")?;
+    Ok(())
 }
 
-fn compare_runs(text: &[u8]) {
-    compare(text, 5, b"direct form 1, runs");
-    compare(text, 6, b"direct form 1 clamped, runs");
-    compare(text, 7, b"direct form 2 transposed, runs");
-    compare(text, 8, b"direct form 2 transposed clamped, runs");
+fn compare_runs(rt: &impl Print, text: &[u8]) -> io::Result<()> {
+    compare(rt, text, 5, b"direct form 1, runs")?;
+    compare(rt, text, 6, b"direct form 1 clamped, runs")?;
+    compare(rt, text, 7, b"direct form 2 transposed, runs")?;
+    compare(rt, text, 8, b"direct form 2 transposed clamped, runs")?;
+    Ok(())
 }
 
-fn compare_impulses(text: &[u8]) {
-    compare(text, 9, b"direct form 1, impulses");
-    compare(text, 10, b"direct form 1 clamped, impulses");
-    compare(text, 11, b"direct form 2 transposed, impulses");
-    compare(text, 12, b"direct form 2 transposed clamped, impulses");
+fn compare_impulses(rt: &impl Print, text: &[u8]) -> io::Result<()> {
+    compare(rt, text, 9, b"direct form 1, impulses")?;
+    compare(rt, text, 10, b"direct form 1 clamped, impulses")?;
+    compare(rt, text, 11, b"direct form 2 transposed, impulses")?;
+    compare(rt, text, 12, b"direct form 2 transposed clamped, impulses")?;
+    Ok(())
 }
 
-fn main() {
+fn main(rt: HostRuntime) -> io::Result<()> {
     let mut space = [0u8; 200000];
-    let n = io::read_full(0, &mut space);
+    let n = read_full(&mut rt.stdin(), &mut space)?;
     let text = &space[..n];
-    compare_steps(text);
-    compare_runs(text);
-    compare_impulses(text);
-    report(b"refusals 31 and 41", 36, refusals());
+    compare_steps(&rt, text)?;
+    compare_runs(&rt, text)?;
+    compare_impulses(&rt, text)?;
+    report(&rt, b"refusals 31 and 41", 36, refusals())?;
+    Ok(())
 }

@@ -9,7 +9,9 @@ use biquad::biquad::Biquad;
 use biquad::biquad_clamp::{Answer, BiquadClamp};
 use biquad::pair::Pair;
 use rust_answers::doubles::{from_bits, to_bits};
+use rust_answers::input::read_full;
 use rust_answers::lines::{double, line, report, unlike_double};
+use std::io;
 use words::unsigned::add_u64;
 
 const LINES: u32 = 1000;
@@ -124,7 +126,7 @@ fn differs(w: [u32; 40]) -> u64 {
 }
 
 // All lines with this code.
-fn compare(text: &[u8], code: u32, name: &[u8]) {
+fn compare(rt: &impl Print, text: &[u8], code: u32, name: &[u8]) -> io::Result<()> {
     let mut cases: u64 = 0;
     let mut differ: u64 = 0;
     for i in 0..LINES {
@@ -134,7 +136,8 @@ fn compare(text: &[u8], code: u32, name: &[u8]) {
             differ = add_u64(differ, differs(w));
         }
     }
-    report(name, cases, differ);
+    report(rt, name, cases, differ)?;
+    Ok(())
 }
 
 // 1 where the gain b0 + b1 + b2 is not answered by 42.
@@ -152,21 +155,22 @@ fn granted(b0: f64, b1: f64, b2: f64) -> u64
     }
 }
 
-fn main() {
+fn main(rt: HostRuntime) -> io::Result<()> {
     let mut space = [0u8; 200000];
-    let n = io::read_full(0, &mut space);
+    let n = read_full(&mut rt.stdin(), &mut space)?;
     let text = &space[..n];
-    compare(text, 1, b"Pair coeff");
-    compare(text, 2, b"from_zpk");
-    compare(text, 3, b"forward_gain");
-    compare(text, 4, b"input_offset");
-    compare(text, 5, b"set_input_offset");
-    compare(text, 6, b"IDENTITY");
-    compare(text, 7, b"HOLD");
-    compare(text, 8, b"proportional");
+    compare(&rt, text, 1, b"Pair coeff")?;
+    compare(&rt, text, 2, b"from_zpk")?;
+    compare(&rt, text, 3, b"forward_gain")?;
+    compare(&rt, text, 4, b"input_offset")?;
+    compare(&rt, text, 5, b"set_input_offset")?;
+    compare(&rt, text, 6, b"IDENTITY")?;
+    compare(&rt, text, 7, b"HOLD")?;
+    compare(&rt, text, 8, b"proportional")?;
     let zeros = granted(0.0, 0.0, 0.0)
         + granted(-0.0, -0.0, -0.0)
         + granted(1.0, -2.0, 1.0)
         + granted(1e300, -1e300, -0.0);
-    report(b"refusal 42", 4, zeros);
+    report(&rt, b"refusal 42", 4, zeros)?;
+    Ok(())
 }

@@ -7,8 +7,10 @@ use biquad_fixed::coefficients::{Answer, Biquad, BiquadClamp};
 use biquad_fixed::dither::{DirectForm1Dither, DitherBlock, DitherStep};
 use biquad_fixed::wide::{DirectForm1Wide, WideBlock, WideStep};
 use blocks::Verdict;
+use rust_answers::input::read_full;
 use rust_answers::lines::{double, line, report, tally, unlike_double, unlike_words};
 use rust_answers::runs::{digest, digest_words, spread};
+use std::io;
 use words::casts::{i32_as_u32, i64_as_u64, u32_as_i32, u64_as_i64, u64_as_u32};
 use words::unsigned::{add_u32, add_u64};
 
@@ -475,7 +477,7 @@ fn weight(w: [u32; 40]) -> u64 {
 }
 
 // All lines with this code.
-fn compare(text: &[u8], code: u32, name: &[u8]) {
+fn compare(rt: &impl Print, text: &[u8], code: u32, name: &[u8]) -> io::Result<()> {
     let mut cases: u64 = 0;
     let mut differ: u64 = 0;
     for i in 0..LINES {
@@ -485,37 +487,42 @@ fn compare(text: &[u8], code: u32, name: &[u8]) {
             differ = add_u64(differ, differs(w));
         }
     }
-    report(name, cases, differ);
+    report(rt, name, cases, differ)?;
+    Ok(())
 }
 
-fn compare_steps(text: &[u8]) {
-    compare(text, 1, b"wide step");
-    compare(text, 2, b"wide clamped step");
-    compare(text, 3, b"dither step");
-    compare(text, 4, b"dither clamped step");
+fn compare_steps(rt: &impl Print, text: &[u8]) -> io::Result<()> {
+    compare(rt, text, 1, b"wide step")?;
+    compare(rt, text, 2, b"wide clamped step")?;
+    compare(rt, text, 3, b"dither step")?;
+    compare(rt, text, 4, b"dither clamped step")?;
+    Ok(())
 }
 
-fn compare_runs(text: &[u8]) {
-    compare(text, 5, b"wide, runs by steps and by blocks");
-    compare(text, 6, b"wide clamped, runs by steps and by blocks");
-    compare(text, 7, b"dither, runs by steps and by blocks");
-    compare(text, 8, b"dither clamped, runs by steps and by blocks");
+fn compare_runs(rt: &impl Print, text: &[u8]) -> io::Result<()> {
+    compare(rt, text, 5, b"wide, runs by steps and by blocks")?;
+    compare(rt, text, 6, b"wide clamped, runs by steps and by blocks")?;
+    compare(rt, text, 7, b"dither, runs by steps and by blocks")?;
+    compare(rt, text, 8, b"dither clamped, runs by steps and by blocks")?;
+    Ok(())
 }
 
-fn compare_tame_runs(text: &[u8]) {
-    compare(text, 9, b"wide, tame runs in blocks");
-    compare(text, 10, b"wide clamped, tame runs in blocks");
-    compare(text, 11, b"dither, tame runs in blocks");
-    compare(text, 12, b"dither clamped, tame runs in blocks");
+fn compare_tame_runs(rt: &impl Print, text: &[u8]) -> io::Result<()> {
+    compare(rt, text, 9, b"wide, tame runs in blocks")?;
+    compare(rt, text, 10, b"wide clamped, tame runs in blocks")?;
+    compare(rt, text, 11, b"dither, tame runs in blocks")?;
+    compare(rt, text, 12, b"dither clamped, tame runs in blocks")?;
+    Ok(())
 }
 
-fn main() {
+fn main(rt: HostRuntime) -> io::Result<()> {
     let mut space = [0u8; 200000];
-    let n = io::read_full(0, &mut space);
+    let n = read_full(&mut rt.stdin(), &mut space)?;
     let text = &space[..n];
-    compare_steps(text);
-    compare_runs(text);
-    compare_tame_runs(text);
-    report(b"refusals of steps", 10, step_refusals());
-    report(b"refusals of blocks", 8, block_refusals());
+    compare_steps(&rt, text)?;
+    compare_runs(&rt, text)?;
+    compare_tame_runs(&rt, text)?;
+    report(&rt, b"refusals of steps", 10, step_refusals())?;
+    report(&rt, b"refusals of blocks", 8, block_refusals())?;
+    Ok(())
 }

@@ -14,8 +14,10 @@ use cic64::runs::{Read, Wrote, settled_number};
 use cic64::state::Cic;
 use cic64::steps::{Out, Sample, Stepped};
 use lent64::state::LentCic;
+use rust_answers::input::read_full;
 use rust_answers::lines::{double, line, report, size, tally, unlike, unlike_double};
 use rust_answers::runs::{digest, draw};
+use std::io;
 use words::casts::u64_as_u32;
 use words::unsigned::add_u64;
 
@@ -511,24 +513,20 @@ fn otherwise(w: [u32; 40]) -> u64 {
     }
 }
 
-fn tell(code: u32, n: u64) {
+fn tell(rt: &impl Print, code: u32, n: u64) -> io::Result<()> {
     if n == 0 {
-        return;
+        return Ok(());
     }
     if code == 5 {
-        io::write_all(
-            1,
-            b"  of which a gain refused with 14, that the crate wraps: ",
-        );
+        rt.write_all(b"  of which a gain refused with 14, that the crate wraps: ")?;
     } else {
-        io::write_all(1, b"  of which yes, where the crate's bound says no: ");
+        rt.write_all(b"  of which yes, where the crate's bound says no: ")?;
     }
-    io::print_decimal(1, n);
-    io::write_all(1, b"\n");
+    rt.println(n)
 }
 
 // All lines with this code.
-fn compare(text: &[u8], code: u32, name: &[u8]) {
+fn compare(rt: &impl Print, text: &[u8], code: u32, name: &[u8]) -> io::Result<()> {
     let mut cases: u64 = 0;
     let mut differ: u64 = 0;
     let mut other: u64 = 0;
@@ -540,8 +538,8 @@ fn compare(text: &[u8], code: u32, name: &[u8]) {
             other = add_u64(other, otherwise(w));
         }
     }
-    report(name, cases, differ);
-    tell(code, other);
+    report(rt, name, cases, differ)?;
+    tell(rt, code, other)
 }
 
 // ---- refusals: each number at its boundary, and a neighbour that is accepted
@@ -729,33 +727,42 @@ fn lent_slices() -> u64 {
     n
 }
 
-fn main() {
+fn main(rt: HostRuntime) -> io::Result<()> {
     let mut space = [0u8; 250000];
-    let n = io::read_full(0, &mut space);
+    let n = read_full(&mut rt.stdin(), &mut space)?;
     let text = &space[..n];
     compare(
+        &rt,
         text,
         1,
         b"decimator steps, by value or on lent arrays, whole state after each",
-    );
-    compare(text, 2, b"interpolator steps, whole state after each");
-    compare(text, 3, b"decimator blocks, whole state after each");
-    compare(text, 4, b"interpolator blocks, whole state after each");
-    compare(text, 5, b"tick, outputs, gain, gain_log2, response_length");
-    compare(text, 6, b"settle_interpolate");
-    compare(text, 7, b"clear");
+    )?;
+    compare(&rt, text, 2, b"interpolator steps, whole state after each")?;
+    compare(&rt, text, 3, b"decimator blocks, whole state after each")?;
+    compare(&rt, text, 4, b"interpolator blocks, whole state after each")?;
     compare(
+        &rt,
+        text,
+        5,
+        b"tick, outputs, gain, gain_log2, response_length",
+    )?;
+    compare(&rt, text, 6, b"settle_interpolate")?;
+    compare(&rt, text, 7, b"clear")?;
+    compare(
+        &rt,
         text,
         8,
         b"fit, every b at widths 32 and 64, by whole numbers",
-    );
-    report(b"refusals of the makers", 9, makers());
-    report(b"refusals of state calls", 8, state_calls());
-    report(b"refusals of questions", 18, asked());
-    report(b"refusals of steps", 6, single_steps());
+    )?;
+    report(&rt, b"refusals of the makers", 9, makers())?;
+    report(&rt, b"refusals of state calls", 8, state_calls())?;
+    report(&rt, b"refusals of questions", 18, asked())?;
+    report(&rt, b"refusals of steps", 6, single_steps())?;
     report(
+        &rt,
         b"refusals of blocks and of the settled part",
         6,
         lent_slices(),
-    );
+    )?;
+    Ok(())
 }

@@ -6,8 +6,10 @@ ghost use Rattle.std.specs.Prelude.{◌≤◌};
 
 use blocks::Verdict;
 use pll::{PLL, PLLState, Tracked};
+use rust_answers::input::read_full;
 use rust_answers::lines::{double, line, report, tally, unlike, unlike_words};
 use rust_answers::runs::{digest, digest_words, draw, spread};
+use std::io;
 use unwrap::clamp_wrap::ClampWrap;
 use unwrap::wrapping::Wrap;
 use words::casts::{i32_as_u32, i64_as_u64, u32_as_i32, u64_as_i64, u64_as_u32};
@@ -132,7 +134,7 @@ fn readers(w: [u32; 40]) -> u64 {
 }
 
 // A loop that runs, the generator that feeds it, and the digest of its phases and frequencies.
-#[derive(Drop)]
+#[derive(Clone, Copy)]
 struct Running {
     state: PLLState,
     draws: u64,
@@ -288,7 +290,7 @@ fn weight(w: [u32; 40]) -> u64 {
 }
 
 // All lines with this code.
-fn compare(text: &[u8], code: u32, name: &[u8]) {
+fn compare(rt: &impl Print, text: &[u8], code: u32, name: &[u8]) -> io::Result<()> {
     let mut cases: u64 = 0;
     let mut differ: u64 = 0;
     for i in 0..LINES {
@@ -298,36 +300,46 @@ fn compare(text: &[u8], code: u32, name: &[u8]) {
             differ = add_u64(differ, differs(w));
         }
     }
-    report(name, cases, differ);
+    report(rt, name, cases, differ)?;
+    Ok(())
 }
 
-fn main() {
+fn main(rt: HostRuntime) -> io::Result<()> {
     let mut space = [0u8; 200000];
-    let n = io::read_full(0, &mut space);
+    let n = read_full(&mut rt.stdin(), &mut space)?;
     let text = &space[..n];
-    compare(text, 1, b"PLL step");
-    compare(text, 2, b"PLL predict");
-    compare(text, 3, b"PLL phase and frequency");
-    compare(text, 4, b"PLL, runs");
+    compare(&rt, text, 1, b"PLL step")?;
+    compare(&rt, text, 2, b"PLL predict")?;
+    compare(&rt, text, 3, b"PLL phase and frequency")?;
+    compare(&rt, text, 4, b"PLL, runs")?;
     compare(
+        &rt,
         text,
         5,
         b"PLL with predict and other coefficients at each step, run",
-    );
-    compare(text, 6, b"PLL lock-in to minus the input's frequency, runs");
+    )?;
+    compare(
+        &rt,
+        text,
+        6,
+        b"PLL lock-in to minus the input's frequency, runs",
+    )?;
     let p = PLL {
         b0: -67823405,
         b1: 66758037,
         a1: -1079443016,
     };
     report(
+        &rt,
         b"PLL block against its steps",
         BLOCK as u64,
         block_differs(p),
-    );
+    )?;
     report(
+        &rt,
         b"PLL block of unlike lengths, refused with 31",
         1,
         unlike_differs(p),
-    );
+    )?;
+    Ok(())
 }

@@ -6,7 +6,9 @@
 ghost use Rattle.std.specs.Prelude.{◌≤◌, ◌<◌, length};
 
 use playback::driver::{Replay, replay_whole};
+use rust_answers::input::read_full;
 use rust_answers::lines::report;
+use std::io;
 use text::comparing::same_bytes;
 use text::parts::part_end;
 use words::unsigned::add_u64;
@@ -231,13 +233,14 @@ fn compare_table(table: &[u8], input: &mut [u8], want: &mut [u8], out: &mut [u8]
     w.tally
 }
 
-fn main() {
+fn main(rt: HostRuntime) -> io::Result<()> {
     let mut table = [0u8; 65536];
-    let n = io::read_full(0, &mut table);
+    let n = read_full(&mut rt.stdin(), &mut table)?;
     let mut input = [0u8; 4096];
     let mut want = [0u8; 4096];
     let mut out = [0u8; 32768];
     let t = compare_table(&table[..n], &mut input, &mut want, &mut out);
-    report(b"whole", t.cases, t.differ);
-    report(b"in parts", t.cuts, t.cuts_differ);
+    report(&rt, b"whole", t.cases, t.differ)?;
+    report(&rt, b"in parts", t.cuts, t.cuts_differ)?;
+    Ok(())
 }

@@ -4,8 +4,10 @@
 
 use blocks::Verdict;
 use rpll::{Estimate, Processed, ProcessedBlock, RPLL, RPLLConfig, Timestamp};
+use rust_answers::input::read_full;
 use rust_answers::lines::{double, line, report, unlike, unlike_words};
 use rust_answers::runs::{digest, digest_words, draw, spread};
+use std::io;
 use words::casts::{i32_as_u32, u32_as_i32};
 use words::shifts::shl_u32;
 use words::unsigned::{add_u32, add_u64, mul_u32, sub_u32};
@@ -87,7 +89,7 @@ fn step(w: [u32; 40]) -> u64 {
 }
 
 // A loop that runs, the generator that feeds it, the next timestamp of a steady reference, and the digest so far.
-#[derive(Drop)]
+#[derive(Clone, Copy)]
 struct Running {
     state: RPLL,
     draws: u64,
@@ -320,7 +322,7 @@ fn weight(w: [u32; 40]) -> u64 {
 }
 
 // All lines with this code.
-fn compare(text: &[u8], code: u32, name: &[u8]) {
+fn compare(rt: &impl Print, text: &[u8], code: u32, name: &[u8]) -> io::Result<()> {
     let mut cases: u64 = 0;
     let mut differ: u64 = 0;
     for i in 0..LINES {
@@ -330,7 +332,8 @@ fn compare(text: &[u8], code: u32, name: &[u8]) {
             differ = add_u64(differ, differs(w));
         }
     }
-    report(name, cases, differ);
+    report(rt, name, cases, differ)?;
+    Ok(())
 }
 
 // 01's number for a configuration, 0 where it has none.
@@ -379,17 +382,18 @@ fn refusals_differ(s: RPLL) -> u64 {
     differ
 }
 
-fn main() {
+fn main(rt: HostRuntime) -> io::Result<()> {
     let mut space = [0u8; 200000];
-    let n = io::read_full(0, &mut space);
+    let n = read_full(&mut rt.stdin(), &mut space)?;
     let text = &space[..n];
-    compare(text, 1, b"RPLL step");
-    compare(text, 2, b"RPLL, runs, by steps and by blocks");
+    compare(&rt, text, 1, b"RPLL step")?;
+    compare(&rt, text, 2, b"RPLL, runs, by steps and by blocks")?;
     compare(
+        &rt,
         text,
         3,
         b"RPLL lock-in within 200 of the reference's frequency, runs",
-    );
+    )?;
     let s = RPLL {
         x: 1,
         ff: 2,
@@ -397,13 +401,16 @@ fn main() {
         y: 4,
     };
     report(
+        &rt,
         b"RPLL configurations refused with 60, 61, 62 or not at all",
         CONFIGURATIONS as u64,
         refusals_differ(s),
-    );
+    )?;
     report(
+        &rt,
         b"RPLL block of unlike lengths, refused with 31",
         4,
         lengths_differ(),
-    );
+    )?;
+    Ok(())
 }

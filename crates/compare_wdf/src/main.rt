@@ -5,8 +5,10 @@
 
 ghost use Rattle.std.specs.Prelude.{◌≤◌};
 
+use rust_answers::input::read_full;
 use rust_answers::lines::{double, line, report, size, unlike, unlike_double, unlike_words};
 use rust_answers::runs::{digest, digest_first, spread};
+use std::io;
 use wdf::filter::{Out, Wdf};
 use wdf::tpa::{Ports, Tpa};
 use words::casts::{i32_as_u32, u32_as_i32};
@@ -125,7 +127,7 @@ fn digest_all(d: u64, ys: &[i32]) -> u64 {
 }
 
 // A filter that runs, the generator that feeds it, and the digest so far.
-#[derive(Drop)]
+#[derive(Clone, Copy)]
 struct Running {
     state: Wdf,
     draws: u64,
@@ -204,7 +206,7 @@ fn block_turn(r: Running) -> Running {
 }
 
 // What a turn of a run does; an adapter's has its nibble.
-#[derive(Drop)]
+#[derive(Clone, Copy)]
 enum Turn {
     Corner(u32),
     Adapter(u32),
@@ -268,7 +270,7 @@ fn weight(w: [u32; 40]) -> u64 {
 }
 
 // All lines with this code, by calls of this kind.
-fn compare(text: &[u8], code: u32, kind: u32, name: &[u8]) {
+fn compare(rt: &impl Print, text: &[u8], code: u32, kind: u32, name: &[u8]) -> io::Result<()> {
     let mut cases: u64 = 0;
     let mut differ: u64 = 0;
     for i in 0..LINES {
@@ -278,17 +280,19 @@ fn compare(text: &[u8], code: u32, kind: u32, name: &[u8]) {
             differ = add_u64(differ, differs(w, kind));
         }
     }
-    report(name, cases, differ);
+    report(rt, name, cases, differ)?;
+    Ok(())
 }
 
-fn main() {
+fn main(rt: HostRuntime) -> io::Result<()> {
     let mut space = [0u8; 200000];
-    let n = io::read_full(0, &mut space);
+    let n = read_full(&mut rt.stdin(), &mut space)?;
     let text = &space[..n];
-    compare(text, 1, 1, b"Tpa::adapt");
-    compare(text, 2, 2, b"Wdf step");
-    compare(text, 3, 3, b"Tpa::adapt at the corners");
-    compare(text, 4, 4, b"Tpa::adapt, runs");
-    compare(text, 5, 5, b"Wdf, runs by steps");
-    compare(text, 5, 6, b"Wdf, runs by blocks");
+    compare(&rt, text, 1, 1, b"Tpa::adapt")?;
+    compare(&rt, text, 2, 2, b"Wdf step")?;
+    compare(&rt, text, 3, 3, b"Tpa::adapt at the corners")?;
+    compare(&rt, text, 4, 4, b"Tpa::adapt, runs")?;
+    compare(&rt, text, 5, 5, b"Wdf, runs by steps")?;
+    compare(&rt, text, 5, 6, b"Wdf, runs by blocks")?;
+    Ok(())
 }

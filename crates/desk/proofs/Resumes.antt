@@ -1,15 +1,14 @@
 -- Where a line is taken, no test refused it, and its decimator was resumed (demands64).
 use mathlib.Core.Path.{◌≡◌, refl, sym, ap, subst, ◌∙◌}
 use mathlib.Core.Bool.{Bool, true, false, cond}
-use mathlib.Core.List.{List, [], ◌∷◌}
+use mathlib.Core.List.{List}
 use Prim.Native.Nat.{ℕ, zero, suc, ◌*◌}
 use lib.Dec.{eqb, ltb}
-use lib.IntN.{ℤ, pos}
+use lib.IntN.{pos}
 use lib.ListN.{length, get_or}
 use mir.Syntax.{w64}
 use Rattle.words.specs.Words.{wrap}
 use Rattle.blocks.specs.declared.Verdict.{Verdict}
-use Rattle.blocks.specs.declared.Verdict.TheVariants as Verdict
 use Rattle.text.specs.Letters.{newline}
 use Rattle.sums.specs.Calls.{resume_number}
 use Rattle.sums.specs.Counted.{resume_counted}

@@ -1,6 +1,6 @@
 -- The words of a state's line, one after the other.
 use mathlib.Core.Path.{◌≡◌, refl, sym, ap, subst, ◌∙◌}
-use mathlib.Core.Bool.{Bool, true, false, ◌||◌}
+use mathlib.Core.Bool.{true, false, ◌||◌}
 use mathlib.Core.List.{List, [], ◌∷◌}
 use Prim.Native.Nat.{ℕ, suc, ◌+◌, ◌-◌, ◌≤◌, ◌<◌}
 use native.Mathlib.Numerals.{add-one}
@@ -12,7 +12,6 @@ use Rattle.words.specs.Words.{wrap}
 use Rattle.blocks.specs.Scan.{scan}
 use Rattle.blocks.proofs.Turns.{Going, turn, done}
 use Rattle.text.specs.declared.hex.Pattern.{Pattern}
-use Rattle.text.specs.declared.hex.Pattern.TheVariants as Pattern
 use Rattle.sums.specs.Calls.{resume_number}
 use Rattle.sums.specs.Counted.{resume_counted}
 use Rattle.cic64.specs.Word.{word_ops}

@@ -1,11 +1,9 @@
 -- What a record does at the recorder's desk, and what it is answered. A refusal stops the desk.
-use Rattle.std.specs.Prelude.{Bool, true, false, cond, List, [], ◌∷◌, ℕ, zero, suc, ◌+◌, ◌/◌, ◌%◌, eqb, ℤ, pos, ◌+ℤ◌, length, get_or}
+use Rattle.std.specs.Prelude.{true, false, cond, List, [], ◌∷◌, ℕ, zero, suc, ◌/◌, ◌%◌, eqb, ℤ, pos, ◌+ℤ◌, length, get_or}
 use Rattle.std.specs.Int.{w32}
 use Rattle.words.specs.Words.{word, wrap}
 use Rattle.blocks.specs.declared.Verdict.{Verdict}
-use Rattle.blocks.specs.declared.Verdict.TheVariants as Verdict
 use Rattle.shape.specs.declared.runs.Wrote.{Wrote}
-use Rattle.shape.specs.declared.runs.Wrote.TheVariants as Wrote
 use Rattle.recorder.specs.Calls.{opened_of, pulled_of, pushed_of, rated_of, took_of, out_left}
 use Rattle.desk.specs.Lines.{record_of}
 use Rattle.desk.specs.Saved.{load_of}
@@ -15,10 +13,8 @@ use Rattle.desk.specs.declared.lines.Record.{Record}
 use Rattle.desk.specs.declared.lines.Record.TheVariants.{Is, Bad}
 use Rattle.recorder.specs.declared.recorder.Recorder.{Recorder}
 use Rattle.recorder.specs.declared.recorder.Ready.{Ready}
-use Rattle.recorder.specs.declared.recorder.Took.{Took}
 use Rattle.desk.specs.declared.desk.Desk.{Desk}
 use Rattle.desk.specs.declared.desk.Reply.{Reply}
-use Rattle.desk.specs.declared.desk.Reply.TheVariants as Reply
 use Rattle.desk.specs.declared.desk.Taken.{Taken}
 
 -- before the first record: there is no recorder yet

@@ -4,7 +4,6 @@ use Rattle.std.specs.Prelude.{cond, List, ℕ, ◌/◌, ◌%◌, eqb, length, ge
 use Rattle.text.specs.Letters.{byte, newline}
 use Rattle.text.specs.Hex.{pattern_of}
 use Rattle.text.specs.declared.hex.Pattern.{Pattern}
-use Rattle.text.specs.declared.hex.Pattern.TheVariants as Pattern
 use Rattle.desk.specs.declared.lines.Kind.{Kind}
 use Rattle.desk.specs.declared.lines.Kind.TheVariants.{Word, Open, Rate, Pull, Push, Save, Unknown}
 use Rattle.desk.specs.declared.lines.Record.{Record}

@@ -6,7 +6,6 @@ use Rattle.blocks.specs.declared.Verdict.TheVariants as Verdict
 use Rattle.text.specs.Letters.{newline}
 use Rattle.text.specs.Hex.{pattern_of}
 use Rattle.text.specs.declared.hex.Pattern.{Pattern}
-use Rattle.text.specs.declared.hex.Pattern.TheVariants as Pattern
 use Rattle.sums.specs.Calls.{resume_number}
 use Rattle.sums.specs.Counted.{resume_counted}
 use Rattle.cic64.specs.Word.{word_ops}

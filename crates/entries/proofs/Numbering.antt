@@ -61,7 +61,7 @@ eight_words Two name f cs h =
 
 -- more than 8 sections: the nibbles don't matter
 many : (v : Version) (k a b : ℕ) → 8 < k → wdf_number v k a ≡ wdf_number v k b
-unfolding sections_number wdf.newNumber
+unfolding sections_number wdf.new_number
 many One k a b h = rw (lt-ltb 8 k h)
 many Two k a b h = rw (lt-ltb 8 k h)
 

@@ -7,20 +7,20 @@
 use cic::state::Cic;
 use cic::steps::Out;
 use entries::settings::{Entry, Kind};
-use libc::STDOUT_FILENO;
+use std::io;
 use store_read::reading::read_form1;
 use wdf::filter::Wdf;
 use words::casts::i32_as_u32;
 
-fn print(v: i32) {
+fn print(rt: &impl Print, v: i32) -> io::Result<()> {
     let bits = i32_as_u32(v) as u64;
     if bits < 2147483648 {
-        io::print_decimal(STDOUT_FILENO, bits);
+        rt.print(bits)?;
     } else {
-        io::write_all(STDOUT_FILENO, b"-");
-        io::print_decimal(STDOUT_FILENO, 4294967296 - bits);
+        rt.write_all(b"-")?;
+        rt.print(4294967296 - bits)?;
     }
-    io::write_all(STDOUT_FILENO, b"\n");
+    rt.write_all(b"\n")
 }
 
 fn first_decimated(order: u32, delay: u32, rate: u32) -> i32 {
@@ -46,25 +46,26 @@ fn first_passed(sections: usize, architecture: u32, a: [i32; 8]) -> i32 {
     }
 }
 
-fn run(entry: Entry) {
+fn run(rt: &impl Print, entry: Entry) -> io::Result<()> {
     let name = entry.name;
     let bytes = name.bytes;
     let len = name.len;
     if len <= 16 {
-        io::write_all(STDOUT_FILENO, &bytes[..len]);
+        rt.write_all(&bytes[..len])?;
     }
-    io::write_all(STDOUT_FILENO, b"\t");
+    rt.write_all(b"\t")?;
     let kind = entry.kind;
     let a = entry.a;
     match kind {
-        Kind::Cic(order, delay, rate) => print(first_decimated(order, delay, rate)),
-        Kind::Wdf(sections, architecture) => print(first_passed(sections, architecture, a)),
+        Kind::Cic(order, delay, rate) => print(rt, first_decimated(order, delay, rate))?,
+        Kind::Wdf(sections, architecture) => print(rt, first_passed(sections, architecture, a))?,
         // A store of form 1 holds none.
         Kind::Dither(_) => {}
     }
+    Ok(())
 }
 
-fn main() {
+fn main(rt: HostRuntime) -> io::Result<()> {
     let read = read_form1(
         b"set\t1\ncic\tcrankshaft\t3\t1\t63\nwdf\thalfband\t2\ta1\t-1073741824\t536870912\nwdf\told\t1\te\t-1073741824\n",
     );
@@ -74,9 +75,10 @@ fn main() {
     let mut i: usize = 0;
     while i < count {
         if 64 <= i {
-            return;
+            return Ok(());
         }
-        run(entries[i]);
+        run(&rt, entries[i])?;
         i += 1;
     }
+    Ok(())
 }

@@ -1,7 +1,6 @@
 -- A number's letters read as it, and no others do. Digits are read from the first on and spelled from the last on: `hex-last` goes between.
 use native.Mathlib.Omega.{arith}
 use native.Mathlib.Nat.{add-zero, add-suc, pow-suc, div-div-eq-div-mul, mul_comm}
-use native.Mathlib.Numerals.{add-one}
 use mathlib.Core.Path.{◌≡◌, refl, sym, ap, ◌∙◌}
 use mathlib.Core.Bool.{Bool, true, false, cond}
 use mathlib.Core.List.{List, [], ◌∷◌, ◌++◌, append_assoc, append-nil}

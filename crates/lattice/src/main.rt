@@ -4,7 +4,7 @@
 
 #![tactic(auto)]
 
-use libc::STDOUT_FILENO;
+use std::io;
 use wdf::filter::Wdf;
 use wdf::quantize::Quantized;
 use wdf::tpa::Tpa;
@@ -26,35 +26,36 @@ fn bits(q: Quantized) -> i32 {
     }
 }
 
-fn print(v: i32) {
+fn print(rt: &impl Print, v: i32) -> io::Result<()> {
     let bits = i32_as_u32(v) as u64;
     if bits < 2147483648 {
-        io::print_decimal(STDOUT_FILENO, bits);
+        rt.print(bits)?;
     } else {
-        io::write_all(STDOUT_FILENO, b"-");
-        io::print_decimal(STDOUT_FILENO, 4294967296 - bits);
+        rt.write_all(b"-")?;
+        rt.print(4294967296 - bits)?;
     }
-    io::write_all(STDOUT_FILENO, b"\n");
+    rt.write_all(b"\n")
 }
 
-fn print_sums(ys: &[i32], zs: &[i32]) {
+fn print_sums(rt: &impl Print, ys: &[i32], zs: &[i32]) -> io::Result<()> {
     let mut i: usize = 0;
     while i < ys.len() {
         if zs.len() <= i {
-            return;
+            return Ok(());
         }
-        print(add_i32(ys[i], zs[i]));
+        print(rt, add_i32(ys[i], zs[i]))?;
         i += 1;
     }
+    Ok(())
 }
 
-fn main() {
+fn main(rt: HostRuntime) -> io::Result<()> {
     let real = bits(Tpa::A.quantize(REAL));
     let size = bits(Tpa::D.quantize(PAIR_SIZE));
     let turn = bits(Tpa::A.quantize(PAIR_TURN));
-    print(real);
-    print(size);
-    print(turn);
+    print(&rt, real)?;
+    print(&rt, size)?;
+    print(&rt, turn)?;
     let made = Wdf::new(1, 0xa, [real, 0, 0, 0, 0, 0, 0, 0]);
     let first = made.state;
     let also = Wdf::new(2, 0xad, [size, turn, 0, 0, 0, 0, 0, 0]);
@@ -65,5 +66,5 @@ fn main() {
     let mut zs = [0i32; 48];
     first.block(&xs, &mut ys);
     second.block(&xs, &mut zs);
-    print_sums(&ys, &zs);
+    print_sums(&rt, &ys, &zs)
 }

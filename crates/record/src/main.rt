@@ -1,6 +1,6 @@
 // The recorder's program: records from standard input, answers to standard output (docs/RECORDER.md). What it works out is the
 // libraries' (crates/recorder, crates/desk); here are runs of words as blocks, the answers' text, the reads and the writes. What a read brings is answered before the next read.
-// A read or a write that fails ends the program, and nothing further is written.
+// A read or a write that fails ends the program with its error, and nothing further is written.
 
 #![tactic(auto)]
 
@@ -10,6 +10,8 @@ ghost use Rattle.std.specs.Prelude.{◌<◌};
 
 use crate::parts::{at_most, finish, run};
 use desk::desk::Desk;
+use std::io;
+use std::io::Read;
 use text::writing::put_bytes;
 
 // A desk after a read: how many bytes of a record are left in the buffer, whether to read on, and whether the input is over.
@@ -41,66 +43,86 @@ struct Answered {
     more: bool,
 }
 
-fn answer(d: Desk, part: &[u8], out: &mut [u8]) -> Answered {
+fn answer(rt: &impl Print, d: Desk, part: &[u8], out: &mut [u8]) -> io::Result<Answered> {
     let r = run(d, part, out);
     let w = at_most(r.written, out.len());
-    let written = io::write_all(1, &out[..w]);
+    rt.write_all(&out[..w])?;
     let desk = r.desk;
     let going = desk.going;
-    Answered {
+    Ok(Answered {
         desk,
         next: r.next,
-        more: going && written,
-    }
+        more: going,
+    })
 }
 
 // A part that was read, with nothing left from before. What is left of it goes to the front of `held`.
-fn take_fresh(d: Desk, part: &[u8], held: &mut [u8], out: &mut [u8]) -> Pumped {
+fn take_fresh(
+    rt: &impl Print,
+    d: Desk,
+    part: &[u8],
+    held: &mut [u8],
+    out: &mut [u8],
+) -> io::Result<Pumped> {
     let n = part.len();
-    let a = answer(d, part, out);
+    let a = answer(rt, d, part, out)?;
     let from = at_most(a.next, n);
     let left = put_bytes(held, 0, &part[from..n]);
     let desk = a.desk;
-    Pumped {
+    Ok(Pumped {
         desk,
         left,
         more: a.more,
         over: false,
-    }
+    })
 }
 
 // A part that was read, put behind the bytes that are left in `held`.
-fn take_behind(d: Desk, part: &[u8], held: &mut [u8], left: usize, out: &mut [u8]) -> Pumped {
+fn take_behind(
+    rt: &impl Print,
+    d: Desk,
+    part: &[u8],
+    held: &mut [u8],
+    left: usize,
+    out: &mut [u8],
+) -> io::Result<Pumped> {
     let put = put_bytes(held, left, part);
     let have = at_most(put, held.len());
-    let a = answer(d, &held[..have], out);
+    let a = answer(rt, d, &held[..have], out)?;
     let from = at_most(a.next, have);
     to_front(held, from, have);
     let desk = a.desk;
-    Pumped {
+    Ok(Pumped {
         desk,
         left: have - from,
         more: a.more,
         over: false,
-    }
+    })
 }
 
 // One read, and what it gives out.
-fn pump(d: Desk, fresh: &mut [u8], held: &mut [u8], left: usize, out: &mut [u8]) -> Pumped {
-    let got = libc::read(0, fresh);
-    if got <= 0 {
-        return Pumped {
+fn pump(
+    rt: &impl Print,
+    input: &mut impl Read,
+    d: Desk,
+    fresh: &mut [u8],
+    held: &mut [u8],
+    left: usize,
+    out: &mut [u8],
+) -> io::Result<Pumped> {
+    let n = input.read(fresh)?;
+    if n == 0 {
+        return Ok(Pumped {
             desk: d,
             left,
             more: false,
-            over: got == 0,
-        };
+            over: true,
+        });
     }
-    let n = io::count(got, fresh);
     if left == 0 {
-        return take_fresh(d, &fresh[..n], held, out);
+        return take_fresh(rt, d, &fresh[..n], held, out);
     }
-    take_behind(d, &fresh[..n], held, left, out)
+    take_behind(rt, d, &fresh[..n], held, left, out)
 }
 
 // The turns that are left: none where there is no more to read.
@@ -113,13 +135,19 @@ fn turns_left(turns: u64, more: bool) -> u64
 
 // The whole input, read by read. A proved loop ends, and nothing says that the input does: the turns count down from a
 // number that no input uses up.
-fn record_input(fresh: &mut [u8], held: &mut [u8], out: &mut [u8]) {
+fn record_input(
+    rt: &impl Print,
+    input: &mut impl Read,
+    fresh: &mut [u8],
+    held: &mut [u8],
+    out: &mut [u8],
+) -> io::Result<()> {
     let mut d = Desk::start();
     let mut left: usize = 0;
     let mut over = false;
     let mut turns = u64::MAX;
     while 0 < turns {
-        let p = pump(d, fresh, held, left, out);
+        let p = pump(rt, input, d, fresh, held, left, out)?;
         let next = p.desk;
         d = next;
         left = p.left;
@@ -127,15 +155,15 @@ fn record_input(fresh: &mut [u8], held: &mut [u8], out: &mut [u8]) {
         turns = turns_left(turns, p.more);
     }
     if !over {
-        return;
+        return Ok(());
     }
     let n = at_most(finish(d, left, out), out.len());
-    io::write_all(1, &out[..n]);
+    rt.write_all(&out[..n])
 }
 
-fn main() {
+fn main(rt: HostRuntime) -> io::Result<()> {
     let mut fresh = [0u8; 6138];
     let mut held = [0u8; 8192];
     let mut out = [0u8; 589824];
-    record_input(&mut fresh, &mut held, &mut out);
+    record_input(&rt, &mut rt.stdin(), &mut fresh, &mut held, &mut out)
 }

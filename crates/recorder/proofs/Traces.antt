@@ -1,35 +1,32 @@
 -- The statements of specs/Traces: a run of `take` is a run of the filter's blocks on the words' turns (demands64), and of its outputs those
 -- told 0 are known by their numbers.
-use mathlib.Core.Path.{◌≡◌, refl, sym, ap, ap₂, subst, ◌∙◌}
+use mathlib.Core.Path.{◌≡◌, refl, sym, ap, subst, ◌∙◌}
 use mathlib.Core.Bool.{Bool, true, false, cond}
 use mathlib.Core.List.{List, [], ◌∷◌, ◌++◌}
-use mathlib.Core.Option.{some}
 use Prim.Native.Nat.{ℕ, suc, ◌+◌, ◌-◌, ◌*◌, ◌≤◌, ◌<◌}
 use native.Mathlib.Omega.{arith}
 use lib.Dec.{ltb, leb, eqb}
 use lib.IntN.{ℤ, pos}
 use native.Mathlib.Nat.{mul-le-mul_right}
-use lib.ListN.{length, get_elem?}
+use lib.ListN.{length}
 use borrow.Author.Tests.{ltb-true, ltb-false, lt-leb, le-leb, eq-eqb, ne_eqb}
 use Rattle.blocks.specs.Scan.{ends}
 use Rattle.blocks.specs.declared.Verdict.{Verdict}
-use Rattle.blocks.specs.declared.Verdict.TheVariants as Verdict
 use Rattle.shape.specs.declared.runs.Wrote.{Wrote}
-use Rattle.shape.specs.declared.runs.Wrote.TheVariants as Wrote
 use Rattle.unwrap.specs.Phases.{grown}
 use Rattle.unwrap.specs.declared.unwrapper.Unwrapper.{Unwrapper}
 use Rattle.sums.specs.Calls.{new_number, resume_number, rate_number}
-use Rattle.sums.specs.Counted.{Counted, Numbered, new_counted, resume_counted, rate_counted, block_out}
+use Rattle.sums.specs.Counted.{Numbered, new_counted, resume_counted, rate_counted, block_out}
 use Rattle.sums.specs.Demands.{Decimates}
 use Rattle.cic64.specs.Word.{width, word_ops}
-use Rattle.cic64.specs.Reading.{state_of, counted_of, cic_of}
+use Rattle.cic64.specs.Reading.{state_of, counted_of}
 use Rattle.cic64.specs.Answers.{made_of, decimated_of}
 use Rattle.cic64.specs.declared.state.Cic.{Cic}
 use Rattle.cic64.specs.declared.state.Made.{Made}
 use Rattle.cic64.specs.declared.runs.Decimated.{Decimated}
 use Rattle.demands64.specs.Demands.{took_block, gave_block, Decimating, Decimator}
 use Rattle.demands64.proofs.Demands.{after-new, after_resume, after-set-rate}
-use Rattle.recorder.specs.Calls.{turn_out, turns_from, ready_by, opened, opened_of, pushed_of, rated_of, refused_take, onward, block_took, took_from}
+use Rattle.recorder.specs.Calls.{turn_out, turns_from, ready_by, opened, opened_of, pushed_of, rated_of, refused_take, onward, block_took}
 use Rattle.recorder.specs.Calls.{took_of, out_left}
 use Rattle.recorder.specs.Traces.{Recording, Trace, Traces, AfterOpen, AfterPush, AfterRate}
 use Rattle.recorder.specs.declared.recorder.Recorder.{Recorder}

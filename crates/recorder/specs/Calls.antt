@@ -2,14 +2,12 @@
 use Rattle.std.specs.Prelude.{Bool, true, false, cond, List, ◌++◌, ℕ, ltb, ℤ, pos, length, drop}
 use Rattle.blocks.specs.Verdicts.{verdict_of}
 use Rattle.blocks.specs.declared.Verdict.{Verdict}
-use Rattle.blocks.specs.declared.Verdict.TheVariants as Verdict
 use Rattle.blocks.specs.Scan.{scan, ends}
 use Rattle.unwrap.specs.Phases.{grown}
 use Rattle.unwrap.specs.declared.unwrapper.Unwrapper.{Unwrapper}
 use Rattle.sums.specs.Calls.{new_number, resume_number, rate_number}
 use Rattle.sums.specs.Counted.{Counted, new_counted, resume_counted, rate_counted, block_out}
 use Rattle.shape.specs.declared.runs.Wrote.{Wrote}
-use Rattle.shape.specs.declared.runs.Wrote.TheVariants as Wrote
 use Rattle.cic64.specs.Word.{word_ops}
 use Rattle.cic64.specs.Reading.{state_of, counted_of, cic_of}
 use Rattle.cic64.specs.Answers.{made_of, decimated_of}

@@ -30,7 +30,6 @@ use Rattle.records.specs.Lines.{
 use Rattle.records.proofs.EachLine.{each_line}
 use Rattle.records.specs.Sessions.{width_of}
 use Rattle.records.specs.declared.parse.Name.{Name}
-use Rattle.records.specs.declared.parse.Name.TheVariants as Name
 use Rattle.records.specs.declared.parse.Fault.{Fault}
 use Rattle.records.specs.declared.parse.Record.{Record}
 use Rattle.records.specs.declared.parse.Record.TheVariants.{Open, Rate, Sample, Clear, Bad}

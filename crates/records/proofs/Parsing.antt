@@ -11,7 +11,7 @@ use lib.ListN.{length, take, drop, drop_of_length-le, length-drop}
 use lib.Seq.{drop-cons, get_or-drop}
 use mir.Syntax.{w64}
 use mir.ValLaws.{to_z_pos, to_z-neg}
-use borrow.Author.Tests.{eq-eqb, ne_eqb, le-leb, lt-leb, leb-true, leb-false, ltb-true, ltb-false, eqb-true, eqb-false}
+use borrow.Author.Tests.{eq-eqb, ne_eqb, le-leb, lt-leb, leb-true, leb-false, ltb-true, ltb-false, eqb-true}
 use Rattle.blocks.specs.Blocks.{unless}
 use Rattle.text.specs.Letters.{tab}
 use Rattle.text.specs.Numbers.{number_of, cap, capped}
@@ -22,32 +22,9 @@ use Rattle.text.specs.declared.numbers.Number.{Number}
 use Rattle.text.specs.declared.numbers.Number.TheVariants.{Plus, Minus, Wrong}
 use Rattle.words.specs.Words.{wrap}
 use Rattle.words.proofs.Reading.{word_is}
-use Rattle.records.specs.Lines.{
-  Kind,
-  natural,
-  sample,
-  word_range,
-  range_of,
-  number_number,
-  field_at,
-  size_of,
-  value_of,
-  fault_at,
-  unknown_record,
-  wrong_count,
-  fields_fault,
-  or_else,
-  held_record,
-  name_of,
-  is_known,
-  wanted_of,
-  shaped_of,
-  fields_record,
-  record_of,
-}
+use Rattle.records.specs.Lines.{natural, word_range, number_number, field_at, size_of, value_of, fault_at, unknown_record, wrong_count, fields_fault, or_else, held_record, name_of, is_known, wanted_of, shaped_of, fields_record, record_of}
 use Rattle.records.specs.Inner.Fields.{Reads, natural_of, integer_of, opening_of, opening_fields, rate_of, sample_of}
 use Rattle.records.specs.declared.parse.Name.{Name}
-use Rattle.records.specs.declared.parse.Name.TheVariants as Name
 use Rattle.records.specs.declared.parse.Natural.{Natural}
 use Rattle.records.specs.declared.parse.Integer.{Integer}
 use Rattle.records.specs.declared.parse.Record.{Record}

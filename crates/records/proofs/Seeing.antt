@@ -17,7 +17,6 @@ use Rattle.words.proofs.Sums.{wrap-add, wrap-sub}
 use Rattle.blocks.specs.Blocks.{unless}
 use Rattle.blocks.specs.Verdicts.{verdict_of}
 use Rattle.blocks.specs.declared.Verdict.{Verdict}
-use Rattle.blocks.specs.declared.Verdict.TheVariants as Verdict
 use Rattle.sums.specs.Ops.{Ops}
 use Rattle.sums.specs.Signed.{signed_ops}
 use Rattle.sums.specs.Machine.{
@@ -41,7 +40,7 @@ use Rattle.sums.proofs.Carried.{nil_in}
 use Rattle.cic64.specs.Word.{word_ops}
 use Rattle.cic64.specs.Reading.{cic_of, counted_of}
 use Rattle.records.specs.Lines.{record_of}
-use Rattle.records.specs.Sessions.{width_of, own_words, kept_words, refuse, told_by, ordered, sampled, stepping, take_of, line_of}
+use Rattle.records.specs.Sessions.{width_of, own_words, kept_words, told_by, ordered, sampled, stepping, take_of, line_of}
 use Rattle.records.proofs.Holding.{Holds, line_holds}
 use Rattle.records.specs.Seen.{through_state, through, seen, seen_taken, InItsWord}
 use Rattle.records.specs.declared.parse.Record.{Record}

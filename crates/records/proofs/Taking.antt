@@ -20,7 +20,6 @@ use Rattle.cic64.specs.declared.state.Cic.{Cic}
 use Rattle.cic64.specs.declared.state.Made.{Made}
 use Rattle.lent64.specs.declared.steps.Output as answer
 use Rattle.lent64.specs.declared.steps.Out.{Out}
-use Rattle.lent64.specs.declared.steps.Out.TheVariants as Out
 use Rattle.cic64.specs.declared.steps.Stepped.{Stepped}
 use Rattle.records.specs.Lines.{record_of}
 use Rattle.records.specs.Sessions.{
@@ -38,7 +37,6 @@ use Rattle.records.specs.Sessions.{
 use Rattle.records.specs.declared.parse.Record.{Record}
 use Rattle.records.specs.declared.session.Session.{Session}
 use Rattle.records.specs.declared.session.Reply.{Reply}
-use Rattle.records.specs.declared.session.Reply.TheVariants as Reply
 use Rattle.records.specs.declared.session.Taken.{Taken}
 
 -- what the code reads

@@ -1,6 +1,6 @@
 -- A number's judgement is 0, 75 or 76, and the first that isn't 0 is told with its place; a line's answer goes by its record.
 use native.Mathlib.Omega.{arith}
-use mathlib.Core.Path.{◌≡◌, refl, sym, ap, ◌∙◌}
+use mathlib.Core.Path.{◌≡◌, refl}
 use mathlib.Core.Bool.{Bool, true, false, cond, ◌||◌}
 use mathlib.Core.List.{List, [], ◌∷◌}
 use mathlib.Core.Option.{Option, none, some}
@@ -46,13 +46,11 @@ use Rattle.records.specs.Sessions.{refuse, ordered, sampled, filter_of, making, 
 use Rattle.records.specs.Told.{Tells, unopened, long, unknown, miscounted, malformed, outside, parameter, LineTold, NoSeventy}
 use Rattle.records.proofs.EachLine.{each_line}
 use Rattle.records.specs.declared.parse.Name.{Name}
-use Rattle.records.specs.declared.parse.Name.TheVariants as Name
 use Rattle.records.specs.declared.parse.Fault.{Fault}
 use Rattle.records.specs.declared.parse.Record.{Record}
 use Rattle.records.specs.declared.parse.Record.TheVariants.{Open, Rate, Sample, Clear, Bad}
 use Rattle.records.specs.declared.session.Session.{Session}
 use Rattle.records.specs.declared.session.Reply.{Reply}
-use Rattle.records.specs.declared.session.Reply.TheVariants as Reply
 use Rattle.records.specs.declared.session.Taken.{Taken}
 
 -- a fault is told unless it is none

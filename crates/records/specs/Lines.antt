@@ -11,7 +11,6 @@ use Rattle.text.specs.Same.{same}
 use Rattle.text.specs.declared.numbers.Number.{Number}
 use Rattle.text.specs.declared.numbers.Number.TheVariants.{Plus, Minus, Wrong}
 use Rattle.records.specs.declared.parse.Name.{Name}
-use Rattle.records.specs.declared.parse.Name.TheVariants as Name
 use Rattle.records.specs.declared.parse.Fault.{Fault}
 use Rattle.records.specs.declared.parse.Record.{Record}
 use Rattle.records.specs.declared.parse.Record.TheVariants.{Open, Rate, Sample, Clear, Bad}

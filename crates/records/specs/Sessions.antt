@@ -11,7 +11,6 @@ use Rattle.sums.specs.Calls.{new_number, rate_number}
 use Rattle.sums.specs.Counted.{Counted, Numbered, take_number, new_counted, rate_counted, clear_counted, take_state, take_given}
 use Rattle.blocks.specs.Verdicts.{verdict_of}
 use Rattle.blocks.specs.declared.Verdict.{Verdict}
-use Rattle.blocks.specs.declared.Verdict.TheVariants as Verdict
 use Rattle.cic64.specs.Word.{word_ops}
 use Rattle.cic64.specs.Reading.{counted_of, cic_of}
 use Rattle.cic64.specs.Answers.{answer_output}
@@ -23,7 +22,6 @@ use Rattle.records.specs.declared.parse.Record.{Record}
 use Rattle.records.specs.declared.parse.Record.TheVariants.{Open, Rate, Sample, Clear, Bad}
 use Rattle.records.specs.declared.session.Session.{Session}
 use Rattle.records.specs.declared.session.Reply.{Reply}
-use Rattle.records.specs.declared.session.Reply.TheVariants as Reply
 use Rattle.records.specs.declared.session.Taken.{Taken}
 
 -- The word of `cic64` (true), or of `cic` and of a replay that no record has opened yet: i64 or i32.

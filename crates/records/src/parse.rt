@@ -69,6 +69,7 @@ pub struct Cell {
     pub end: usize,
 }
 
+#[tactic(auto, unfolding(crate::specs::Lines::name_of))]
 fn named(name: &[u8]) -> Name
     ensures { result ≡ name_of name.now }
 {

@@ -5,79 +5,79 @@ use biquad::biquad::Biquad;
 use biquad::pair::Pair;
 use cic::questions::{Fitting, Told};
 use cic::state::Cic;
+use std::io;
 use unwrap::scale::{Scaled, saturating_scale};
 
-fn scaled(hi: i32) {
-    text(b"shift 31, lo 0, hi ");
-    signed(hi);
+fn scaled(rt: &impl Print, hi: i32) -> io::Result<()> {
+    text(rt, b"shift 31, lo 0, hi ")?;
+    signed(rt, hi)?;
     match saturating_scale(0, hi, 31) {
         Scaled::Value(v) => {
-            text(b" gives ");
-            signed(v);
+            text(rt, b" gives ")?;
+            signed(rt, v)?;
         }
         Scaled::Refused(n) => {
-            text(b" is ");
-            number(n as u64);
+            text(rt, b" is ")?;
+            number(rt, n as u64)?;
         }
     }
-    text(b"\n");
+    text(rt, b"\n")
 }
 
 // A double under its name where it is the one named, else a question mark.
-fn double(x: f64, named: f64, name: &[u8]) {
+fn double(rt: &impl Print, x: f64, named: f64, name: &[u8]) -> io::Result<()> {
     if x == named {
-        text(name);
-        return;
+        return text(rt, name);
     }
-    text(b"?");
+    text(rt, b"?")
 }
 
-fn coefficients() {
+fn coefficients(rt: &impl Print) -> io::Result<()> {
     let c = Biquad::from_zpk(Pair::Real(2.0, 3.0), Pair::Complex(0.5, 0.5), 2.0);
-    text(b"zeros Real 2, 3, poles Complex 0.5, 0.5, gain 2 give ");
-    double(c.b0, 2.0, b"2, ");
-    double(c.b1, -10.0, b"-10, ");
-    double(c.b2, 12.0, b"12, ");
-    double(c.a1, 1.0, b"1, ");
-    double(c.a2, -0.5, b"-0.5\n");
+    text(rt, b"zeros Real 2, 3, poles Complex 0.5, 0.5, gain 2 give ")?;
+    double(rt, c.b0, 2.0, b"2, ")?;
+    double(rt, c.b1, -10.0, b"-10, ")?;
+    double(rt, c.b2, 12.0, b"12, ")?;
+    double(rt, c.a1, 1.0, b"1, ")?;
+    double(rt, c.a2, -0.5, b"-0.5\n")
 }
 
-fn told(t: Told) {
+fn told(rt: &impl Print, t: Told) -> io::Result<()> {
     match t {
-        Told::Number(n) => number(n),
+        Told::Number(n) => number(rt, n)?,
         Told::Refused(n) => {
-            text(b"refusal ");
-            number(n as u64);
+            text(rt, b"refusal ")?;
+            number(rt, n as u64)?;
         }
     }
+    Ok(())
 }
 
-fn answer(yes: bool) {
+fn answer(rt: &impl Print, yes: bool) -> io::Result<()> {
     if yes {
-        text(b"yes");
-        return;
+        return text(rt, b"yes");
     }
-    text(b"no");
+    text(rt, b"no")
 }
 
-fn fit() {
+fn fit(rt: &impl Print) -> io::Result<()> {
     let made = Cic::new(3, 1, 4);
     let filter = made.state;
-    text(b"b 25, N 3, M 1, rate 4: gain ");
-    told(filter.gain());
-    text(b", gain_log2 ");
-    told(filter.gain_log2());
-    text(b", fit ");
+    text(rt, b"b 25, N 3, M 1, rate 4: gain ")?;
+    told(rt, filter.gain())?;
+    text(rt, b", gain_log2 ")?;
+    told(rt, filter.gain_log2())?;
+    text(rt, b", fit ")?;
     match filter.fit(32, 25) {
-        Fitting::Fits(yes) => answer(yes),
-        Fitting::Refused(_) => text(b"refused"),
+        Fitting::Fits(yes) => answer(rt, yes)?,
+        Fitting::Refused(_) => text(rt, b"refused")?,
     }
-    text(b"\n");
+    text(rt, b"\n")
 }
 
-pub(crate) fn print_all() {
-    scaled(1073741823);
-    scaled(1073741824);
-    coefficients();
-    fit();
+pub(crate) fn print_all(rt: &impl Print) -> io::Result<()> {
+    scaled(rt, 1073741823)?;
+    scaled(rt, 1073741824)?;
+    coefficients(rt)?;
+    fit(rt)
 }

@@ -3,6 +3,7 @@ use crate::print::row;
 use biquad_fixed::coefficients::{Answer, Biquad, BiquadClamp};
 use biquad_fixed::dither::DirectForm1Dither;
 use biquad_fixed::wide::DirectForm1Wide;
+use std::io;
 
 fn coefficients(f: u32) -> Biquad {
     Biquad {
@@ -63,14 +64,15 @@ fn clamped(min: i32, max: i32) -> u32 {
     refused(out)
 }
 
-pub(crate) fn print_all() {
-    row(b"wide, F 32", wide(32), b"F 31", wide(31));
-    row(b"dither, F 0", dither(0), b"F 1", dither(1));
-    row(b"dither, F 32", dither(32), b"F 31", dither(31));
+pub(crate) fn print_all(rt: &impl Print) -> io::Result<()> {
+    row(rt, b"wide, F 32", wide(32), b"F 31", wide(31))?;
+    row(rt, b"dither, F 0", dither(0), b"F 1", dither(1))?;
+    row(rt, b"dither, F 32", dither(32), b"F 31", dither(31))?;
     row(
+        rt,
         b"dither, lower limit 1 above upper 0",
         clamped(1, 0),
         b"1 and 1",
         clamped(1, 1),
-    );
+    )
 }

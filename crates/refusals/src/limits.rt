@@ -3,6 +3,7 @@ use crate::print::row;
 use biquad::biquad::Biquad;
 use biquad::biquad_clamp::{Answer, BiquadClamp};
 use biquad::direct_form1::DirectForm1;
+use std::io;
 
 fn clamped(min: f64, max: f64) -> u32 {
     let mut c = BiquadClamp::from(Biquad::IDENTITY);
@@ -25,23 +26,26 @@ fn input_offset(gain: f64) -> u32 {
     }
 }
 
-pub(crate) fn print_all() {
+pub(crate) fn print_all(rt: &impl Print) -> io::Result<()> {
     row(
+        rt,
         b"lower limit 1 above upper 0",
         clamped(1.0, 0.0),
         b"1 and 1",
         clamped(1.0, 1.0),
-    );
+    )?;
     row(
+        rt,
         b"a NaN for lower limit",
         clamped(0.0 / 0.0, 1.0),
         b"0",
         clamped(0.0, 1.0),
-    );
+    )?;
     row(
+        rt,
         b"input_offset at gain 0",
         input_offset(0.0),
         b"at gain 1",
         input_offset(1.0),
-    );
+    )
 }

@@ -15,16 +15,18 @@ mod states;
 mod waves;
 mod wide;
 
-fn main() {
-    figures::print_all();
-    states::print_all();
-    wide::print_all();
-    counts::print_all();
-    modulator::print_all();
-    fractions::print_all();
-    limits::print_all();
-    sections::print_all();
-    sections::print_block();
-    lines::print_all();
-    waves::print_all();
+use std::io;
+
+fn main(rt: HostRuntime) -> io::Result<()> {
+    figures::print_all(&rt)?;
+    states::print_all(&rt)?;
+    wide::print_all(&rt)?;
+    counts::print_all(&rt)?;
+    modulator::print_all(&rt)?;
+    fractions::print_all(&rt)?;
+    limits::print_all(&rt)?;
+    sections::print_all(&rt)?;
+    sections::print_block(&rt)?;
+    lines::print_all(&rt)?;
+    waves::print_all(&rt)
 }

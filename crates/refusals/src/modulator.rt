@@ -1,6 +1,7 @@
 // Numbers 30 to 32: the modulator's order, a one-to-one block's slices, and retained cells.
 use crate::print::{refusal, row};
 use dsm::{Dsm, Output};
+use std::io;
 
 fn new(order: usize) -> u32 {
     let made = Dsm::new(order);
@@ -31,17 +32,24 @@ fn retained(cell: i16) -> u32 {
     }
 }
 
-pub(crate) fn print_all() {
+pub(crate) fn print_all(rt: &impl Print) -> io::Result<()> {
     let xs = [1u32, 2, 3];
     let mut two = [0i16; 2];
     let mut three = [0i16; 3];
-    row(b"modulator of order 9", new(9), b"of order 8", new(8));
+    row(rt, b"modulator of order 9", new(9), b"of order 8", new(8))?;
     row(
+        rt,
         b"a block of 3 into 2",
         block(&xs, &mut two),
         b"into 3",
         block(&xs, &mut three),
-    );
-    row(b"retained 2 in cell 0", retained(2), b"1", retained(1));
-    row(b"retained -1 in cell 0", retained(-1), b"0", retained(0));
+    )?;
+    row(rt, b"retained 2 in cell 0", retained(2), b"1", retained(1))?;
+    row(
+        rt,
+        b"retained -1 in cell 0",
+        retained(-1),
+        b"0",
+        retained(0),
+    )
 }

@@ -1,24 +1,23 @@
 // Lines of the table.
 use blocks::Verdict;
-use libc::STDOUT_FILENO;
+use std::io;
 use words::casts::i32_as_u32;
 
-pub(crate) fn text(s: &[u8]) {
-    io::write_all(STDOUT_FILENO, s);
+pub(crate) fn text(rt: &impl Print, s: &[u8]) -> io::Result<()> {
+    rt.write_all(s)
 }
 
-pub(crate) fn number(n: u64) {
-    io::print_decimal(STDOUT_FILENO, n);
+pub(crate) fn number(rt: &impl Print, n: u64) -> io::Result<()> {
+    rt.print(n)
 }
 
-pub(crate) fn signed(v: i32) {
+pub(crate) fn signed(rt: &impl Print, v: i32) -> io::Result<()> {
     let bits = i32_as_u32(v) as u64;
     if bits < 2147483648 {
-        number(bits);
-        return;
+        return number(rt, bits);
     }
-    text(b"-");
-    number(4294967296 - bits);
+    text(rt, b"-")?;
+    number(rt, 4294967296 - bits)
 }
 
 // The number of a verdict, 0 for none.
@@ -29,20 +28,25 @@ pub(crate) fn refusal(v: Verdict) -> u32 {
     }
 }
 
-fn outcome(call: &[u8], refused: u32) {
-    text(call);
+fn outcome(rt: &impl Print, call: &[u8], refused: u32) -> io::Result<()> {
+    text(rt, call)?;
     if refused == 0 {
-        text(b" is accepted");
-        return;
+        return text(rt, b" is accepted");
     }
-    text(b" is ");
-    number(refused as u64);
+    text(rt, b" is ")?;
+    number(rt, refused as u64)
 }
 
 // A call and its refusal, 0 for none, then a neighbour and its.
-pub(crate) fn row(call: &[u8], refused: u32, neighbour: &[u8], other: u32) {
-    outcome(call, refused);
-    text(b", ");
-    outcome(neighbour, other);
-    text(b"\n");
+pub(crate) fn row(
+    rt: &impl Print,
+    call: &[u8],
+    refused: u32,
+    neighbour: &[u8],
+    other: u32,
+) -> io::Result<()> {
+    outcome(rt, call, refused)?;
+    text(rt, b", ")?;
+    outcome(rt, neighbour, other)?;
+    text(rt, b"\n")
 }

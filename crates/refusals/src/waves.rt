@@ -1,5 +1,6 @@
 // Numbers 90 and 91, and 20 of the WAV calls.
 use crate::print::{refusal, row};
+use std::io;
 use wav::header::{Head, read_header, write_header};
 use wav::samples::{read_part, write_part};
 
@@ -33,46 +34,63 @@ fn sample(x: i32) -> u32 {
     refusal(verdict)
 }
 
-fn print_headers() {
+fn print_headers(rt: &impl Print) -> io::Result<()> {
     row(
+        rt,
         b"rate 2147483648 in a header",
         asked(2147483648, 0),
         b"2147483647",
         asked(2147483647, 0),
-    );
+    )?;
     row(
+        rt,
         b"data of 3 bytes in a header",
         asked(1, 3),
         b"of 4",
         asked(1, 4),
-    );
+    )?;
     row(
+        rt,
         b"data of 2147483002 bytes in a header",
         asked(1, 2147483002),
         b"of 2147483000",
         asked(1, 2147483000),
-    );
+    )?;
     row(
+        rt,
         b"data of 4 bytes in a file of 49",
         told(49),
         b"of 48",
         told(48),
-    );
+    )
 }
 
-fn print_parts() {
-    row(b"a part of 3 bytes", part(b"abc"), b"of 4", part(b"abcd"));
+fn print_parts(rt: &impl Print) -> io::Result<()> {
     row(
+        rt,
+        b"a part of 3 bytes",
+        part(b"abc"),
+        b"of 4",
+        part(b"abcd"),
+    )?;
+    row(
+        rt,
         b"a part of 6 bytes into 2 samples",
         part(b"abcdef"),
         b"of 4",
         part(b"abcd"),
-    );
-    row(b"sample 32768", sample(32768), b"32767", sample(32767));
-    row(b"sample -32769", sample(-32769), b"-32768", sample(-32768));
+    )?;
+    row(rt, b"sample 32768", sample(32768), b"32767", sample(32767))?;
+    row(
+        rt,
+        b"sample -32769",
+        sample(-32769),
+        b"-32768",
+        sample(-32768),
+    )
 }
 
-pub(crate) fn print_all() {
-    print_headers();
-    print_parts();
+pub(crate) fn print_all(rt: &impl Print) -> io::Result<()> {
+    print_headers(rt)?;
+    print_parts(rt)
 }

@@ -6,59 +6,44 @@
 //
 // Of a longer input the first 16,384 bytes are taken: line 66 ends within the first 10,471 or is too long, and no line
 // behind it is looked at. `checked`, `copied` and `move_answer` of specs/Answers say what is written; here are the reads
-// and the writes. A read that fails ends the program with nothing written.
+// and the writes. A read that fails ends the program with its error and nothing written.
 
 #![tactic(auto)]
 
 mod answers;
 
-ghost use Rattle.std.specs.Prelude.{◌≤◌, ◌<◌, length};
+ghost use Rattle.std.specs.Prelude.{◌≤◌, ◌<◌, length, IfOk};
 
 use answers::{put_back, put_checked, put_copied, put_forth};
-use libc::{STDERR_FILENO, STDIN_FILENO, STDOUT_FILENO};
+use std::env::FillError;
+use std::io;
+use std::io::Read;
+use std::rt::Env;
 use text::comparing::same_bytes;
 
-// How much of the text was taken, whether to read on, and whether a read failed.
+// How much of the text was taken, and whether to read on.
 #[derive(Drop)]
 struct Taken {
     len: usize,
     more: bool,
-    failed: bool,
 }
 
 // One read behind the first `len` bytes.
-fn take_some(text: &mut [u8], len: usize) -> Taken
-    ensures { result.len ≤ length text.new }
+fn take_some(input: &mut impl Read, text: &mut [u8], len: usize) -> io::Result<Taken>
+    ensures { IfOk result (λ taken. taken.len ≤ length text.new) }
 {
     if text.len() <= len {
-        return Taken {
+        return Ok(Taken {
             len: text.len(),
             more: false,
-            failed: false,
-        };
+        });
     }
-    let got = libc::read(STDIN_FILENO, &mut text[len..]);
-    if got < 0 {
-        return Taken {
-            len: 0,
-            more: false,
-            failed: true,
-        };
-    }
-    let n = io::count(got, text);
-    if text.len() - len < n {
-        return Taken {
-            len: 0,
-            more: false,
-            failed: true,
-        };
-    }
+    let n = input.read(&mut text[len..])?;
     let next = len + n;
-    Taken {
+    Ok(Taken {
         len: next,
         more: 0 < n,
-        failed: false,
-    }
+    })
 }
 
 // The turns that are left: none where there is no more to read.
@@ -71,23 +56,17 @@ fn turns_left(turns: u64, more: bool) -> u64
 
 // The input, read by read. A proved loop ends, and nothing says that the input does: the turns count down from a number
 // that no input uses up.
-fn take_all(text: &mut [u8]) -> Taken
-    ensures { result.len ≤ length text.new }
+fn take_all(input: &mut impl Read, text: &mut [u8]) -> io::Result<Taken>
+    ensures { IfOk result (λ taken. taken.len ≤ length text.new) }
 {
     let mut len: usize = 0;
-    let mut failed = false;
     let mut turns = u64::MAX;
     while 0 < turns {
-        let t = take_some(text, len);
+        let t = take_some(input, text, len)?;
         len = t.len;
-        failed = t.failed;
         turns = turns_left(turns, t.more);
     }
-    Taken {
-        len,
-        more: false,
-        failed,
-    }
+    Ok(Taken { len, more: false })
 }
 
 // What the first argument asks for.
@@ -100,12 +79,13 @@ enum Asked {
     Unknown,
 }
 
-fn first_argument() -> Asked {
-    if os::arg_count() < 2 {
-        return Asked::Check;
-    }
+fn first_argument(rt: &impl Env) -> Asked {
     let mut word = [0u8; 8];
-    let n = os::arg(1, &mut word);
+    let n = match rt.arg(1, &mut word) {
+        Ok(n) => n,
+        Err(FillError::NotPresent) => return Asked::Check,
+        Err(FillError::TooLong) => return Asked::Unknown,
+    };
     if same_bytes(&word[..n], b"check") {
         return Asked::Check;
     }
@@ -122,43 +102,40 @@ fn first_argument() -> Asked {
 }
 
 // Writes what is asked for.
-fn answer(question: Asked, text: &[u8], out: &mut [u8])
+fn answer(
+    rt: &(impl Print + Eprint),
+    question: Asked,
+    text: &[u8],
+    out: &mut [u8],
+) -> io::Result<()>
     requires { (36 ≤ length out.old) × (length text.now ≤ length out.old) }
 {
     match question {
         Asked::Check => {
             let n = put_checked(text, out);
-            io::write_all(STDOUT_FILENO, &out[..n]);
+            rt.write_all(&out[..n])
         }
         Asked::Copy => {
             let n = put_copied(text, out);
-            io::write_all(STDOUT_FILENO, &out[..n]);
+            rt.write_all(&out[..n])
         }
         Asked::Forth => {
             let n = put_forth(text, out);
-            io::write_all(STDOUT_FILENO, &out[..n]);
+            rt.write_all(&out[..n])
         }
         Asked::Back => {
             let n = put_back(text, out);
-            io::write_all(STDOUT_FILENO, &out[..n]);
+            rt.write_all(&out[..n])
         }
-        Asked::Unknown => {
-            io::write_all(
-                STDERR_FILENO,
-                b"settings, settings check, copy, forth or back\n",
-            );
-        }
+        Asked::Unknown => eprintln!(rt; "settings, settings check, copy, forth or back"),
     }
 }
 
-fn main() {
+fn main(rt: HostRuntime) -> io::Result<()> {
     let mut text = [0u8; 16384];
     let mut out = [0u8; 16384];
-    let question = first_argument();
-    let t = take_all(&mut text);
-    if t.failed {
-        return;
-    }
+    let question = first_argument(&rt);
+    let t = take_all(&mut rt.stdin(), &mut text)?;
     let len = t.len;
-    answer(question, &text[..len], &mut out);
+    answer(&rt, question, &text[..len], &mut out)
 }

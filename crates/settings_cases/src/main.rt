@@ -6,57 +6,60 @@
 
 #![tactic(auto)]
 
-ghost use Rattle.std.specs.Prelude.{◌<◌, length};
+ghost use Rattle.std.specs.Prelude.{◌≡◌, ◌≤◌, ◌<◌, length, IfOk};
 
 use entries::settings::{Entry, Kind, Name, Settings};
-use libc::{STDIN_FILENO, STDOUT_FILENO};
 use settings_text::version::Version;
+use std::io;
+use std::io::Read;
 use store::moving::{Move, move_back, move_forth};
 use store_read::reading::{form_of, read_store};
 use store_write::saving::{Written, write_store};
 use text::comparing::same_bytes;
 use text::parts::part_end;
 
-fn print(bytes: &[u8]) {
-    io::write_all(STDOUT_FILENO, bytes);
+fn print(rt: &impl Print, bytes: &[u8]) -> io::Result<()> {
+    rt.write_all(bytes)
 }
 
-fn print_number(n: u64) {
-    io::print_decimal(STDOUT_FILENO, n);
+fn print_number(rt: &impl Print, n: u64) -> io::Result<()> {
+    rt.print(n)
 }
 
-fn print_bad(line: usize, number: u32) {
-    print(b"\tbad\t");
-    print_number(line as u64);
-    print(b"\t");
-    print_number(number as u64);
-    print(b"\n");
+fn print_bad(rt: &impl Print, line: usize, number: u32) -> io::Result<()> {
+    print(rt, b"\tbad\t")?;
+    print_number(rt, line as u64)?;
+    print(rt, b"\t")?;
+    print_number(rt, number as u64)?;
+    print(rt, b"\n")
 }
 
-fn print_bytes(n: usize) {
-    print(b"\twritten\t");
-    print_number(n as u64);
-    print(b"\n");
+fn print_bytes(rt: &impl Print, n: usize) -> io::Result<()> {
+    print(rt, b"\twritten\t")?;
+    print_number(rt, n as u64)?;
+    print(rt, b"\n")
 }
 
 // What writing answers.
-fn print_written(w: Written) {
+fn print_written(rt: &impl Print, w: Written) -> io::Result<()> {
     match w {
-        Written::Bytes(n) => print_bytes(n),
+        Written::Bytes(n) => print_bytes(rt, n)?,
         Written::Refused(n) => {
-            print(b"\tbad\t");
-            print_number(n as u64);
-            print(b"\n");
+            print(rt, b"\tbad\t")?;
+            print_number(rt, n as u64)?;
+            print(rt, b"\n")?;
         }
     }
+    Ok(())
 }
 
 // What a move answers.
-fn print_moved(m: Move) {
+fn print_moved(rt: &impl Print, m: Move) -> io::Result<()> {
     match m {
-        Move::Bytes(n) => print_bytes(n),
-        Move::Refused(line, number) => print_bad(line, number),
+        Move::Bytes(n) => print_bytes(rt, n)?,
+        Move::Refused(line, number) => print_bad(rt, line, number)?,
     }
+    Ok(())
 }
 
 // Whether the settings are written as the bytes that they were read from.
@@ -98,83 +101,86 @@ fn returns(text: &[u8], there: &mut [u8], out: &mut [u8]) -> bool {
     }
 }
 
-fn print_form(version: Version) {
+fn print_form(rt: &impl Print, version: Version) -> io::Result<()> {
     match version {
-        Version::One => print(b"\tok\t1\t"),
-        Version::Two => print(b"\tok\t2\t"),
+        Version::One => print(rt, b"\tok\t1\t")?,
+        Version::Two => print(rt, b"\tok\t2\t")?,
     }
+    Ok(())
 }
 
 // Whether the text could be read in the form.
-fn show_read(version: Version, name: &[u8], text: &[u8]) -> bool {
-    print(name);
+fn show_read(rt: &impl Print, version: Version, name: &[u8], text: &[u8]) -> io::Result<bool> {
+    print(rt, name)?;
     let read = read_store(version, text);
     let number = read.number;
     if number != 0 {
-        print_bad(read.line, number);
-        return false;
+        print_bad(rt, read.line, number)?;
+        return Ok(false);
     }
     let settings = read.settings;
-    print_form(version);
-    print_number(settings.count as u64);
-    print(b"\n");
+    print_form(rt, version)?;
+    print_number(rt, settings.count as u64)?;
+    print(rt, b"\n")?;
     let mut out = [0u8; 10310];
     if !comes_back(version, settings, text, &mut out) {
-        print(b"not written as it was read\n");
+        print(rt, b"not written as it was read\n")?;
     }
-    true
+    Ok(true)
 }
 
-fn show_back(name: &[u8], text: &[u8]) {
-    print(name);
-    print(b", back");
+fn show_back(rt: &impl Print, name: &[u8], text: &[u8]) -> io::Result<()> {
+    print(rt, name)?;
+    print(rt, b", back")?;
     let mut out = [0u8; 10310];
-    print_moved(move_back(text, &mut out));
+    print_moved(rt, move_back(text, &mut out))
 }
 
-fn show_return(name: &[u8], text: &[u8]) {
+fn show_return(rt: &impl Print, name: &[u8], text: &[u8]) -> io::Result<()> {
     let mut there = [0u8; 10310];
     let mut out = [0u8; 10310];
     if !returns(text, &mut there, &mut out) {
-        print(name);
-        print(b"\tother bytes forth and back\n");
+        print(rt, name)?;
+        print(rt, b"\tother bytes forth and back\n")?;
     }
+    Ok(())
 }
 
-fn show(name: &[u8], text: &[u8]) {
-    if show_read(Version::One, name, text) {
-        show_return(name, text);
+fn show(rt: &impl Print, name: &[u8], text: &[u8]) -> io::Result<()> {
+    if show_read(rt, Version::One, name, text)? {
+        show_return(rt, name, text)?;
     }
     let Version::Two = form_of(text) else {
-        return;
+        return Ok(());
     };
-    show_read(Version::Two, name, text);
-    show_back(name, text);
+    show_read(rt, Version::Two, name, text)?;
+    show_back(rt, name, text)
 }
 
 // The case at a place of a file, and the place of the next; the file's end where no whole case is left.
-fn show_next(file: &[u8], at: usize) -> usize
+fn show_next(rt: &impl Print, file: &[u8], at: usize) -> io::Result<usize>
     requires { at < length file.now }
-    ensures { at < result }
+    ensures { IfOk result (λ next. at < next) }
 {
     let e = part_end(file, at, b'#');
     if file.len() <= e {
-        return file.len();
+        return Ok(file.len());
     }
     let from = e + 1;
     let end = part_end(file, from, b'#');
     if file.len() <= end {
-        return file.len();
+        return Ok(file.len());
     }
-    show(&file[at..e], &file[from..end]);
-    end + 1
+    show(rt, &file[at..e], &file[from..end])?;
+    Ok(end + 1)
 }
 
-fn show_all(file: &[u8]) {
+fn show_all(rt: &impl Print, file: &[u8]) -> io::Result<()> {
     let mut at: usize = 0;
     while at < file.len() {
-        at = show_next(file, at);
+        at = show_next(rt, file, at)?;
     }
+    Ok(())
 }
 
 fn named(bytes: [u8; 16], len: usize, kind: Kind) -> Entry {
@@ -184,32 +190,50 @@ fn named(bytes: [u8; 16], len: usize, kind: Kind) -> Entry {
 }
 
 // A list whose entries are all the same, written into the first bytes of a slice.
-fn write_into(version: Version, settings: Settings, out: &mut [u8], room: usize) {
+fn write_into(
+    rt: &impl Print,
+    version: Version,
+    settings: Settings,
+    out: &mut [u8],
+    room: usize,
+) -> io::Result<()> {
     if out.len() < room {
-        return;
+        return Ok(());
     }
-    print_written(write_store(version, settings, &mut out[..room]));
+    print_written(rt, write_store(version, settings, &mut out[..room]))
 }
 
-fn write_list_in(version: Version, count: usize, entry: Entry, room: usize) {
+fn write_list_in(
+    rt: &impl Print,
+    version: Version,
+    count: usize,
+    entry: Entry,
+    room: usize,
+) -> io::Result<()> {
     let entries = [entry; 64];
     let settings = Settings { count, entries };
     let mut out = [0u8; 200];
-    write_into(version, settings, &mut out, room);
+    write_into(rt, version, settings, &mut out, room)
 }
 
-fn write_list(count: usize, entry: Entry, room: usize) {
-    write_list_in(Version::One, count, entry, room);
+fn write_list(rt: &impl Print, count: usize, entry: Entry, room: usize) -> io::Result<()> {
+    write_list_in(rt, Version::One, count, entry, room)
 }
 
-fn write_wdf2(sections: usize, architecture: u32) {
+fn write_wdf2(rt: &impl Print, sections: usize, architecture: u32) -> io::Result<()> {
     let entry = named(*b"abcaaaaaaaaaaaaa", 3, Kind::Wdf(sections, architecture));
-    write_list_in(Version::Two, 1, entry, 200);
+    write_list_in(rt, Version::Two, 1, entry, 200)
 }
 
-fn write_case(case: &[u8], count: usize, first: Entry, room: usize) {
-    print(case);
-    write_list(count, first, room);
+fn write_case(
+    rt: &impl Print,
+    case: &[u8],
+    count: usize,
+    first: Entry,
+    room: usize,
+) -> io::Result<()> {
+    print(rt, case)?;
+    write_list(rt, count, first, room)
 }
 
 // A record of the name 'abc'.
@@ -217,118 +241,136 @@ fn abc(kind: Kind) -> Entry {
     named(*b"abcaaaaaaaaaaaaa", 3, kind)
 }
 
-fn write_counts() {
+fn write_counts(rt: &impl Print) -> io::Result<()> {
     let cic = abc(Kind::Cic(3, 1, 63));
-    write_case(b"empty list", 0, cic, 200);
-    write_case(b"empty list, short slice", 0, cic, 5);
-    write_case(b"one record", 1, cic, 21);
-    write_case(b"one record, short slice", 1, cic, 20);
+    write_case(rt, b"empty list", 0, cic, 200)?;
+    write_case(rt, b"empty list, short slice", 0, cic, 5)?;
+    write_case(rt, b"one record", 1, cic, 21)?;
+    write_case(rt, b"one record, short slice", 1, cic, 20)
 }
 
-fn write_name(case: &[u8], name: [u8; 16], length: usize) {
-    write_case(case, 1, named(name, length, Kind::Cic(3, 1, 63)), 200);
+fn write_name(rt: &impl Print, case: &[u8], name: [u8; 16], length: usize) -> io::Result<()> {
+    write_case(rt, case, 1, named(name, length, Kind::Cic(3, 1, 63)), 200)
 }
 
-fn write_names() {
-    write_name(b"no name", *b"abcaaaaaaaaaaaaa", 0);
-    write_name(b"name of 17", *b"abcaaaaaaaaaaaaa", 17);
-    write_name(b"capital in a name", *b"aBcaaaaaaaaaaaaa", 3);
-    write_name(b"capital behind a name", *b"abcDaaaaaaaaaaaa", 3);
+fn write_names(rt: &impl Print) -> io::Result<()> {
+    write_name(rt, b"no name", *b"abcaaaaaaaaaaaaa", 0)?;
+    write_name(rt, b"name of 17", *b"abcaaaaaaaaaaaaa", 17)?;
+    write_name(rt, b"capital in a name", *b"aBcaaaaaaaaaaaaa", 3)?;
+    write_name(rt, b"capital behind a name", *b"abcDaaaaaaaaaaaa", 3)
 }
 
-fn write_twice() {
+fn write_twice(rt: &impl Print) -> io::Result<()> {
     let cic = abc(Kind::Cic(3, 1, 63));
-    write_case(b"name twice", 2, cic, 200);
-    write_case(b"name twice, short slice", 2, cic, 0);
+    write_case(rt, b"name twice", 2, cic, 200)?;
+    write_case(rt, b"name twice, short slice", 2, cic, 0)
 }
 
-fn write_kind(case: &[u8], kind: Kind) {
-    write_case(case, 1, abc(kind), 200);
+fn write_kind(rt: &impl Print, case: &[u8], kind: Kind) -> io::Result<()> {
+    write_case(rt, case, 1, abc(kind), 200)
 }
 
-fn write_kinds() {
-    write_kind(b"nine sections", Kind::Wdf(9, 0));
-    write_kind(b"a nibble beyond the last", Kind::Wdf(1, 0x10));
-    write_kind(b"one section", Kind::Wdf(1, 0xf));
-    write_kind(b"a dither in form 1", Kind::Dither(1));
-    write_kind(b"rate too great", Kind::Cic(3, 1, 65536));
+fn write_kinds(rt: &impl Print) -> io::Result<()> {
+    write_kind(rt, b"nine sections", Kind::Wdf(9, 0))?;
+    write_kind(rt, b"a nibble beyond the last", Kind::Wdf(1, 0x10))?;
+    write_kind(rt, b"one section", Kind::Wdf(1, 0xf))?;
+    write_kind(rt, b"a dither in form 1", Kind::Dither(1))?;
+    write_kind(rt, b"rate too great", Kind::Cic(3, 1, 65536))
 }
 
-fn write_cases() {
-    write_counts();
-    write_names();
-    write_twice();
-    write_kinds();
+fn write_cases(rt: &impl Print) -> io::Result<()> {
+    write_counts(rt)?;
+    write_names(rt)?;
+    write_twice(rt)?;
+    write_kinds(rt)
 }
 
-fn retired_cases() {
-    print(b"form 2, b");
-    write_wdf2(1, 0xb);
-    print(b"form 2, e");
-    write_wdf2(1, 0xe);
-    print(b"form 2, f");
-    write_wdf2(2, 0xfc);
-    print(b"form 2, e and a nibble beyond the last");
-    write_wdf2(1, 0x1e);
-    print(b"form 2, e and nine sections");
-    write_wdf2(9, 0xe);
+fn retired_cases(rt: &impl Print) -> io::Result<()> {
+    print(rt, b"form 2, b")?;
+    write_wdf2(rt, 1, 0xb)?;
+    print(rt, b"form 2, e")?;
+    write_wdf2(rt, 1, 0xe)?;
+    print(rt, b"form 2, f")?;
+    write_wdf2(rt, 2, 0xfc)?;
+    print(rt, b"form 2, e and a nibble beyond the last")?;
+    write_wdf2(rt, 1, 0x1e)?;
+    print(rt, b"form 2, e and nine sections")?;
+    write_wdf2(rt, 9, 0xe)
 }
 
 // A store moved into the first bytes of a slice.
-fn forth_into(text: &[u8], out: &mut [u8], room: usize) {
+fn forth_into(rt: &impl Print, text: &[u8], out: &mut [u8], room: usize) -> io::Result<()> {
     if out.len() < room {
-        return;
+        return Ok(());
     }
-    print_moved(move_forth(text, &mut out[..room]));
+    print_moved(rt, move_forth(text, &mut out[..room]))
 }
 
-fn back_into(text: &[u8], out: &mut [u8], room: usize) {
+fn back_into(rt: &impl Print, text: &[u8], out: &mut [u8], room: usize) -> io::Result<()> {
     if out.len() < room {
-        return;
+        return Ok(());
     }
-    print_moved(move_back(text, &mut out[..room]));
+    print_moved(rt, move_back(text, &mut out[..room]))
 }
 
-fn forth_cases() {
+fn forth_cases(rt: &impl Print) -> io::Result<()> {
     let mut out = [0u8; 64];
-    print(b"forth");
-    forth_into(b"set\t1\ncic\ta\t3\t1\t99\n", &mut out, 20);
-    print(b"forth, short slice");
-    forth_into(b"set\t1\ncic\ta\t3\t1\t99\n", &mut out, 19);
-    print(b"forth, unreadable, short slice");
-    forth_into(b"set\t1\ncic\ta\t3\t1\t65536\n", &mut out, 0);
-    print(b"forth from form 2");
-    forth_into(b"set\t2\ncic\ta\t3\t1\t100\n", &mut out, 64);
+    print(rt, b"forth")?;
+    forth_into(rt, b"set\t1\ncic\ta\t3\t1\t99\n", &mut out, 20)?;
+    print(rt, b"forth, short slice")?;
+    forth_into(rt, b"set\t1\ncic\ta\t3\t1\t99\n", &mut out, 19)?;
+    print(rt, b"forth, unreadable, short slice")?;
+    forth_into(rt, b"set\t1\ncic\ta\t3\t1\t65536\n", &mut out, 0)?;
+    print(rt, b"forth from form 2")?;
+    forth_into(rt, b"set\t2\ncic\ta\t3\t1\t100\n", &mut out, 64)
 }
 
-fn back_cases() {
+fn back_cases(rt: &impl Print) -> io::Result<()> {
     let mut out = [0u8; 64];
-    print(b"back");
-    back_into(b"set\t2\ncic\ta\t3\t1\t100\n", &mut out, 19);
-    print(b"back, short slice");
-    back_into(b"set\t2\ncic\ta\t3\t1\t100\n", &mut out, 18);
-    print(b"back, a dither, short slice");
+    print(rt, b"back")?;
+    back_into(rt, b"set\t2\ncic\ta\t3\t1\t100\n", &mut out, 19)?;
+    print(rt, b"back, short slice")?;
+    back_into(rt, b"set\t2\ncic\ta\t3\t1\t100\n", &mut out, 18)?;
+    print(rt, b"back, a dither, short slice")?;
     back_into(
+        rt,
         b"set\t2\ndither\ta\t31\t1\t2\t3\t4\t5\t6\t7\t8\n",
         &mut out,
         0,
-    );
-    print(b"back, a dither, unreadable");
+    )?;
+    print(rt, b"back, a dither, unreadable")?;
     back_into(
+        rt,
         b"set\t2\ndither\ta\t31\t1\t2\t3\t4\t5\t6\t7\t8\nx\n",
         &mut out,
         0,
-    );
-    print(b"back from form 1");
-    back_into(b"set\t1\ncic\ta\t3\t1\t99\n", &mut out, 64);
+    )?;
+    print(rt, b"back from form 1")?;
+    back_into(rt, b"set\t1\ncic\ta\t3\t1\t99\n", &mut out, 64)
 }
 
-fn main() {
-    let mut file = io::large_buffer();
-    let n = io::read_full(STDIN_FILENO, &mut file);
-    show_all(&file[..n]);
-    write_cases();
-    retired_cases();
-    forth_cases();
-    back_cases();
+// Reads until buf is full or the input ends: how many bytes came, put at the start of buf.
+fn read_full(input: &mut impl Read, buf: &mut [u8]) -> io::Result<usize>
+    ensures count { IfOk result (λ n. n ≤ length buf.new) }
+    ensures size { length buf.new ≡ length buf.old }
+{
+    let mut done: usize = 0;
+    while done < buf.len() {
+        let n = input.read(&mut buf[done..])?;
+        if n == 0 {
+            break;
+        }
+        done += n;
+    }
+    Ok(done)
+}
+
+fn main(rt: HostRuntime) -> io::Result<()> {
+    let mut file = [0u8; 65536];
+    let n = read_full(&mut rt.stdin(), &mut file)?;
+    show_all(&rt, &file[..n])?;
+    write_cases(&rt)?;
+    retired_cases(&rt)?;
+    forth_cases(&rt)?;
+    back_cases(&rt)
 }

@@ -7,10 +7,11 @@
 mod decimator;
 mod engine;
 
-ghost use Rattle.std.specs.Prelude.{◌≤◌, length};
+ghost use Rattle.std.specs.Prelude.{◌≡◌, ◌≤◌, length, IfOk};
 
-use libc::STDOUT_FILENO;
 use records::parse::{Record, parse};
+use std::io;
+use std::io::Read;
 use text::parts::part_end;
 use words::casts::{i32_as_u32, i64_as_i32};
 use words::signed::mul_i32;
@@ -61,89 +62,111 @@ fn enlarge(xs: &mut [i32]) {
     }
 }
 
-fn print(v: i32) {
+fn print(rt: &impl Print, v: i32) -> io::Result<()> {
     let bits = i32_as_u32(v) as u64;
     if bits < 2147483648 {
-        io::print_decimal(STDOUT_FILENO, bits);
+        rt.print(bits)?;
     } else {
-        io::write_all(STDOUT_FILENO, b"-");
-        io::print_decimal(STDOUT_FILENO, 4294967296 - bits);
+        rt.write_all(b"-")?;
+        rt.print(4294967296 - bits)?;
     }
+    Ok(())
 }
 
 // Prints output number k of both.
-fn print_pair(k: usize, y: i32, z: i32) {
-    io::write_all(STDOUT_FILENO, b"output ");
-    io::print_decimal(STDOUT_FILENO, k as u64);
-    io::write_all(STDOUT_FILENO, b": engine ");
-    print(y);
-    io::write_all(STDOUT_FILENO, b", decimator ");
-    print(z);
-    io::write_all(STDOUT_FILENO, b"\n");
+fn print_pair(rt: &impl Print, k: usize, y: i32, z: i32) -> io::Result<()> {
+    print!(rt; "output {k}: engine ")?;
+    print(rt, y)?;
+    rt.write_all(b", decimator ")?;
+    print(rt, z)?;
+    rt.write_all(b"\n")
 }
 
 // Prints the outputs that differ: how many do.
-fn print_unlike(ys: &[i32], zs: &[i32]) -> u64 {
+fn print_unlike(rt: &impl Print, ys: &[i32], zs: &[i32]) -> io::Result<u64> {
     let mut differ: u64 = 0;
     let mut k: usize = 0;
     while k < ys.len() {
         if zs.len() <= k {
-            return differ;
+            return Ok(differ);
         }
         let y = ys[k];
         let z = zs[k];
         if y != z {
-            print_pair(k, y, z);
+            print_pair(rt, k, y, z)?;
             differ = add_u64(differ, 1);
         }
         k += 1;
     }
-    differ
+    Ok(differ)
 }
 
 // What was given: ys are n outputs of the engine and zs m of the decimator, zeros behind them.
-fn compare(name: &[u8], ys: &[i32], n: usize, zs: &[i32], m: usize) {
-    let differ = print_unlike(ys, zs);
-    io::write_all(STDOUT_FILENO, name);
-    io::write_all(STDOUT_FILENO, b": engine ");
-    io::print_decimal(STDOUT_FILENO, n as u64);
-    io::write_all(STDOUT_FILENO, b" outputs, decimator ");
-    io::print_decimal(STDOUT_FILENO, m as u64);
-    io::write_all(STDOUT_FILENO, b", ");
-    io::print_decimal(STDOUT_FILENO, differ);
-    io::write_all(STDOUT_FILENO, b" differ\n");
+fn compare(
+    rt: &impl Print,
+    name: &[u8],
+    ys: &[i32],
+    n: usize,
+    zs: &[i32],
+    m: usize,
+) -> io::Result<()> {
+    let differ = print_unlike(rt, ys, zs)?;
+    rt.write_all(name)?;
+    rt.write_all(b": engine ")?;
+    rt.print(n as u64)?;
+    rt.write_all(b" outputs, decimator ")?;
+    rt.print(m as u64)?;
+    rt.write_all(b", ")?;
+    rt.print(differ)?;
+    rt.write_all(b" differ\n")
 }
 
 // The three comparisons over the samples.
-fn compare_all(xs: &[i32]) {
+fn compare_all(rt: &impl Print, xs: &[i32]) -> io::Result<()> {
     let mut ys = [0i32; 1024];
     let mut zs = [0i32; 1024];
     let mut blocks = [0i32; 1024];
     let n = engine::give_steps(xs, &mut ys);
     let m = decimator::give_steps(xs, &mut zs);
-    compare(b"steps", &ys, n, &zs, m);
+    compare(rt, b"steps", &ys, n, &zs, m)?;
     let k = engine::give_block(xs, &mut blocks);
-    compare(b"a block beside steps", &blocks, k, &zs, m);
+    compare(rt, b"a block beside steps", &blocks, k, &zs, m)?;
     let mut last = [0i32; 1024];
     let l = decimator::give_block(xs, &mut last);
-    compare(b"blocks", &blocks, k, &last, l);
+    compare(rt, b"blocks", &blocks, k, &last, l)
 }
 
 // Those over the first n of xs.
-fn compare_first(xs: &[i32], n: usize) {
+fn compare_first(rt: &impl Print, xs: &[i32], n: usize) -> io::Result<()> {
     if xs.len() < n {
-        return;
+        return Ok(());
     }
-    compare_all(&xs[..n]);
+    compare_all(rt, &xs[..n])
 }
 
-fn main() {
+// Reads until buf is full or the input ends: how many bytes came, put at the start of buf.
+fn read_full(input: &mut impl Read, buf: &mut [u8]) -> io::Result<usize>
+    ensures count { IfOk result (λ n. n ≤ length buf.new) }
+    ensures size { length buf.new ≡ length buf.old }
+{
+    let mut done: usize = 0;
+    while done < buf.len() {
+        let n = input.read(&mut buf[done..])?;
+        if n == 0 {
+            break;
+        }
+        done += n;
+    }
+    Ok(done)
+}
+
+fn main(rt: HostRuntime) -> io::Result<()> {
     let mut space = [0u8; 65536];
-    let read = io::read_full(0, &mut space);
+    let read = read_full(&mut rt.stdin(), &mut space)?;
     let mut xs = [0i32; 65536];
     let n = take_text(&space[..read], &mut xs);
-    compare_first(&xs, n);
+    compare_first(&rt, &xs, n)?;
     enlarge(&mut xs);
-    io::write_all(STDOUT_FILENO, b"times 3000000\n");
-    compare_first(&xs, n);
+    rt.write_all(b"times 3000000\n")?;
+    compare_first(&rt, &xs, n)
 }

@@ -1,25 +1,19 @@
 -- A state's line reads back word by word, so it is taken, and what it tells is resumed.
 use native.Mathlib.Omega.{arith}
-use native.Mathlib.Numerals.{add-one}
 use mathlib.Core.Path.{◌≡◌, refl, sym, ap, ◌∙◌}
-use mathlib.Core.Bool.{Bool, true, false, cond, ◌||◌}
-use mathlib.Core.List.{List, [], ◌∷◌, ◌++◌, map, map-map, append_assoc, append-nil}
-use Prim.Native.Nat.{ℕ, zero, suc, ◌+◌, ◌*◌, ◌^◌, ◌≤◌, ◌<◌}
-use lib.Dec.{eqb, ltb}
+use mathlib.Core.Bool.{true, false}
+use mathlib.Core.List.{List, [], ◌∷◌, ◌++◌, map, append_assoc}
+use Prim.Native.Nat.{ℕ, suc, ◌+◌, ◌*◌, ◌^◌, ◌<◌}
 use lib.IntN.{ℤ, pos}
 use lib.ListN.{length, take, drop, get_or, length-append, length-map}
 use lib.Seq.{take_at, drop_at, drop-drop, get_or-append-add}
 use mir.Syntax.{w64}
-use mir.Val.{Fits}
-use borrow.Author.Tests.{eq-eqb, le-ltb}
+use borrow.Author.Tests.{eq-eqb}
 use Rattle.words.specs.Words.{word, wrap}
 use Rattle.words.proofs.Reading.{word_fits, wrap-word}
-use Rattle.text.specs.Letters.{byte, newline}
-use Rattle.text.specs.Hex.{hex_from, pattern_of}
+use Rattle.text.specs.Letters.{newline}
 use Rattle.text.specs.declared.hex.Pattern.{Pattern}
-use Rattle.text.specs.declared.hex.Pattern.TheVariants as Pattern
 use Rattle.blocks.specs.declared.Verdict.{Verdict}
-use Rattle.blocks.specs.declared.Verdict.TheVariants as Verdict
 use Rattle.sums.specs.Calls.{resume_number}
 use Rattle.sums.specs.Counted.{resume_counted}
 use Rattle.cic64.specs.Word.{word_ops}
@@ -28,8 +22,7 @@ use Rattle.cic64.specs.declared.state.Cic.{Cic}
 use Rattle.cic64.specs.declared.state.Made.{Made}
 use Rattle.recorder.specs.Calls.{pushed_of, ready_by, made_ready}
 use Rattle.recorder.specs.declared.recorder.Recorder.{Recorder}
-use Rattle.recorder.specs.declared.recorder.Ready.{Ready}
-use Rattle.desk.specs.Saved.{next_check, check_from, pattern_at, value_of, is_wrong, word_at, words_at, any_wrong, cells_at, resumed_by, state_loaded, load_of}
+use Rattle.desk.specs.Saved.{next_check, check_from, pattern_at, value_of, word_at, words_at, any_wrong, cells_at, resumed_by, state_loaded, load_of}
 use Rattle.desk.proofs.Words.{state_is}
 use Rattle.hex_letters.specs.Letters.{letters_of}
 use Rattle.hex_letters.proofs.Spelling.{long, letters-again}

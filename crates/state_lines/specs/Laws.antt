@@ -1,5 +1,5 @@
 -- A saved state can be resumed, in a customer's words; proved in proofs/Saving.
-use Rattle.std.specs.Prelude.{◌≡◌, ℕ, ◌<◌, ◌^◌, map}
+use Rattle.std.specs.Prelude.{◌≡◌, ◌<◌, ◌^◌, map}
 use Rattle.std.specs.Int.{w64}
 use Rattle.words.specs.Words.{wrap}
 use Rattle.blocks.specs.declared.Verdict.TheVariants as Verdict

@@ -15,7 +15,6 @@ use Rattle.desk.specs.Lines.{record_of}
 use Rattle.hex_letters.specs.Letters.{letters_of}
 use Rattle.word_runs.specs.Runs.{word_in, next_number, and_on, run_of}
 use Rattle.word_runs.specs.Inner.{found_of}
-use Rattle.word_runs.specs.declared.runs.Found.{Found}
 use Rattle.word_runs.specs.declared.runs.Found.TheVariants.{Word, Other}
 
 pub record Gathering (input : List ℕ) (number : ℕ) (before words : List ℤ) (head : List ℕ) (n at k : ℕ) : Type 0 where

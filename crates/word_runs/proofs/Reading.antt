@@ -4,7 +4,7 @@ use native.Mathlib.Nat.{pow-suc}
 use mathlib.Core.Path.{◌≡◌, refl, sym, ap, ◌∙◌}
 use mathlib.Core.Bool.{Bool, true, false, cond}
 use mathlib.Core.List.{List, [], ◌∷◌, ◌++◌}
-use Prim.Native.Nat.{ℕ, zero, suc, ◌+◌, ◌-◌, ◌*◌, ◌/◌, ◌%◌, ◌^◌, ◌≤◌, ◌<◌}
+use Prim.Native.Nat.{ℕ, suc, ◌+◌, ◌*◌, ◌/◌, ◌%◌, ◌^◌, ◌≤◌, ◌<◌}
 use mathlib.Core.Option.{some, none}
 use lib.Dec.{eqb, ltb}
 use lib.IntN.{pos}
@@ -14,21 +14,18 @@ use lib.ListN.{length, take, drop, get_or, length-append, length-take, length-dr
 use lib.Pow.{pow_mono}
 use lib.Seq.{take_at, drop_at, take-add, take-suc, drop-drop, get_or-drop}
 use borrow.Author.Tests.{eq-eqb, ne_eqb, eqb-true}
-use Rattle.text.specs.Hex.{hex_digit, hex_from, pattern_of}
+use Rattle.text.specs.Hex.{hex_digit, hex_from}
 use Rattle.text.specs.Same.{same}
 use Rattle.text.proofs.Sameness.{same_self, same_eq}
 use Rattle.text.specs.declared.hex.Pattern.{Pattern}
 use Rattle.text.specs.declared.hex.Pattern.TheVariants.{Bits, Wrong}
 use Rattle.desk.specs.Lines.{kind_of, bits_record, record_of}
 use Rattle.desk.specs.declared.lines.Kind.{Kind}
-use Rattle.desk.specs.declared.lines.Kind.TheVariants as Kind
-use Rattle.desk.specs.declared.lines.Record.{Record}
 use Rattle.hex_letters.specs.Letters.{letter_of, letters_of}
-use Rattle.hex_letters.proofs.Spelling.{onto, hex_parts, long, letters-again, letters_parts, letters-only, hex_before}
+use Rattle.hex_letters.proofs.Spelling.{hex_parts, long, letters-again, letters_parts, letters-only, hex_before}
 use Rattle.word_runs.specs.Runs.{word_in, next_number}
 use Rattle.word_runs.specs.Inner.{found_of, eight_of}
-use Rattle.word_runs.specs.declared.runs.Found.{Found}
-use Rattle.word_runs.specs.declared.runs.Found.TheVariants.{Word, Other}
+use Rattle.word_runs.specs.declared.runs.Found.TheVariants.{Other}
 
 -- the digits before bring their part
 abbrev raised : ℕ → Pattern → Pattern

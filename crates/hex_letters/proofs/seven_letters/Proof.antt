@@ -1,5 +1,5 @@
 -- The letters from place i on stand; those before it are those of what is left (Spelling).
-use mathlib.Core.Path.{◌≡◌, refl, sym, ◌∙◌}
+use mathlib.Core.Path.{◌≡◌, refl}
 use mathlib.Core.List.{◌++◌}
 use Prim.Native.Nat.{◌≤◌}
 use native.Mathlib.Omega.{arith}
@@ -10,29 +10,29 @@ use Rattle.hex_letters.proofs.Spelling.{letter_on, letters_end, letters-start}
 use Rattle.hex_letters.proofs.seven_letters.Statement.{statement}
 use Rattle.hex_letters.proofs.seven_letters.Tie as tie
 
-abbrev invariant-loop : tie.invariant-loop
+abbrev invariant-loop : tie.invariant-loop-i
 invariant-loop n letters₀ left₀ i₀ letters left i = (i ≤ 7) × (length letters ≡ 7) × (letters_of 7 n ≡ letters_of i left ++ drop i letters)
 
-abbrev decreases-loop : tie.decreases-loop
+abbrev decreases-loop : tie.decreases-loop-i
 decreases-loop n letters₀ left₀ i₀ letters left i = i
 
-loop-holds : tie.Need-loop-init invariant-loop decreases-loop
+loop-holds : tie.Need-loop-i-init invariant-loop decreases-loop
 loop-holds c = (omega arith, refl, letters-start 7 _ (replicate 7 0) refl)
 
-loop-again : tie.Need-loop-preserved invariant-loop decreases-loop
+loop-again : tie.Need-loop-i-preserved invariant-loop decreases-loop
 loop-again c =
-    let l : tie.At-loop invariant-loop decreases-loop = search in
-    let h : tie.In-loop invariant-loop decreases-loop = search in
-    let b : tie.After-last-letter invariant-loop decreases-loop = search in (
+    let l : tie.At-loop-i invariant-loop decreases-loop = search in
+    let h : tie.In-loop-i invariant-loop decreases-loop = search in
+    let b : tie.After-last_letter invariant-loop decreases-loop = search in (
       omega arith,
-      search (rules, l.loop.inv.1),
-      letter_on _ l.loop.letters l.loop.left l.loop.i _ h.loop-test.taken (omega (arith, l.loop.inv.1)) b.last_letter.ensures
-          l.loop.inv.2,
+      search (rules, l.loop-i.invariant.1),
+      letter_on _ l.loop-i.letters l.loop-i.left l.loop-i.i _ h.loop-i-test.true (omega (arith, l.loop-i.invariant.1)) b.last_letter.ensures
+          l.loop-i.invariant.2,
     )
 
 returns : tie.Need-returns invariant-loop decreases-loop
-returns c = let l : tie.At-loop invariant-loop decreases-loop = search in letters_end _ _ _ _ c.loop-test.false l.loop.inv.2
+returns c = let l : tie.At-loop-i invariant-loop decreases-loop = search in letters_end _ _ _ _ c.loop-i-test.false l.loop-i.invariant.2
 
-pub seven-letters-spec : {M : Type 1} → statement M
-seven-letters-spec =
+pub seven_letters_spec : {M : Type 1} → statement M
+seven_letters_spec =
     tie.close (tie.spec invariant-loop decreases-loop loop-holds (λ c. search rules) (λ c κs. search rules) (λ c. search rules) (λ c. search rules) loop-again returns)

@@ -10,9 +10,9 @@ use Rattle.state_lines.proofs.checked.Tie as tie
 
 returns : tie.Need-returns
 returns c =
-    let m : tie.After-mul-u64 = search in
+    let m : tie.After-mul_u64 = search in
     let p : tie.Start = search in
-    c.add-u64.ensures ∙ ap (λ (n : ℕ). word w64 (pos n +ℤ pos p.args.word)) m.mul-u64.ensures
+    c.add_u64.ensures ∙ ap (λ (n : ℕ). word w64 (pos n +ℤ pos p.args.word)) m.mul_u64.ensures
 
-pub checked-spec : {M : Type 1} → statement M
-checked-spec = tie.close (tie.spec (λ c κs. search rules) (λ c κs. search rules) returns)
+pub checked_spec : {M : Type 1} → statement M
+checked_spec = tie.close (tie.spec (λ c κs. search rules) (λ c κs. search rules) returns)

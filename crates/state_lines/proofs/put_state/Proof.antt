@@ -1,5 +1,5 @@
 -- Where there is room, the line's bytes are put (Cells).
-use mathlib.Core.Path.{◌≡◌, refl, sym, ap, ◌∙◌}
+use mathlib.Core.Path.{◌≡◌, ap, ◌∙◌}
 use native.Mathlib.Omega.{arith}
 use lib.ListN.{length}
 use borrow.Author.Rules.{rules}
@@ -19,29 +19,29 @@ module _ (p : tie.Start) where
   all-long : length (state_line p.args.r) ≡ 1282
   all-long = state-long p.args.r long8 long64
 
-returns : tie.Need-returns
+returns : tie.Need-returns-then-n-lt1282
 returns c = let p : tie.Start = search in puts_none p.args.out.now p.args.at _ (omega (arith, all-long p))
 
-returns-2 : tie.Need-returns-2
+returns-2 : tie.Need-returns-then-n-at
 returns-2 c = let p : tie.Start = search in puts_none p.args.out.now p.args.at _ (omega (arith, all-long p))
 
-put-line-requires : tie.Need-put-line-requires
+put-line-requires : tie.Need-put_line-requires
 put-line-requires c κs =
     let p : tie.Start = search in
-    let h : tie.After-head-of = search in
-    let n = head_long p.args.r h.head_of.result h.head_of.ensures in
+    let h : tie.After-head_of-head = search in
+    let n = head_long p.args.r h.head_of-head.result h.head_of-head.ensures in
     omega (arith, long8 p, long64 p)
 
-returns-3 : tie.Need-returns-3
+returns-3 : tie.Need-returns
 returns-3 c =
     let p : tie.Start = search in
-    let h : tie.After-head-of = search in
-    let l : tie.After-put-line = search in
-    let g = line_is p.args.r h.head_of.result h.head_of.ensures in
+    let h : tie.After-head_of-head = search in
+    let l : tie.After-put_line = search in
+    let g = line_is p.args.r h.head_of-head.result h.head_of-head.ensures in
     let n = ap length g ∙ all-long p in
-    puts_same g (puts p.args.out.now p.args.at _ _ _ (omega arith) l.put-line.ensures)
+    puts_same g (puts p.args.out.now p.args.at _ _ _ (omega arith) l.put_line.ensures)
 
-pub put-state-spec : {M : Type 1} → statement M
-put-state-spec =
+pub put_state_spec : {M : Type 1} → statement M
+put_state_spec =
     tie.close (tie.spec returns returns-2 (λ c κs. search rules) (λ c. search rules) (λ c. search rules) (λ c. search rules) put-line-requires
     (λ c. search rules) returns-3)

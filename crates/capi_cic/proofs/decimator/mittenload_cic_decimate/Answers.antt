@@ -1,5 +1,6 @@
 -- The step's promise by what it gives, on the filter that stands in the lent fields.
-use Rattle.std.proofs.Common.{sym, eq-eqb, ne_eqb}
+use Rattle.std.proofs.Common.{sym}
+use borrow.Author.Tests.{eq-eqb, ne_eqb}
 use mir.ValLaws.{to_z-of_z}
 use Rattle.cic.specs.Word.{width}
 use Rattle.capi_cic.specs.Answers.{out_number}
@@ -8,26 +9,20 @@ use Rattle.capi_cic.proofs.decimator.mittenload_cic_decimate.Goals as goal
 
 pub returns-then-y-eq0 : goal.returns-then-y-eq0
 unfolding out_number
-returns-then-y-eq0 c =
-    let g = c.numbers_with-s in let d = c.decimate-step in
-    decimate-given _ g.result d.new.integrators d.new.combs g.ensures _ d.result (rw (to_z-of_z width c.args.x c.ranges.x) at d.ensures)
-    _ _ _ _ _ _ c.in-Given.is c.given_out.ensures (sym (rw (eq-eqb _ _ c.if-y-eq0.true)))
+returns-then-y-eq0 c = decimate-given _ c.numbers_with-s.result c.decimate-step.new.integrators c.decimate-step.new.combs c.numbers_with-s.ensures _ c.decimate-step.result
+    (rw (to_z-of_z width c.args.x c.ranges.x) at c.decimate-step.ensures) _ _ _ _ _ _ c.in-Given.is
+    c.given_out.ensures (sym (rw (eq-eqb _ _ c.if-y-eq0.true)))
 
 pub returns-else-y-eq0 : goal.returns-else-y-eq0
 unfolding out_number
-returns-else-y-eq0 c =
-    let g = c.numbers_with-s in let d = c.decimate-step in
-    decimate-given _ g.result d.new.integrators d.new.combs g.ensures _ d.result (rw (to_z-of_z width c.args.x c.ranges.x) at d.ensures)
-    _ _ _ _ _ _ c.in-Given.is c.given_out.ensures (sym (rw (ne_eqb _ _ c.if-y-eq0.false)))
+returns-else-y-eq0 c = decimate-given _ c.numbers_with-s.result c.decimate-step.new.integrators c.decimate-step.new.combs c.numbers_with-s.ensures _ c.decimate-step.result
+    (rw (to_z-of_z width c.args.x c.ranges.x) at c.decimate-step.ensures) _ _ _ _ _ _ c.in-Given.is
+    c.given_out.ensures (sym (rw (ne_eqb _ _ c.if-y-eq0.false)))
 
 pub returns-in-Nothing : goal.returns-in-Nothing
-returns-in-Nothing c =
-    let g = c.numbers_with-s in let d = c.decimate-step in
-    decimate_nothing _ g.result d.new.integrators d.new.combs g.ensures _ d.result (rw (to_z-of_z width c.args.x c.ranges.x) at d.ensures)
-    c.in-Nothing.is
+returns-in-Nothing c = decimate_nothing _ c.numbers_with-s.result c.decimate-step.new.integrators c.decimate-step.new.combs c.numbers_with-s.ensures _ c.decimate-step.result
+    (rw (to_z-of_z width c.args.x c.ranges.x) at c.decimate-step.ensures) c.in-Nothing.is
 
 pub returns-in-Refused : goal.returns-in-Refused
-returns-in-Refused c =
-    let g = c.numbers_with-s in let d = c.decimate-step in
-    decimate-refused _ g.result d.new.integrators d.new.combs g.ensures _ d.result (rw (to_z-of_z width c.args.x c.ranges.x) at d.ensures)
-    _ c.in-Refused.is
+returns-in-Refused c = decimate-refused _ c.numbers_with-s.result c.decimate-step.new.integrators c.decimate-step.new.combs c.numbers_with-s.ensures _ c.decimate-step.result
+    (rw (to_z-of_z width c.args.x c.ranges.x) at c.decimate-step.ensures) _ c.in-Refused.is

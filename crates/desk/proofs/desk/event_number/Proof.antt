@@ -6,44 +6,44 @@ use borrow.Author.Rules.{rules}
 use Rattle.desk.proofs.desk.event_number.Statement.{statement}
 use Rattle.desk.proofs.desk.event_number.Tie as tie
 
-returns : tie.Need-returns
+returns : tie.Need-returns-then-argument-ne0
 unfolding event_number
-returns c = sym (rw (ne_eqb _ _ c.if1.true))
+returns c = sym (rw (ne_eqb _ _ c.if-argument-ne0.true))
 
-returns-2 : tie.Need-returns-2
+returns-2 : tie.Need-returns-then-not-d
 unfolding event_number
 returns-2 c =
-    let e : tie.Else1 = search in
+    let e : tie.Else-argument-ne0 = search in
     let p : tie.Start = search in
-    sym (rw (eq-eqb _ _ e.if1.left, not-true p.args.d.opened c.if2.true))
+    sym (rw (eq-eqb _ _ e.if-argument-ne0.false, not-true p.args.d.opened c.if-not-d.true))
 
-returns-3 : tie.Need-returns-3
+returns-3 : tie.Need-returns-then-number-so_far
 unfolding event_number
 returns-3 c =
-    let s : tie.After-so-far = search in
-    let e2 : tie.Else2 = search in
-    let e : tie.Else1 = search in
+    let s : tie.After-so_far = search in
+    let e2 : tie.Else-not-d = search in
+    let e : tie.Else-argument-ne0 = search in
     let p : tie.Start = search in
     let a = p.args in
     sym (rw (
-      eq-eqb _ _ e.if1.left,
-      not-false a.d.opened e2.if2.left,
-      ne_eqb a.number (so_far a.d) (rw s.so_far_law.ensures at c.if3.true),
+      eq-eqb _ _ e.if-argument-ne0.false,
+      not-false a.d.opened e2.if-not-d.false,
+      ne_eqb a.number (so_far a.d) (rw s.so_far.ensures at c.if-number-so_far.true),
     ))
 
-returns-4 : tie.Need-returns-4
+returns-4 : tie.Need-returns
 unfolding event_number
 returns-4 c =
-    let s : tie.After-so-far = search in
-    let e2 : tie.Else2 = search in
-    let e : tie.Else1 = search in
+    let s : tie.After-so_far = search in
+    let e2 : tie.Else-not-d = search in
+    let e : tie.Else-argument-ne0 = search in
     let p : tie.Start = search in
     let a = p.args in
     sym (rw (
-      eq-eqb _ _ e.if1.left,
-      not-false a.d.opened e2.if2.left,
-      eq-eqb a.number (so_far a.d) (rw s.so_far_law.ensures at c.if3.false),
+      eq-eqb _ _ e.if-argument-ne0.false,
+      not-false a.d.opened e2.if-not-d.false,
+      eq-eqb a.number (so_far a.d) (rw s.so_far.ensures at c.if-number-so_far.false),
     ))
 
-pub event-number-spec : {M : Type 1} → statement M
-event-number-spec = tie.close (tie.spec returns returns-2 (λ c κs. search rules) returns-3 returns-4)
+pub event_number_spec : {M : Type 1} → statement M
+event_number_spec = tie.close (tie.spec returns returns-2 (λ c κs. search rules) returns-3 returns-4)

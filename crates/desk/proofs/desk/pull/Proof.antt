@@ -2,26 +2,28 @@
 use mathlib.Core.Path.{ap, ◌∙◌}
 use Rattle.recorder.specs.declared.recorder.Recorder.{Recorder}
 use Rattle.desk.specs.declared.desk.Reply.TheVariants as Reply
-use Rattle.desk.specs.Desks.{keep, readied, kind_taken}
+use Rattle.desk.specs.Desks.{keep, kind_taken}
 use Rattle.desk.proofs.Taking.{event-refused, event_done}
 use borrow.Author.Rules.{rules}
 use Rattle.desk.proofs.desk.pull.Statement.{statement}
 use Rattle.desk.proofs.desk.pull.Tie as tie
 
-returns : tie.Need-returns
+returns : tie.Need-returns-then-k-ne0
 unfolding kind_taken
 returns c =
-    let v : tie.After-event-number = search in
-    let t : tie.Then1 = search in
-    c.refused.ensures ∙ event-refused _ _ _ _ v.event-number.ensures t.if1.taken
+    let p : tie.Start = search in
+    let v : tie.After-event_number-k = search in
+    let t : tie.Then-k-ne0 = search in
+    c.refused.ensures ∙ event-refused p.args.d _ _ _ v.event_number-k.ensures t.if-k-ne0.true
 
-returns-2 : tie.Need-returns-2
+returns-2 : tie.Need-returns
 unfolding kind_taken
 returns-2 c =
-    let v : tie.After-event-number = search in
-    let e : tie.Else1 = search in
-    let m : tie.After-pull = search in
-    c.with-recorder.ensures ∙ ap (λ (r : Recorder). keep r Reply.Silent) m.pull.ensures ∙ event_done _ _ _ _ v.event-number.ensures e.if1.left
+    let p : tie.Start = search in
+    let v : tie.After-event_number-k = search in
+    let e : tie.Else-k-ne0 = search in
+    let m : tie.After-pull-pulled = search in
+    c.with_recorder.ensures ∙ ap (λ (r : Recorder). keep r Reply.Silent) m.pull-pulled.ensures ∙ event_done p.args.d _ _ _ v.event_number-k.ensures e.if-k-ne0.false
 
-pub pull-spec : {M : Type 1} → statement M
-pull-spec = tie.close (tie.spec (λ c κs. search rules) (λ c κs. search rules) returns (λ c κs. search rules) (λ c κs. search rules) returns-2)
+pub pull_spec : {M : Type 1} → statement M
+pull_spec = tie.close (tie.spec (λ c κs. search rules) (λ c κs. search rules) returns (λ c κs. search rules) (λ c κs. search rules) returns-2)

@@ -5,15 +5,17 @@ use borrow.Author.Rules.{rules}
 use Rattle.desk.proofs.desk.readied.Statement.{statement}
 use Rattle.desk.proofs.desk.readied.Tie as tie
 
-returns : tie.Need-returns
+returns : tie.Need-returns-in-Done
 returns c =
-    let w : tie.After-enum-told = search in
-    c.with-recorder.ensures ∙ ap (ready_taken _ _) (sym w.enum_told.given.1)
+    let p : tie.Start = search in
+    let w : tie.In-Done = search in
+    c.with_recorder.ensures ∙ ap (ready_taken p.args.d _) (sym w.in-Done.is)
 
-returns-2 : tie.Need-returns-2
+returns-2 : tie.Need-returns-in-Refused
 returns-2 c =
-    let w : tie.After-verdict = search in
-    c.refused.ensures ∙ ap (ready_taken _ _) (sym w.verdict.given.1)
+    let p : tie.Start = search in
+    let w : tie.In-Refused = search in
+    c.refused.ensures ∙ ap (ready_taken p.args.d _) (sym w.in-Refused.is)
 
-pub readied-spec : {M : Type 1} → statement M
-readied-spec = tie.close (tie.spec (λ c. search rules) (λ c κs. search rules) (λ c. search rules) (λ c κs. search rules) returns returns-2)
+pub readied_spec : {M : Type 1} → statement M
+readied_spec = tie.close (tie.spec (λ c. search rules) (λ c κs. search rules) (λ c. search rules) (λ c κs. search rules) returns returns-2)

@@ -6,29 +6,31 @@ use borrow.Author.Rules.{rules}
 use Rattle.desk.proofs.desk.take_record.Statement.{statement}
 use Rattle.desk.proofs.desk.take_record.Tie as tie
 
-returns : tie.Need-returns
+returns : tie.Need-returns-then-bytes-eq1282
 unfolding taken_of
 returns c =
-    let l : tie.After-load = search in
-    let t : tie.Then1 = search in
-    c.readied.ensures ∙ ap (readied _) l.load.ensures ∙ sym (rw (eq-eqb _ _ t.if1.taken))
+    let p : tie.Start = search in
+    let l : tie.After-load-loaded = search in
+    let t : tie.Then-bytes-eq1282 = search in
+    c.readied.ensures ∙ ap (readied p.args.d) l.load-loaded.ensures ∙ sym (rw (eq-eqb _ _ t.if-bytes-eq1282.true))
 
-returns-2 : tie.Need-returns-2
+returns-2 : tie.Need-returns-in-Is
 unfolding taken_of
 returns-2 c =
-    let w : tie.After-r = search in
-    let q : tie.After-read-record = search in
-    let e : tie.Else1 = search in
-    c.take-kind.ensures ∙ ap (line_taken _) (sym w.r.given.1 ∙ q.read-record.ensures) ∙ sym (rw (ne_eqb _ _ e.if1.left))
+    let p : tie.Start = search in
+    let w : tie.In-Is = search in
+    let q : tie.After-read_record-r = search in
+    let e : tie.Else-bytes-eq1282 = search in
+    c.take_kind.ensures ∙ ap (line_taken p.args.d) (sym w.in-Is.is ∙ q.read_record-r.ensures) ∙ sym (rw (ne_eqb _ _ e.if-bytes-eq1282.false))
 
-returns-3 : tie.Need-returns-3
+returns-3 : tie.Need-returns-in-Bad
 unfolding taken_of
 returns-3 c =
-    let w : tie.After-r2 = search in
-    let q : tie.After-read-record = search in
-    let e : tie.Else1 = search in
+    let w : tie.In-Bad = search in
+    let q : tie.After-read_record-r = search in
+    let e : tie.Else-bytes-eq1282 = search in
     let p : tie.Start = search in
-    c.refused.ensures ∙ ap (line_taken p.args.d) (sym w.r2.given.1 ∙ q.read-record.ensures) ∙ sym (rw (ne_eqb _ _ e.if1.left))
+    c.refused.ensures ∙ ap (line_taken p.args.d) (sym w.in-Bad.is ∙ q.read_record-r.ensures) ∙ sym (rw (ne_eqb _ _ e.if-bytes-eq1282.false))
 
-pub take-record-spec : {M : Type 1} → statement M
-take-record-spec = tie.close (tie.spec (λ c κs. search rules) (λ c κs. search rules) returns (λ c κs. search rules) (λ c. search rules) (λ c κs. search rules) (λ c. search rules) (λ c κs. search rules) returns-2 returns-3)
+pub take_record_spec : {M : Type 1} → statement M
+take_record_spec = tie.close (tie.spec (λ c κs. search rules) (λ c κs. search rules) returns (λ c κs. search rules) (λ c. search rules) (λ c κs. search rules) (λ c. search rules) (λ c κs. search rules) returns-2 returns-3)

@@ -5,10 +5,10 @@ use borrow.Author.Rules.{rules}
 use Rattle.desk.proofs.lines.bits_record.Statement.{statement}
 use Rattle.desk.proofs.lines.bits_record.Tie as tie
 
-returns-2 : tie.Need-returns-2
+returns-2 : tie.Need-returns
 returns-2 c =
-    let w : tie.After-p = search in
-    sym (ap (bits_record _) w.p.given.1)
+    let w : tie.In-Bits = search in
+    sym (ap (bits_record _) w.in-Bits.is)
 
-pub bits-record-spec : {M : Type 1} → statement M
-bits-record-spec = tie.close (tie.spec (λ c. search rules) (λ c. search rules) (λ c. search rules) (λ c. search rules) (λ c. search rules) returns-2)
+pub bits_record_spec : {M : Type 1} → statement M
+bits_record_spec = tie.close (tie.spec (λ c. search rules) (λ c. search rules) (λ c. search rules) (λ c. search rules) (λ c. search rules) returns-2)

@@ -13,39 +13,39 @@ use borrow.Author.Rules.{rules}
 use Rattle.desk.proofs.saved.combs_of.Statement.{statement}
 use Rattle.desk.proofs.saved.combs_of.Tie as tie
 
-abbrev invariant-loop : tie.invariant-loop
+abbrev invariant-loop : tie.invariant-loop-i
 invariant-loop line cells₀ i₀ cells i = (i ≤ 64) × (length cells₀ ≡ 64) × Going (cell_out line) cell_next 15 cells₀ cells (i + 15) i
 
-abbrev decreases-loop : tie.decreases-loop
+abbrev decreases-loop : tie.decreases-loop-i
 decreases-loop line cells₀ i₀ cells i = 64 - i
 
-loop-holds : tie.Need-loop-init invariant-loop decreases-loop
+loop-holds : tie.Need-loop-i-init invariant-loop decreases-loop
 loop-holds c = (omega arith, refl, start _ _ _ _ _ refl)
 
-word-at-requires : tie.Need-word-at-requires invariant-loop decreases-loop
+word-at-requires : tie.Need-word_at-requires invariant-loop decreases-loop
 word-at-requires c κs =
     let p : tie.Start invariant-loop decreases-loop = search in
-    (omega arith, p.pre)
+    (omega arith, p.requires)
 
-loop-again : tie.Need-loop-preserved invariant-loop decreases-loop
+loop-again : tie.Need-loop-i-preserved invariant-loop decreases-loop
 loop-again c =
-    let k : tie.After-u64-as-i64 invariant-loop decreases-loop = search in
-    let v : tie.After-word-at invariant-loop decreases-loop = search in
-    let h : tie.In-loop invariant-loop decreases-loop = search in
-    let l : tie.At-loop invariant-loop decreases-loop = search in
+    let k : tie.After-u64_as_i64 invariant-loop decreases-loop = search in
+    let v : tie.After-word_at invariant-loop decreases-loop = search in
+    let h : tie.In-loop-i invariant-loop decreases-loop = search in
+    let l : tie.At-loop-i invariant-loop decreases-loop = search in
     let p : tie.Start invariant-loop decreases-loop = search in
-    let u = k.u64-as-i64 in (
+    let u = k.u64_as_i64 in (
       omega arith,
-      l.loop.inv.1,
-      cell_turn p.args.line.now 15 _ l.loop.cells l.loop.i _ (omega (arith, l.loop.inv.1, h.loop-test.taken))
-          (read w64 u.result u.ok ∙ u.ensures ∙ ap (λ (n : ℕ). wrap w64 (pos n)) v.word_at.ensures) l.loop.inv.2,
+      l.loop-i.invariant.1,
+      cell_turn p.args.line.now 15 _ l.loop-i.cells l.loop-i.i _ (omega (arith, l.loop-i.invariant.1, h.loop-i-test.true))
+          (read w64 u.result u.type_inv ∙ u.ensures ∙ ap (λ (n : ℕ). wrap w64 (pos n)) v.word_at.ensures) l.loop-i.invariant.2,
     )
 
 returns : tie.Need-returns invariant-loop decreases-loop
 returns c =
-    let l : tie.At-loop invariant-loop decreases-loop = search in
+    let l : tie.At-loop-i invariant-loop decreases-loop = search in
     let p : tie.Start invariant-loop decreases-loop = search in
-    cells_done p.args.line.now 15 64 _ l.loop.cells l.loop.i l.loop.inv.1 c.loop-test.false l.loop.inv.2
+    cells_done p.args.line.now 15 64 _ l.loop-i.cells l.loop-i.i l.loop-i.invariant.1 c.loop-i-test.false l.loop-i.invariant.2
 
-pub combs-of-spec : {M : Type 1} → statement M
-combs-of-spec = tie.close (tie.spec invariant-loop decreases-loop loop-holds (λ c. search rules) word-at-requires (λ c κs. search rules) (λ c. search rules) (λ c. search rules) (λ c. search rules) (λ c. search rules) loop-again returns)
+pub combs_of_spec : {M : Type 1} → statement M
+combs_of_spec = tie.close (tie.spec invariant-loop decreases-loop loop-holds (λ c. search rules) word-at-requires (λ c κs. search rules) (λ c. search rules) (λ c. search rules) (λ c. search rules) (λ c. search rules) loop-again returns)

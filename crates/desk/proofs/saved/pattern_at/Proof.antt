@@ -13,7 +13,7 @@ returns c =
     let p : tie.Start = search in
     let a = p.args in
     let e : 16 * a.i + 1 + 16 - (16 * a.i + 1) ≡ 16 = omega arith in
-    c.hex-word.ensures ∙ ap (λ (k : ℕ). pattern_of (take k (drop (16 * a.i + 1) a.line.now))) e
+    c.hex_word.ensures ∙ ap (λ (k : ℕ). pattern_of (take k (drop (16 * a.i + 1) a.line.now))) e
 
-pub pattern-at-spec : {M : Type 1} → statement M
-pattern-at-spec = tie.close (tie.spec (λ c. search rules) (λ c. search rules) (λ c. search rules) (λ c. search rules) (λ c. search rules) (λ c. search rules) (λ c κs. search rules) returns)
+pub pattern_at_spec : {M : Type 1} → statement M
+pattern_at_spec = tie.close (tie.spec (λ c. search rules) (λ c. search rules) (λ c. search rules) (λ c. search rules) (λ c. search rules) (λ c. search rules) (λ c κs. search rules) returns)

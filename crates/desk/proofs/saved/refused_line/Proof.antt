@@ -8,9 +8,9 @@ use Rattle.desk.proofs.saved.refused_line.Tie as tie
 
 returns : tie.Need-returns
 returns c =
-    let o : tie.After-open = search in
+    let o : tie.After-open-m = search in
     let p : tie.Start = search in
-    ap (λ (m : Ready). record { recorder = m.recorder; verdict = Verdict.Refused p.args.number }) o.open.ensures
+    ap (λ (m : Ready). record { recorder = m.recorder; verdict = Verdict.Refused p.args.number }) o.open-m.ensures
 
-pub refused-line-spec : {M : Type 1} → statement M
-refused-line-spec = tie.close (tie.spec (λ c κs. search rules) returns)
+pub refused_line_spec : {M : Type 1} → statement M
+refused_line_spec = tie.close (tie.spec (λ c κs. search rules) returns)

@@ -1,7 +1,6 @@
 -- The bytes before i are letters, so that the rest decides.
 use native.Mathlib.Omega.{arith}
 use mathlib.Core.Path.{sym, ◌∙◌}
-use borrow.Author.Tests.{not-true, not-false}
 use borrow.Author.Rules.{rules}
 use mathlib.Core.Path.{◌≡◌}
 use Prim.Native.Nat.{◌≤◌, ◌-◌}
@@ -11,55 +10,55 @@ use Rattle.settings_text.proofs.Names.{by_letters, empty_name_law, letter_not, l
 use Rattle.entries.proofs.names.is_name.Statement.{statement}
 use Rattle.entries.proofs.names.is_name.Tie as tie
 
-abbrev invariant-loop : tie.invariant-loop
+abbrev invariant-loop : tie.invariant-loop-i
 invariant-loop s i₀ i = (i ≤ length s) × (1 ≤ length s) × (length s ≤ 16) × (letters (drop i s) ≡ letters s)
 
-abbrev decreases-loop : tie.decreases-loop
+abbrev decreases-loop : tie.decreases-loop-i
 decreases-loop s i₀ i = length s - i
 
-returns : tie.Need-returns invariant-loop decreases-loop
+returns : tie.Need-returns-then-s-lt1 invariant-loop decreases-loop
 returns c =
     let begin : tie.Start invariant-loop decreases-loop = search in
-    empty_name_law begin.args.s.now c.if1.true
+    empty_name_law begin.args.s.now c.if-s-lt1.true
 
-returns-2 : tie.Need-returns-2 invariant-loop decreases-loop
+returns-2 : tie.Need-returns-then-s-gt16 invariant-loop decreases-loop
 returns-2 c =
     let begin : tie.Start invariant-loop decreases-loop = search in
-    long-name begin.args.s.now (omega arith) c.if2.true
+    long-name begin.args.s.now (omega arith) c.if-s-gt16.true
 
-returns-3 : tie.Need-returns-3 invariant-loop decreases-loop
+returns-3 : tie.Need-returns-then-not-is_letter invariant-loop decreases-loop
 returns-3 c =
     let begin : tie.Start invariant-loop decreases-loop = search in
-    let turn : tie.At-loop invariant-loop decreases-loop = search in
-    let at-is-letter : tie.After-is-letter invariant-loop decreases-loop = search in
+    let turn : tie.At-loop-i invariant-loop decreases-loop = search in
+    let at-is-letter : tie.After-is_letter invariant-loop decreases-loop = search in
     let s = begin.args.s.now in
-    let l = turn.loop in
-    sym (by_letters s l.inv.1 l.inv.2 ∙ sym l.inv.3 ∙ letter_not s l.i (omega arith)
-    (sym at-is-letter.is-letter.ensures ∙ not-true _ c.if3.true))
+    let l = turn.loop-i in
+    sym (by_letters s l.invariant.1 l.invariant.2 ∙ sym l.invariant.3 ∙ letter_not s l.i (omega arith)
+    (sym at-is-letter.is_letter.ensures ∙ c.if-not-is_letter.true))
 
-loop-again : tie.Need-loop-preserved invariant-loop decreases-loop
+loop-again : tie.Need-loop-i-preserved invariant-loop decreases-loop
 loop-again c =
     let begin : tie.Start invariant-loop decreases-loop = search in
-    let turn : tie.At-loop invariant-loop decreases-loop = search in
-    let at-is-letter : tie.After-is-letter invariant-loop decreases-loop = search in
+    let turn : tie.At-loop-i invariant-loop decreases-loop = search in
+    let at-is-letter : tie.After-is_letter invariant-loop decreases-loop = search in
     let s = begin.args.s.now in
-    let l = turn.loop in (
+    let l = turn.loop-i in (
       omega arith,
-      l.inv.1,
-      l.inv.2,
+      l.invariant.1,
+      l.invariant.2,
       letter_on s l.i (omega arith)
-          (sym at-is-letter.is-letter.ensures ∙ not-false _ c.if3.false) ∙ l.inv.3,
+          (sym at-is-letter.is_letter.ensures ∙ c.if-not-is_letter.false) ∙ l.invariant.3,
     )
 
-returns-4 : tie.Need-returns-4 invariant-loop decreases-loop
+returns-4 : tie.Need-returns invariant-loop decreases-loop
 returns-4 c =
     let begin : tie.Start invariant-loop decreases-loop = search in
-    let turn : tie.At-loop invariant-loop decreases-loop = search in
+    let turn : tie.At-loop-i invariant-loop decreases-loop = search in
     let s = begin.args.s.now in
-    let l = turn.loop in
-    sym (by_letters s l.inv.1 l.inv.2 ∙ sym l.inv.3 ∙ letters_all s l.i c.loop-test.false)
+    let l = turn.loop-i in
+    sym (by_letters s l.invariant.1 l.invariant.2 ∙ sym l.invariant.3 ∙ letters_all s l.i c.loop-i-test.false)
 
-pub is-name-spec : {M : Type 1} → statement M
-is-name-spec =
+pub is_name_spec : {M : Type 1} → statement M
+is_name_spec =
     tie.close (tie.spec invariant-loop decreases-loop returns returns-2 (λ c. search rules) (λ c. search rules) (λ c κs. search rules)
     returns-3 (λ c. search rules) (λ c. search rules) loop-again returns-4)

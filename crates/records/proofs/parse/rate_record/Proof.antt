@@ -11,28 +11,28 @@ use Rattle.records.proofs.Parsing.{natural_is}
 use Rattle.records.proofs.parse.rate_record.Statement.{statement}
 use Rattle.records.proofs.parse.rate_record.Tie as tie
 
-returns : tie.Need-returns
+returns : tie.Need-returns-then-n-ne0
 returns c =
-    let then1 : tie.Then1 = search in
-    let at-natural : tie.After-natural-of = search in
-    let at_field : tie.After-field = search in
+    let then1 : tie.Then-n-ne0 = search in
+    let at-natural : tie.After-natural_of-n = search in
+    let at_field : tie.After-field-a = search in
     let begin : tie.Start = search in
     let a = begin.args in
-    let e = natural_is at_field.field.result.value at-natural.natural-of.result
-    (field_at (behind tab (drop a.e a.line.now)) 0) at_field.field.ensures.value at-natural.natural-of.ensures in
-    c.bad-field.ensures ∙ sym (ap rate_of (sym e) ∙ rw (ne_eqb _ _ then1.if1.taken))
+    let e = natural_is at_field.field-a.result.value at-natural.natural_of-n.result
+    (field_at (behind tab (drop a.e a.line.now)) 0) at_field.field-a.ensures.value at-natural.natural_of-n.ensures in
+    c.bad_field.ensures ∙ sym (ap rate_of (sym e) ∙ rw (ne_eqb _ _ then1.if-n-ne0.true))
 
-returns-2 : tie.Need-returns-2
+returns-2 : tie.Need-returns
 returns-2 c =
-    let else1 : tie.Else1 = search in
-    let at-natural : tie.After-natural-of = search in
-    let at_field : tie.After-field = search in
+    let else1 : tie.Else-n-ne0 = search in
+    let at-natural : tie.After-natural_of-n = search in
+    let at_field : tie.After-field-a = search in
     let begin : tie.Start = search in
     let a = begin.args in
-    let e = natural_is at_field.field.result.value at-natural.natural-of.result
-    (field_at (behind tab (drop a.e a.line.now)) 0) at_field.field.ensures.value at-natural.natural-of.ensures in
-    sym (ap rate_of (sym e) ∙ rw (eq-eqb _ _ else1.if1.left))
+    let e = natural_is at_field.field-a.result.value at-natural.natural_of-n.result
+    (field_at (behind tab (drop a.e a.line.now)) 0) at_field.field-a.ensures.value at-natural.natural_of-n.ensures in
+    sym (ap rate_of (sym e) ∙ rw (eq-eqb _ _ else1.if-n-ne0.false))
 
-pub rate-record-spec : {M : Type 1} → statement M
-rate-record-spec =
+pub rate_record_spec : {M : Type 1} → statement M
+rate_record_spec =
     tie.close (tie.spec (λ c κs. search rules) (λ c κs. search rules) (λ c κs. search rules) returns returns-2)

@@ -5,7 +5,7 @@ use Rattle.records.proofs.session.clear_filter.Statement.{statement}
 use Rattle.records.proofs.session.clear_filter.Tie as tie
 
 returns : tie.Need-returns
-returns c = ordered_is _ _ _ _ c.before.before.clear.result _ c.before.before.clear.ensures c.told.ensures
+returns c = ordered_is _ _ _ _ c.before.before.clear-m.result _ c.before.before.clear-m.ensures c.told.ensures
 
-pub clear-filter-spec : {M : Type 1} → statement M
-clear-filter-spec = tie.close (tie.spec (λ c κs. search rules) (λ c κs. search rules) returns)
+pub clear_filter_spec : {M : Type 1} → statement M
+clear_filter_spec = tie.close (tie.spec (λ c κs. search rules) (λ c κs. search rules) returns)

@@ -5,7 +5,7 @@ use Rattle.records.proofs.session.make.Statement.{statement}
 use Rattle.records.proofs.session.make.Tie as tie
 
 returns : tie.Need-returns
-returns c = ordered_is _ _ _ _ c.before.before.new.result _ c.before.before.new.ensures c.told.ensures
+returns c = ordered_is _ _ _ _ c.before.before.new-m.result _ c.before.before.new-m.ensures c.told.ensures
 
 pub make_spec : {M : Type 1} → statement M
 make_spec = tie.close (tie.spec (λ c κs. search rules) (λ c κs. search rules) returns)

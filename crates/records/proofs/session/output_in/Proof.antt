@@ -17,9 +17,9 @@ returns : tie.Need-returns
 returns c =
     let begin : tie.Start = search in
     let y = begin.args.y in
-    let v = c.read-in in
+    let v = c.read_in in
     let f : SFits w64 y.value = search rules in
-    ap (with_value y) (read w64 v.result v.type-inv ∙ (rw (to_z-of_z w64 y.value f) at v.ensures))
+    ap (with_value y) (read w64 v.result v.type_inv ∙ (rw (to_z-of_z w64 y.value f) at v.ensures))
 
-pub output-in-spec : {M : Type 1} → statement M
-output-in-spec = tie.close (tie.spec (λ c κs. search rules) returns)
+pub output_in_spec : {M : Type 1} → statement M
+output_in_spec = tie.close (tie.spec (λ c κs. search rules) returns)

@@ -8,18 +8,18 @@ use Rattle.records.proofs.Taking.{read_wide, read_narrow}
 use Rattle.records.proofs.session.read_in.Statement.{statement}
 use Rattle.records.proofs.session.read_in.Tie as tie
 
-returns : tie.Need-returns
+returns : tie.Need-returns-then-wide
 returns c =
     let p = c.before in
-    to_z-of_z w64 p.args.v p.ranges.v ∙ read_wide p.args.wide p.args.v c.if1.true p.ranges.v
+    to_z-of_z w64 p.args.v p.ranges.v ∙ read_wide p.args.wide p.args.v c.if-wide.true p.ranges.v
 
-returns-2 : tie.Need-returns-2
+returns-2 : tie.Need-returns
 returns-2 c =
     let p = c.before.before.before in
-    let n = c.before.i64-as-i32 in
-    read w64 c.i32-as-i64.result c.i32-as-i64.type-inv ∙ c.i32-as-i64.ensures ∙ read w32 n.result n.type-inv
+    let n = c.before.i64_as_i32 in
+    read w64 c.i32_as_i64.result c.i32_as_i64.type_inv ∙ c.i32_as_i64.ensures ∙ read w32 n.result n.type_inv
     ∙ (rw (to_z-of_z w64 p.args.v p.ranges.v) at n.ensures)
-    ∙ read_narrow p.args.wide p.args.v c.before.before.if1.false
+    ∙ read_narrow p.args.wide p.args.v c.before.before.if-wide.false
 
-pub read-in-spec : {M : Type 1} → statement M
-read-in-spec = tie.close (tie.spec returns (λ c κs. search rules) (λ c κs. search rules) returns-2)
+pub read_in_spec : {M : Type 1} → statement M
+read_in_spec = tie.close (tie.spec returns (λ c κs. search rules) (λ c κs. search rules) returns-2)

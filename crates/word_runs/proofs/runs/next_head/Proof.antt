@@ -1,5 +1,5 @@
 -- The first seven digits change with every sixteenth number.
-use mathlib.Core.Path.{◌≡◌, refl, sym, ap, ◌∙◌}
+use mathlib.Core.Path.{ap, ◌∙◌}
 use native.Mathlib.Omega.{arith}
 use Prim.Native.Nat.{ℕ, ◌/◌, ◌%◌}
 use borrow.Author.Rules.{rules}
@@ -8,17 +8,17 @@ use Rattle.word_runs.proofs.Reading.{same_sixteen}
 use Rattle.word_runs.proofs.runs.next_head.Statement.{statement}
 use Rattle.word_runs.proofs.runs.next_head.Tie as tie
 
-returns : tie.Need-returns
+returns : tie.Need-returns-then-next-eq0
 returns c =
-    let s : tie.After-seven-letters = search in
-    let a : tie.After-add-u32 = search in
-    s.seven-letters.ensures ∙ ap (λ (n : ℕ). letters_of 7 (n / 16)) a.add-u32.ensures
+    let s : tie.After-seven_letters = search in
+    let a : tie.After-add_u32-next = search in
+    s.seven_letters.ensures ∙ ap (λ (n : ℕ). letters_of 7 (n / 16)) a.add_u32-next.ensures
 
-returns-2 : tie.Need-returns-2
+returns-2 : tie.Need-returns
 returns-2 c =
     let begin : tie.Start = search in
-    let a : tie.After-add-u32 = search in
-    begin.pre ∙ ap (letters_of 7) (same_sixteen begin.args.n (omega arith) (λ e. c.if1.false (ap (λ (n : ℕ). n % 16) a.add-u32.ensures ∙ e)))
+    let a : tie.After-add_u32-next = search in
+    begin.requires ∙ ap (letters_of 7) (same_sixteen begin.args.n (omega arith) (λ e. c.if-next-eq0.false (ap (λ (n : ℕ). n % 16) a.add_u32-next.ensures ∙ e)))
 
-pub next-head-spec : {M : Type 1} → statement M
-next-head-spec = tie.close (tie.spec (λ c κs. search rules) (λ c. search rules) (λ c κs. search rules) returns returns-2)
+pub next_head_spec : {M : Type 1} → statement M
+next_head_spec = tie.close (tie.spec (λ c κs. search rules) (λ c. search rules) (λ c κs. search rules) returns returns-2)

@@ -14,8 +14,8 @@ desk m = record { opened = false; going = true; recorder = m.recorder }
 returns : tie.Need-returns
 unfolding start_desk
 returns c =
-    let o : tie.After-open = search in
-    ap desk o.open.ensures
+    let o : tie.After-open-r = search in
+    ap desk o.open-r.ensures
 
 pub start_spec : {M : Type 1} → statement M
 start_spec = tie.close (tie.spec (λ c κs. search rules) returns)

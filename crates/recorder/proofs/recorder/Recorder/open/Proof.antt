@@ -12,7 +12,7 @@ beside m = record { recorder = opened m.state; verdict = m.verdict }
 
 returns : tie.Need-returns
 unfolding opened_of
-returns c = ap beside c.before.new.ensures
+returns c = ap beside c.before.new-m.ensures
 
 pub open_spec : {M : Type 1} → statement M
 open_spec = tie.close (tie.spec (λ c κs. search rules) returns)

@@ -16,9 +16,9 @@ module _ (p : tie.Start) where
 returns : tie.Need-returns
 unfolding pushed_of
 returns c =
-    let m : tie.After-resume = search in
+    let m : tie.After-resume-m = search in
     let p : tie.Start = search in
-    ready_is _ _ _ _ _ m.resume.result _ (rw (held p) at m.resume.ensures) c.with-filter.ensures
+    ready_is _ _ _ _ _ m.resume-m.result _ (rw (held p) at m.resume-m.ensures) c.with_filter.ensures
 
 pub push_spec : {M : Type 1} → statement M
 push_spec = tie.close (tie.spec (λ c κs. search rules) (λ c κs. search rules) returns)
