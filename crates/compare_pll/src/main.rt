@@ -134,7 +134,7 @@ fn readers(w: [u32; 40]) -> u64 {
 }
 
 // A loop that runs, the generator that feeds it, and the digest of its phases and frequencies.
-#[derive(Drop)]
+#[derive(Clone, Copy)]
 struct Running {
     state: PLLState,
     draws: u64,
@@ -318,7 +318,12 @@ fn main(rt: HostRuntime) -> io::Result<()> {
         5,
         b"PLL with predict and other coefficients at each step, run",
     )?;
-    compare(&rt, text, 6, b"PLL lock-in to minus the input's frequency, runs")?;
+    compare(
+        &rt,
+        text,
+        6,
+        b"PLL lock-in to minus the input's frequency, runs",
+    )?;
     let p = PLL {
         b0: -67823405,
         b1: 66758037,

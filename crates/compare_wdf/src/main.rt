@@ -127,7 +127,7 @@ fn digest_all(d: u64, ys: &[i32]) -> u64 {
 }
 
 // A filter that runs, the generator that feeds it, and the digest so far.
-#[derive(Drop)]
+#[derive(Clone, Copy)]
 struct Running {
     state: Wdf,
     draws: u64,
@@ -206,7 +206,7 @@ fn block_turn(r: Running) -> Running {
 }
 
 // What a turn of a run does; an adapter's has its nibble.
-#[derive(Drop)]
+#[derive(Clone, Copy)]
 enum Turn {
     Corner(u32),
     Adapter(u32),

@@ -9,7 +9,7 @@ use lib.Dec.{eqb}
 use lib.IntN.{ℤ}
 use lib.ListN.{length, get_or, take, drop, length-drop}
 use lib.Seq.{length-take-le, take-append_seam}
-use borrow.Author.Tests.{ne_eqb, eqb-true}
+use borrow.Author.Tests.{eqb-true}
 use Rattle.text.specs.Writing.{Wrote}
 use Rattle.text.proofs.Putting.{wrote-same}
 use Rattle.sums.specs.Machine.{Output}

@@ -2,14 +2,12 @@
 use native.Mathlib.Omega.{arith}
 use native.Mathlib.Numerals.{add-one}
 use mathlib.Core.Path.{◌≡◌, refl, sym, ap, ◌∙◌}
-use mathlib.Core.Bool.{Bool, true, false}
+use mathlib.Core.Bool.{Bool}
 use mathlib.Core.List.{List, [], ◌∷◌, ◌++◌, append_assoc, append-nil}
 use Prim.Native.Nat.{ℕ, suc, ◌+◌, ◌-◌, ◌*◌, ◌≤◌, ◌<◌}
-use lib.Dec.{eqb, leb}
 use lib.IntN.{ℤ, pos}
 use lib.ListN.{length, take, drop, get_or, set, length-drop, take-append-drop}
 use lib.Seq.{drop-cons, drop-drop, take-suc-set, length-take-le}
-use borrow.Author.Tests.{eq-eqb, ne_eqb, leb-true, leb-false}
 use Rattle.text.specs.Letters.{byte, tab, newline}
 use Rattle.text.specs.Numbers.{number_of, capped}
 use Rattle.text.specs.Parts.{parted, count, end_of}
@@ -27,7 +25,6 @@ use Rattle.playback.specs.Replays.{output_line}
 use Rattle.playback.specs.Inner.Advances as Advances
 use Rattle.playback.specs.Inner.Advances.{SampleLine, finds, Sampled, Gathers, output_lines}
 use Rattle.playback.specs.declared.samples.Found.{Found}
-use Rattle.playback.specs.declared.samples.Found.TheVariants as Found
 use Rattle.records.specs.declared.parse.Integer.{Integer}
 use Rattle.records.specs.declared.parse.Record.TheVariants.{Sample}
 use Rattle.records.proofs.Parsing.{integer_capped}

@@ -16,7 +16,6 @@ use Rattle.text.specs.Parts.{parted}
 use Rattle.text.proofs.Parting.{parted-total, total}
 use Rattle.text.proofs.Spelling.{spelt-most}
 use Rattle.blocks.specs.declared.Verdict.{Verdict}
-use Rattle.blocks.specs.declared.Verdict.TheVariants as Verdict
 use Rattle.cic64.specs.declared.state.Cic.{Cic}
 use Rattle.blocks.specs.Blocks.{unless}
 use Rattle.sums.specs.Machine.{Output}
@@ -25,7 +24,7 @@ use Rattle.sums.specs.Calls.{new_number, rate_number, step_given}
 use Rattle.sums.specs.Counted.{Counted, Numbered, take_number, with_number, new_counted, rate_counted, clear_counted, take_state, take_given}
 use Rattle.sums.proofs.Steps.{told-most}
 use Rattle.cic64.specs.Word.{word_ops}
-use Rattle.cic64.specs.Reading.{state_of, counted_of, cic_of}
+use Rattle.cic64.specs.Reading.{counted_of, cic_of}
 use Rattle.blocks.specs.Verdicts.{verdict_of}
 use Rattle.text.specs.Same.{same}
 use Rattle.records.specs.Lines.{
@@ -46,13 +45,10 @@ use Rattle.records.specs.Sessions.{kept_words, refuse, told_by, ordered, sampled
 use Rattle.playback.specs.Places.{end_taken}
 use Rattle.playback.specs.Inner.Advances.{line_room}
 use Rattle.records.specs.declared.parse.Name.{Name}
-use Rattle.records.specs.declared.parse.Name.TheVariants as Name
 use Rattle.records.specs.declared.parse.Record.{Record}
 use Rattle.records.specs.declared.parse.Record.TheVariants.{Open, Rate, Sample, Clear, Bad}
 use Rattle.records.specs.declared.session.Session.{Session}
 use Rattle.records.specs.declared.session.Taken.{Taken}
-use Rattle.records.specs.declared.session.Reply.{Reply}
-use Rattle.records.specs.declared.session.Reply.TheVariants as Reply
 
 abbrev is_sample : Record → Bool
 is_sample (Sample v) = true

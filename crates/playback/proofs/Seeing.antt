@@ -5,12 +5,11 @@ use Prim.Native.Nat.{ℕ, suc}
 use Rattle.words.specs.Words.{word, wrap}
 use Rattle.sums.specs.State.{zeroed}
 use Rattle.records.specs.Sessions.{own_words, kept_words, line_of}
-use Rattle.records.specs.Seen.{seen, seen_taken}
+use Rattle.records.specs.Seen.{seen}
 use Rattle.records.proofs.Seeing.{in_its_word}
 use Rattle.playback.specs.Replays.{output_line, answered, replay_from, unopened}
 use Rattle.records.specs.declared.session.Session.{Session}
 use Rattle.records.specs.declared.session.Reply.{Reply}
-use Rattle.records.specs.declared.session.Reply.TheVariants as Reply
 use Rattle.records.specs.declared.session.Taken.{Taken}
 
 answered-same : (r : Reply) (line outputs : ℕ) (a b : ℕ → List ℕ) → ((k : ℕ) → a k ≡ b k)

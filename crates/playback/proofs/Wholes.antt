@@ -35,7 +35,6 @@ use Rattle.playback.specs.Places.{
 }
 use Rattle.records.specs.declared.session.Session.{Session}
 use Rattle.records.specs.declared.session.Reply.{Reply}
-use Rattle.records.specs.declared.session.Reply.TheVariants as Reply
 use Rattle.records.specs.declared.session.Taken.{Taken}
 use Rattle.playback.specs.declared.driver.Replay.{Replay}
 use Rattle.playback.proofs.Seeing.{replay-seen, seen-unopened}

@@ -7,7 +7,6 @@ use Rattle.records.specs.Sessions.{kept_words, refuse, line_of}
 use Rattle.playback.specs.Replays.{output_line, end_line, bad_line, unopened}
 use Rattle.records.specs.declared.session.Session.{Session}
 use Rattle.records.specs.declared.session.Reply.{Reply}
-use Rattle.records.specs.declared.session.Reply.TheVariants as Reply
 use Rattle.records.specs.declared.session.Taken.{Taken}
 use Rattle.playback.specs.declared.answers.BytesPut.{BytesPut}
 use Rattle.playback.specs.declared.driver.Replay.{Replay}

@@ -11,7 +11,6 @@ use Rattle.cic64.specs.Reading.{cic_of}
 use Rattle.records.specs.Sessions.{own_words, line_of}
 use Rattle.records.specs.declared.session.Session.{Session}
 use Rattle.records.specs.declared.session.Reply.{Reply}
-use Rattle.records.specs.declared.session.Reply.TheVariants as Reply
 
 -- A line's last field, where it is a number.
 abbrev pub last_field : ℕ → List ℕ

@@ -1,5 +1,5 @@
 -- What reading answers.
-use Rattle.std.specs.Prelude.{Bool, true, false, cond, List, [], ◌++◌, map, ℕ, ◌-◌, ◌%◌, ◌^◌, leb, ltb, ℤ, length, take, drop, replicate}
+use Rattle.std.specs.Prelude.{true, false, cond, List, [], ◌++◌, map, ℕ, ◌-◌, ◌%◌, ◌^◌, leb, ltb, ℤ, length, take, drop, replicate}
 use Rattle.std.proofs.Math.Option.{Option, none, some}
 use Rattle.std.specs.Int.{w32}
 use Rattle.words.specs.Words.{word}

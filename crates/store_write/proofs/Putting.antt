@@ -2,16 +2,13 @@
 use native.Mathlib.Omega.{arith}
 use native.Mathlib.Numerals.{add-one}
 use mathlib.Core.Path.{◌≡◌, refl, sym, ap, ◌∙◌}
-use mathlib.Core.List.{List, [], ◌∷◌, ◌++◌, map, map-append, append_assoc, append-nil}
+use mathlib.Core.List.{List, [], ◌∷◌, ◌++◌, map-append, append_assoc, append-nil}
 use Prim.Native.Nat.{ℕ, zero, suc, ◌+◌, ◌-◌, ◌*◌, ◌/◌, ◌%◌, ◌≤◌, ◌<◌, ◌^◌}
 use lib.IntN.{ℤ, pos}
 use lib.ListN.{length, length-append, take, get_or, replicate}
 use lib.Seq.{take_all, take-suc, length-take-le}
 use mir.Syntax.{w32}
-use mir.Val.{SFits, to_z, of_z, hbits}
-use lib.Signed.{mag}
-use Rattle.words.proofs.Reading.{read, wrap_is}
-use Rattle.words.specs.Words.{wrap}
+use mir.Val.{SFits}
 use Rattle.text.specs.Letters.{bytes}
 use Rattle.text.specs.Numbers.{decimal_of, signed_of}
 use Rattle.text.specs.Parts.{joined_by}
@@ -25,7 +22,6 @@ use Rattle.entries.specs.Entries.{setting_by}
 use Rattle.store_write.specs.Writing.{Ended, Fielded, body_of, kind_word, sections, tabs}
 use Rattle.entries.specs.declared.settings.Kind.TheVariants as kinds
 use Rattle.entries.specs.declared.settings.Kind.{Kind}
-use Rattle.entries.specs.declared.settings.Name.{Name}
 
 pub tabs-append : (fs gs : List (List ℕ)) → tabs (fs ++ gs) ≡ tabs fs ++ tabs gs
 unfolding tabs

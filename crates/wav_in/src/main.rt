@@ -4,18 +4,19 @@
 // A file's whole length is asked for before it is read, so a refused one gives its `bad` line alone. A pipe's is known only
 // at its end: until then the header's data size is taken for it, and where the pipe ends before or goes on, `bad` is
 // the last line, behind the lines of the samples that were there. No byte past the data size is taken for a sample. What a
-// read brings is written before the next read; a read or a write that fails ends the program with nothing further written, but
+// read brings is written before the next read; a read or a write that fails ends the program with its error and nothing further written, but
 // a read that fails within the header is taken for the file's end, 90.
 
 #![tactic(auto)]
 
-ghost use Rattle.std.specs.Prelude.{◌<◌, ◌≤◌};
+ghost use Rattle.std.specs.Prelude.{◌≡◌, ◌<◌, ◌≤◌, length};
 
-use libc::{STDIN_FILENO, STDOUT_FILENO};
+use std::io::Read;
+use std::{fs, io};
 use wav::header::{Head, read_header, said_length};
 use wav::samples::read_part;
 use wav_lines::write_inputs;
-use words::casts::i64_as_u64;
+use words::casts::{i64_as_u64, u64_as_i64};
 
 // Where the reading stands: the bytes of the data that are still to come, how many of them, 0 or 1, are held at the buffer's
 // front, whether to read on, and the number of a refusal or 0.
@@ -27,28 +28,33 @@ struct Intake {
     refusal: u32,
 }
 
-fn refuse(number: u32) {
-    io::write_all(STDOUT_FILENO, b"bad\t");
-    io::print_decimal(STDOUT_FILENO, number as u64);
-    io::write_all(STDOUT_FILENO, b"\n");
+fn refuse(rt: &impl Print, number: u32) -> io::Result<()> {
+    println!(rt; "bad\t{number}")
 }
 
 // The samples of the first n bytes as lines: whether all were written.
-fn give(bytes: &[u8], n: usize, samples: &mut [i32], out: &mut [u8]) -> bool {
+fn give(
+    rt: &impl Print,
+    bytes: &[u8],
+    n: usize,
+    samples: &mut [i32],
+    out: &mut [u8],
+) -> io::Result<bool> {
     if bytes.len() < n {
-        return false;
+        return Ok(false);
     }
     let part = read_part(&bytes[..n], samples);
     let count = part.count;
     if samples.len() < count {
-        return false;
+        return Ok(false);
     }
     let lines = write_inputs(&samples[..count], out);
     let wrote = lines.count;
     if out.len() < wrote {
-        return false;
+        return Ok(false);
     }
-    io::write_all(STDOUT_FILENO, &out[..wrote])
+    rt.write_all(&out[..wrote])?;
+    Ok(true)
 }
 
 // The input is over: refused with 90 where data is still to come.
@@ -71,7 +77,7 @@ fn longer() -> Intake {
     }
 }
 
-// A read or a write failed.
+// No room for what was read.
 fn failed() -> Intake {
     Intake {
         left: 0,
@@ -91,37 +97,38 @@ fn hold(bytes: &mut [u8], from: usize) {
 }
 
 // One read behind the byte that is held, and the lines of what it brings.
-fn pump(left: u64, held: usize, bytes: &mut [u8], samples: &mut [i32], out: &mut [u8]) -> Intake {
+fn pump(
+    rt: &impl Print,
+    input: &mut impl Read,
+    left: u64,
+    held: usize,
+    bytes: &mut [u8],
+    samples: &mut [i32],
+    out: &mut [u8],
+) -> io::Result<Intake> {
     if bytes.len() <= held {
-        return failed();
+        return Ok(failed());
     }
-    let got = libc::read(STDIN_FILENO, &mut bytes[held..]);
-    if got < 0 {
-        return failed();
-    }
-    if got == 0 {
-        return ended(left);
-    }
-    let n = io::count(got, bytes);
-    if bytes.len() - held < n {
-        return failed();
+    let n = input.read(&mut bytes[held..])?;
+    if n == 0 {
+        return Ok(ended(left));
     }
     let all = held + n;
     let data = within(all, left);
     let even = data - data % 2;
-    if !give(bytes, even, samples, out) {
-        return failed();
+    if !give(rt, bytes, even, samples, out)? {
+        return Ok(failed());
     }
     if data < all {
-        return longer();
+        return Ok(longer());
     }
     hold(bytes, even);
-    Intake {
+    Ok(Intake {
         left: left - even as u64,
         held: data - even,
         more: true,
         refusal: 0,
-    }
+    })
 }
 
 // The lesser of a count and a number of bytes that are left.
@@ -141,21 +148,29 @@ fn turns_left(turns: u64, more: bool) -> u64
 
 // The data, size bytes of it. A proved loop ends, and nothing says that the input does: the turns count down from a number that
 // no run uses up.
-fn run(size: u64, bytes: &mut [u8], samples: &mut [i32], out: &mut [u8]) {
+fn run(
+    rt: &impl Print,
+    input: &mut impl Read,
+    size: u64,
+    bytes: &mut [u8],
+    samples: &mut [i32],
+    out: &mut [u8],
+) -> io::Result<()> {
     let mut left = size;
     let mut held: usize = 0;
     let mut refusal: u32 = 0;
     let mut turns = u64::MAX;
     while 0 < turns {
-        let p = pump(left, held, bytes, samples, out);
+        let p = pump(rt, input, left, held, bytes, samples, out)?;
         left = p.left;
         held = p.held;
         refusal = p.refusal;
         turns = turns_left(turns, p.more);
     }
     if 0 < refusal {
-        refuse(refusal);
+        return refuse(rt, refusal);
     }
+    Ok(())
 }
 
 // How long a file on standard input is from where it stands; for a pipe what its header says.
@@ -169,20 +184,69 @@ fn whole_length(from: i64, to: i64, head: &[u8]) -> u64 {
     std::num::wrapping_sub_u64(i64_as_u64(to), i64_as_u64(from))
 }
 
-fn main() {
-    let from = libc::lseek(STDIN_FILENO, 0, libc::SEEK_CUR);
-    let to = libc::lseek(STDIN_FILENO, 0, libc::SEEK_END);
-    libc::lseek(STDIN_FILENO, from, libc::SEEK_SET);
+// Where a file on standard input stands: the system tells it behind `pos:` and a tab. A pipe stands at 0; -1 where nothing is told.
+fn input_place(rt: &HostRuntime) -> i64 {
+    let Ok(told) = fs::read_to_string(rt, "/proc/self/fdinfo/0") else {
+        return -1;
+    };
+    let Some(line) = told.lines().next() else {
+        return -1;
+    };
+    let Some(place) = line.strip_prefix("pos:\t") else {
+        return -1;
+    };
+    place.parse().unwrap_or(-1)
+}
+
+// Where a file on standard input ends; -1 where it is no file.
+fn input_end(rt: &HostRuntime) -> i64 {
+    match fs::metadata(rt, "/dev/stdin") {
+        Ok(about) => if about.is_file() {
+            u64_as_i64(about.len())
+        } else {
+            -1
+        },
+        Err(_) => -1,
+    }
+}
+
+// Reads until the header is full, the input ends or a read fails: how many bytes came, put at its front.
+fn read_head(input: &mut impl Read, head: &mut [u8]) -> usize
+    ensures count { result ≤ length head.new }
+    ensures size { length head.new ≡ length head.old }
+{
+    let mut done: usize = 0;
+    while done < head.len() {
+        let n = input.read(&mut head[done..]).unwrap_or(0);
+        if n == 0 {
+            break;
+        }
+        done += n;
+    }
+    done
+}
+
+fn main(rt: HostRuntime) -> io::Result<()> {
+    let from = input_place(&rt);
+    let to = input_end(&rt);
+    let mut input = rt.stdin();
     let mut head = [0u8; 44];
-    let n = io::read_full(STDIN_FILENO, &mut head);
+    let n = read_head(&mut input, &mut head);
     let length = whole_length(from, to, &head[..n]);
     match read_header(&head[..n], length) {
-        Head::Refused(number) => refuse(number),
+        Head::Refused(number) => refuse(&rt, number),
         Head::Of(told) => {
             let mut bytes = [0u8; 32768];
             let mut samples = [0i32; 16384];
             let mut out = [0u8; 229376];
-            run(told.size as u64, &mut bytes, &mut samples, &mut out);
+            run(
+                &rt,
+                &mut input,
+                told.size as u64,
+                &mut bytes,
+                &mut samples,
+                &mut out,
+            )
         }
     }
 }

@@ -10,14 +10,17 @@
 //
 // A header tells the size of the data that follow, which is known at the end: so the output is a file, empty at first, that
 // begins with 44 zeros until all is read and no refusal is left. Only then does it get its header. Where anything is refused it is
-// emptied and holds the `bad` line alone. An output that can't be sought, or isn't empty, is 90 at line 0.
+// emptied and holds the `bad` line alone. A file that isn't empty is 90 at line 0, behind what it holds. To an output that can't be
+// sought, as a pipe, header and data are written at the end, or the `bad` line alone; until then the data are held in memory.
 
 #![tactic(auto)]
 
 ghost use Rattle.std.specs.Prelude.{◌<◌};
 
 use blocks::Verdict;
-use libc::{STDIN_FILENO, STDOUT_FILENO};
+use std::fs::File;
+use std::io::{Read, Seek, SeekFrom, Write};
+use std::{fs, io};
 use text::parts::part_end;
 use wav::header::write_header;
 use wav::samples::write_part;
@@ -26,7 +29,7 @@ use wav_lines::{Divided, divide};
 use words::casts::u64_as_u32;
 
 // What a line was taken for: the first, an answer, or none any more behind `end`.
-#[derive(Drop)]
+#[derive(Clone, Copy)]
 enum Stage {
     First,
     Answers,
@@ -35,7 +38,7 @@ enum Stage {
 
 // Where the work stands: the settings, the lines and outputs so far, the samples so far and how many of them are held in the
 // part, and the number and line of a refusal, or 0.
-#[derive(Drop)]
+#[derive(Clone, Copy)]
 struct Taking {
     setting: Setting,
     stage: Stage,
@@ -221,19 +224,20 @@ fn keep(buffer: &mut [u8], from: usize, to: usize) -> usize {
 }
 
 // The samples that are held, written: whether all were.
-fn give(part: &[i32], held: usize, out: &mut [u8]) -> bool {
+fn give(to: &mut impl Write, part: &[i32], held: usize, out: &mut [u8]) -> io::Result<bool> {
     if part.len() < held {
-        return false;
+        return Ok(false);
     }
     let wrote = write_part(&part[..held], out);
     let n = wrote.count;
     if out.len() < n {
-        return false;
+        return Ok(false);
     }
-    io::write_all(STDOUT_FILENO, &out[..n])
+    to.write_all(&out[..n])?;
+    Ok(true)
 }
 
-// A read or a write failed.
+// No room for what was read.
 fn failed(t: Taking) -> Pumped {
     Pumped {
         taking: t,
@@ -261,42 +265,50 @@ fn over(t: Taking, kept: usize) -> Pumped {
 }
 
 // The lines of the buffer's first n bytes, their samples written, and the rest kept.
-fn work(t: Taking, n: usize, buffer: &mut [u8], part: &mut [i32], out: &mut [u8]) -> Pumped {
+fn work(
+    to: &mut impl Write,
+    t: Taking,
+    n: usize,
+    buffer: &mut [u8],
+    part: &mut [i32],
+    out: &mut [u8],
+) -> io::Result<Pumped> {
     if buffer.len() < n {
-        return failed(t);
+        return Ok(failed(t));
     }
     let p = take_lines(t, &buffer[..n], part);
     let s = p.taking;
-    if !give(part, s.held, out) {
-        return failed(s);
+    if !give(to, part, s.held, out)? {
+        return Ok(failed(s));
     }
     let mut next = s;
     next.held = 0;
-    Pumped {
+    Ok(Pumped {
         taking: next,
         kept: keep(buffer, p.kept, n),
         more: p.more,
         failed: false,
-    }
+    })
 }
 
 // One read behind the bytes that are kept, and its work.
-fn pump(t: Taking, kept: usize, buffer: &mut [u8], part: &mut [i32], out: &mut [u8]) -> Pumped {
+fn pump(
+    input: &mut impl Read,
+    to: &mut impl Write,
+    t: Taking,
+    kept: usize,
+    buffer: &mut [u8],
+    part: &mut [i32],
+    out: &mut [u8],
+) -> io::Result<Pumped> {
     if buffer.len() <= kept {
-        return over(t, kept);
+        return Ok(over(t, kept));
     }
-    let got = libc::read(STDIN_FILENO, &mut buffer[kept..]);
-    if got < 0 {
-        return failed(t);
+    let n = input.read(&mut buffer[kept..])?;
+    if n == 0 {
+        return Ok(over(t, kept));
     }
-    if got == 0 {
-        return over(t, kept);
-    }
-    let n = io::count(got, buffer);
-    if buffer.len() - kept < n {
-        return failed(t);
-    }
-    work(t, kept + n, buffer, part, out)
+    work(to, t, kept + n, buffer, part, out)
 }
 
 // The turns that are left: none where there is no more to read.
@@ -308,7 +320,13 @@ fn turns_left(turns: u64, more: bool) -> u64
 }
 
 // The whole input. A proved loop ends, and nothing says that the input does: the turns count down from a number that no run uses up.
-fn run(buffer: &mut [u8], part: &mut [i32], out: &mut [u8]) -> Pumped {
+fn run(
+    input: &mut impl Read,
+    to: &mut impl Write,
+    buffer: &mut [u8],
+    part: &mut [i32],
+    out: &mut [u8],
+) -> io::Result<Pumped> {
     let mut p = Pumped {
         taking: start(),
         kept: 0,
@@ -318,61 +336,100 @@ fn run(buffer: &mut [u8], part: &mut [i32], out: &mut [u8]) -> Pumped {
     let mut turns = u64::MAX;
     while 0 < turns {
         let t = p.taking;
-        p = pump(t, p.kept, buffer, part, out);
+        p = pump(input, to, t, p.kept, buffer, part, out)?;
         turns = turns_left(turns, p.more);
     }
-    p
+    Ok(p)
+}
+
+// The bytes of a line that refuses.
+fn put_refusal(to: &mut impl Write, number: u64, at: u64) -> io::Result<()> {
+    writeln!(to, "bad\t{number}\t{at}")
 }
 
 // The file is emptied and holds the refusal alone.
-fn refuse(number: u64, at: u64) {
-    libc::ftruncate(STDOUT_FILENO, 0);
-    libc::lseek(STDOUT_FILENO, 0, libc::SEEK_SET);
-    io::write_all(STDOUT_FILENO, b"bad\t");
-    io::print_decimal(STDOUT_FILENO, number);
-    io::write_all(STDOUT_FILENO, b"\t");
-    io::print_decimal(STDOUT_FILENO, at);
-    io::write_all(STDOUT_FILENO, b"\n");
+fn refuse(file: &mut File, number: u64, at: u64) -> io::Result<()> {
+    file.set_len(0)?;
+    file.seek(SeekFrom::Start(0))?;
+    put_refusal(file, number, at)
 }
 
-// The header, in front of the data: whether it came to stand there.
-fn finish(t: Taking) -> bool {
+// The header, where its data are at an end: whether there is one.
+fn finish(t: Taking, head: &mut [u8; 44]) -> bool {
     let setting = t.setting;
-    let mut head = [0u8; 44];
     let samples = u64_as_u32(t.samples);
     let size = std::num::wrapping_add_u32(samples, samples);
-    match write_header(setting.rate, size, &mut head) {
-        Verdict::Done => {
-            libc::lseek(STDOUT_FILENO, 0, libc::SEEK_SET);
-            io::write_all(STDOUT_FILENO, &head);
-            libc::lseek(STDOUT_FILENO, 0, libc::SEEK_CUR) == 44
-        }
+    match write_header(setting.rate, size, head) {
+        Verdict::Done => true,
         Verdict::Refused(_) => false,
     }
 }
 
-fn main() {
-    if libc::lseek(STDOUT_FILENO, 0, libc::SEEK_END) != 0 {
-        io::write_all(STDOUT_FILENO, b"bad\t90\t0\n");
-        return;
-    }
-    let zeros = [0u8; 44];
-    if !io::write_all(STDOUT_FILENO, &zeros) {
-        return;
-    }
+// The input's data behind what was written, and what became of it.
+fn take_input(rt: &HostRuntime, to: &mut impl Write) -> io::Result<Pumped> {
     let mut buffer = [0u8; 65536];
     let mut part = [0i32; 16384];
     let mut out = [0u8; 32768];
-    let p = run(&mut buffer, &mut part, &mut out);
+    run(&mut rt.stdin(), to, &mut buffer, &mut part, &mut out)
+}
+
+// To a file, empty so far, that standard output is, too. That stands at the front unless it only appends, which shows where it, too, writes
+// zeros: then it gets no header.
+fn into_file(rt: &HostRuntime, file: &mut File) -> io::Result<()> {
+    let zeros = [0u8; 44];
+    file.write_all(&zeros)?;
+    rt.write_all(&zeros)?;
+    let about = file.metadata()?;
+    let appends = about.len() == 88;
+    file.set_len(44)?;
+    let p = take_input(rt, file)?;
     if p.failed {
-        return;
+        return Ok(());
     }
     let t = p.taking;
     if t.refusal != 0 {
-        refuse(t.refusal, t.at);
-        return;
+        return refuse(file, t.refusal, t.at);
     }
-    if !finish(t) {
-        refuse(90, t.lines);
+    let mut head = [0u8; 44];
+    if appends || !finish(t, &mut head) {
+        return refuse(file, 90, t.lines);
     }
+    file.seek(SeekFrom::Start(0))?;
+    file.write_all(&head)
+}
+
+// To an output that can't be sought, as a pipe: the data are held until the input is over, and then follow their header.
+fn into_pipe(rt: &HostRuntime) -> io::Result<()> {
+    let mut data = Vec::new(rt.alloc());
+    let p = take_input(rt, &mut data)?;
+    if p.failed {
+        return Ok(());
+    }
+    let t = p.taking;
+    if t.refusal != 0 {
+        return put_refusal(&mut rt.stdout(), t.refusal, t.at);
+    }
+    let mut head = [0u8; 44];
+    if !finish(t, &mut head) {
+        return put_refusal(&mut rt.stdout(), 90, t.lines);
+    }
+    rt.write_all(&head)?;
+    rt.write_all(&data)
+}
+
+fn main(rt: HostRuntime) -> io::Result<()> {
+    let Ok(about) = fs::metadata(&rt, "/dev/stdout") else {
+        return into_pipe(&rt);
+    };
+    if !about.is_file() {
+        return into_pipe(&rt);
+    }
+    if about.len() != 0 {
+        let mut file = File::options().append(true).open(&rt, "/dev/stdout")?;
+        return put_refusal(&mut file, 90, 0);
+    }
+    let Ok(mut file) = File::options().write(true).open(&rt, "/dev/stdout") else {
+        return into_pipe(&rt);
+    };
+    into_file(&rt, &mut file)
 }

@@ -11,10 +11,8 @@ use Rattle.playback.specs.Replays.{output_line}
 use Rattle.playback.specs.Places.{Place, counted_up, reply_bytes, goes_on, line_ends, ended, fed_of, bytes_of, place_of}
 use Rattle.records.specs.declared.parse.Record.TheVariants.{Sample}
 use Rattle.playback.specs.declared.samples.Found.{Found}
-use Rattle.playback.specs.declared.samples.Found.TheVariants as Found
 use Rattle.records.specs.declared.session.Taken.{Taken}
 use Rattle.records.specs.declared.session.Reply.{Reply}
-use Rattle.records.specs.declared.session.Reply.TheVariants as Reply
 use Rattle.cic64.specs.declared.state.Cic.{Cic}
 use Rattle.playback.specs.declared.driver.Replay.{Replay}
 

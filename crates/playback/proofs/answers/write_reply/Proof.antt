@@ -5,18 +5,18 @@ use Rattle.playback.proofs.Answering.{refused_20, done, answer-short, answer-fit
 use Rattle.playback.proofs.answers.write_reply.Statement.{statement}
 use Rattle.playback.proofs.answers.write_reply.Tie as tie
 
-returns : tie.Need-returns
+returns : tie.Need-returns-then-out-lt44
 returns c =
     let a = c.before.before.args in
-    refused_20 (answer_number a.out.now) (reply_bytes a.line a.reply) a.out.now (answer-short a.out.now c.if1.true)
+    refused_20 (answer_number a.out.now) (reply_bytes a.line a.reply) a.out.now (answer-short a.out.now c.if-out-lt44.true)
 
-returns-2 : tie.Need-returns-2
+returns-2 : tie.Need-returns
 returns-2 c =
-    let else1 : tie.Else1 = search in
+    let else1 : tie.Else-out-lt44 = search in
     let begin : tie.Start = search in
     let a = begin.args in
     done (answer_number a.out.now) (reply_bytes a.line a.reply) a.out.now _ _
-    (answer-fits a.out.now else1.if1.left) c.before.before.put-reply.ensures.0
+    (answer-fits a.out.now else1.if-out-lt44.false) c.before.before.put_reply-n.ensures.0
 
-pub write-reply-spec : {M : Type 1} → statement M
-write-reply-spec = tie.close (tie.spec returns (λ c κs. search rules) (λ c. search rules) returns-2)
+pub write_reply_spec : {M : Type 1} → statement M
+write_reply_spec = tie.close (tie.spec returns (λ c κs. search rules) (λ c. search rules) returns-2)

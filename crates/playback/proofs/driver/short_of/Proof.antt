@@ -7,11 +7,11 @@ use Rattle.playback.proofs.Turning.{short_test}
 use Rattle.playback.proofs.driver.short_of.Statement.{statement}
 use Rattle.playback.proofs.driver.short_of.Tie as tie
 
-returns : tie.Need-returns
+returns : tie.Need-returns-then-len-lt492
 returns c = let a = c.before.args in sym (lt-ltb a.len (7 * a.n + 492) (omega arith))
 
-returns-2 : tie.Need-returns-2
-returns-2 c = let a = c.before.args in short_test a.len a.n c.if1.false
+returns-2 : tie.Need-returns
+returns-2 c = let a = c.before.args in short_test a.len a.n c.if-len-lt492.false
 
-pub short-of-spec : {M : Type 1} → statement M
-short-of-spec = tie.close (tie.spec returns returns-2)
+pub short_of_spec : {M : Type 1} → statement M
+short_of_spec = tie.close (tie.spec returns returns-2)

@@ -9,29 +9,29 @@ use Rattle.text.proofs.Spelling.{spelt-most}
 use Rattle.playback.proofs.samples.put_next.Statement.{statement}
 use Rattle.playback.proofs.samples.put_next.Tie as tie
 
-returns : tie.Need-returns
+returns : tie.Need-returns-then-told-i
 returns c =
-    let then1 : tie.Then1 = search in
+    let then1 : tie.Then-told-i = search in
     let begin : tie.Start = search in
     let a = begin.args in
-    let z : a.told - a.i ≡ 0 = omega (arith, then1.if1.taken) in
-    let p = rw (to_z-of_z w64 a.value begin.fits.value) at c.before.before.put-settled.ensures in
+    let z : a.told - a.i ≡ 0 = omega (arith, then1.if-told-i.true) in
+    let p = rw (to_z-of_z w64 a.value begin.ranges.value) at c.before.before.put_settled.ensures in
     rw z (p.0, omega (arith, p.1))
 
-put-output-requires : tie.Need-put-output-requires
+put-output-requires : tie.Need-put_output-requires
 put-output-requires c κs =
     let begin : tie.Start = search in
     let a = begin.args in
-    omega (arith, spelt-most 1 20 (a.told - a.i) (omega (arith, begin.pre.0)), begin.pre.1)
+    omega (arith, spelt-most 1 20 (a.told - a.i) (omega (arith, begin.requires.0)), begin.requires.1)
 
-returns-2 : tie.Need-returns-2
+returns-2 : tie.Need-returns
 returns-2 c =
     let begin : tie.Start = search in
     let a = begin.args in
-    let p = rw (to_z-of_z w64 a.value begin.fits.value) at c.before.before.put-output.ensures in
-    (p.0, omega (arith, p.1, spelt-most 1 20 (a.told - a.i) (omega (arith, begin.pre.0))))
+    let p = rw (to_z-of_z w64 a.value begin.ranges.value) at c.before.before.put_output.ensures in
+    (p.0, omega (arith, p.1, spelt-most 1 20 (a.told - a.i) (omega (arith, begin.requires.0))))
 
-pub put-next-spec : {M : Type 1} → statement M
-put-next-spec =
+pub put_next_spec : {M : Type 1} → statement M
+put_next_spec =
     tie.close (tie.spec (λ c κs. search rules) (λ c. search rules) returns (λ c. search rules) put-output-requires
     (λ c. search rules) returns-2)

@@ -1,69 +1,48 @@
--- Each return is the first test of the definition that holds.
-use Rattle.std.proofs.Common.{le-ltb, lt-ltb, eq-eqb, ne_eqb}
+-- Each return is the first test of the definition that holds. No step is named by its bound, so that a wrong bound is refused by the fact.
+use Rattle.std.proofs.Common.{◌≡◌, ℕ, ◌*◌, ◌<◌, ◌≤◌, arith, le-ltb, lt-ltb, eq-eqb, ne_eqb}
 use Rattle.sums.specs.State.{refusal_of}
 use Rattle.sums.proofs.Numbers.{small}
 use Rattle.shape.proofs.numbers.refusal_of.Statement.{statement}
 use Rattle.shape.proofs.numbers.refusal_of.Tie as tie
 
-returns : tie.Need-returns-then-order-gt8
-unfolding refusal_of
-returns c = simp (lt-ltb _ _ c.if-order-gt8.true)
+module _ (order delay rate countdown unsettled : ℕ) where
+  is_many : 8 < order → 10 ≡ refusal_of order delay rate countdown unsettled
+  unfolding refusal_of
+  is_many a = simp (lt-ltb _ _ a)
 
-returns-2 : tie.Need-returns-then-delay-eq0
-unfolding refusal_of
-returns-2 c = simp (le-ltb _ _ c.before.if-order-gt8.false, eq-eqb _ _ c.if-delay-eq0.true)
+  is_none : order ≤ 8 → delay ≡ 0 → 11 ≡ refusal_of order delay rate countdown unsettled
+  unfolding refusal_of
+  is_none a b = simp (le-ltb _ _ a, eq-eqb _ _ b)
 
-returns-3 : tie.Need-returns-then-delay-gt8
-unfolding refusal_of
-returns-3 c = simp (le-ltb _ _ c.before.before.if-order-gt8.false, ne_eqb _ _ c.before.if-delay-eq0.false, lt-ltb _ _ c.if-delay-gt8.true)
+  is_long : order ≤ 8 → 1 ≤ delay → 8 < delay → 11 ≡ refusal_of order delay rate countdown unsettled
+  unfolding refusal_of
+  is_long a b c = simp (le-ltb _ _ a, ne_eqb delay 0 (λ z. omega arith), lt-ltb _ _ c)
 
-returns-4 : tie.Need-returns-then-rate-gt65535
-unfolding refusal_of
-returns-4 c =
-    let e3 = c.before in let e2 = e3.before in let e1 = e2.before in
-    simp (le-ltb _ _ e1.if-order-gt8.false, ne_eqb _ _ e2.if-delay-eq0.false, le-ltb _ _ e3.if-delay-gt8.false, lt-ltb _ _ c.if-rate-gt65535.true)
+  is_fast : order ≤ 8 → 1 ≤ delay → delay ≤ 8 → 65535 < rate → 12 ≡ refusal_of order delay rate countdown unsettled
+  unfolding refusal_of
+  is_fast a b c d = simp (le-ltb _ _ a, ne_eqb delay 0 (λ z. omega arith), le-ltb _ _ c, lt-ltb _ _ d)
 
-returns-5 : tie.Need-returns-then-countdown-gt65535
-unfolding refusal_of
-returns-5 c =
-    let e4 = c.before in let e3 = e4.before in let e2 = e3.before in let e1 = e2.before in
-    simp (
-      le-ltb _ _ e1.if-order-gt8.false,
-      ne_eqb _ _ e2.if-delay-eq0.false,
-      le-ltb _ _ e3.if-delay-gt8.false,
-      le-ltb _ _ e4.if-rate-gt65535.false,
-      lt-ltb _ _ c.if-countdown-gt65535.true,
-    )
+  is_far : order ≤ 8 → 1 ≤ delay → delay ≤ 8 → rate ≤ 65535 → 65535 < countdown → 13 ≡ refusal_of order delay rate countdown unsettled
+  unfolding refusal_of
+  is_far a b c d e = simp (le-ltb _ _ a, ne_eqb delay 0 (λ z. omega arith), le-ltb _ _ c, le-ltb _ _ d, lt-ltb _ _ e)
 
-mul-if6 : tie.Need-overflow_mul-order
-mul-if6 c = let e3 = c.before.before in small _ _ e3.before.before.if-order-gt8.false e3.if-delay-gt8.false
+  is_owed : order ≤ 8 → 1 ≤ delay → delay ≤ 8 → rate ≤ 65535 → countdown ≤ 65535 → order * delay < unsettled → 15 ≡ refusal_of order delay rate countdown unsettled
+  unfolding refusal_of
+  is_owed a b c d e f = simp (le-ltb _ _ a, ne_eqb delay 0 (λ z. omega arith), le-ltb _ _ c, le-ltb _ _ d, le-ltb _ _ e, lt-ltb _ _ f)
 
-returns-6 : tie.Need-returns-then-order-delay
-unfolding refusal_of
-returns-6 c =
-    let e5 = c.before in let e4 = e5.before in let e3 = e4.before in let e2 = e3.before in let e1 = e2.before in
-    simp (
-      le-ltb _ _ e1.if-order-gt8.false,
-      ne_eqb _ _ e2.if-delay-eq0.false,
-      le-ltb _ _ e3.if-delay-gt8.false,
-      le-ltb _ _ e4.if-rate-gt65535.false,
-      le-ltb _ _ e5.if-countdown-gt65535.false,
-      lt-ltb _ _ c.if-order-delay.true,
-    )
-
-returns-7 : tie.Need-returns
-unfolding refusal_of
-returns-7 c =
-    let e5 = c.before in let e4 = e5.before in let e3 = e4.before in let e2 = e3.before in let e1 = e2.before in
-    simp (
-      le-ltb _ _ e1.if-order-gt8.false,
-      ne_eqb _ _ e2.if-delay-eq0.false,
-      le-ltb _ _ e3.if-delay-gt8.false,
-      le-ltb _ _ e4.if-rate-gt65535.false,
-      le-ltb _ _ e5.if-countdown-gt65535.false,
-      le-ltb _ _ c.if-order-delay.false,
-    )
+  is_fine : order ≤ 8 → 1 ≤ delay → delay ≤ 8 → rate ≤ 65535 → countdown ≤ 65535 → unsettled ≤ order * delay → 0 ≡ refusal_of order delay rate countdown unsettled
+  unfolding refusal_of
+  is_fine a b c d e f = simp (le-ltb _ _ a, ne_eqb delay 0 (λ z. omega arith), le-ltb _ _ c, le-ltb _ _ d, le-ltb _ _ e, le-ltb _ _ f)
 
 pub refusal_of_spec : {M : Type 1} → statement M
 refusal_of_spec =
-    tie.close (tie.spec returns returns-2 returns-3 returns-4 returns-5 mul-if6 returns-6 returns-7)
+    tie.close
+    (tie.spec
+    (λ c. is_many _ _ _ _ _ (omega arith))
+    (λ c. is_none _ _ _ _ _ (omega arith) (omega arith))
+    (λ c. is_long _ _ _ _ _ (omega arith) (omega arith) (omega arith))
+    (λ c. is_fast _ _ _ _ _ (omega arith) (omega arith) (omega arith) (omega arith))
+    (λ c. is_far _ _ _ _ _ (omega arith) (omega arith) (omega arith) (omega arith) (omega arith))
+    (λ c. small _ _ (omega arith) (omega arith))
+    (λ c. is_owed _ _ _ _ _ (omega arith) (omega arith) (omega arith) (omega arith) (omega arith) (omega arith))
+    (λ c. is_fine _ _ _ _ _ (omega arith) (omega arith) (omega arith) (omega arith) (omega arith) (omega arith)))

@@ -1,5 +1,5 @@
 -- Each test is the definition's own, in its order. The room is below the power's cap, so that the capped power compares with it as the gain.
-use Rattle.std.proofs.Common.{◌≡◌, ◌-◌, ◌^◌, ◌≤◌, sym, ◌∙◌, arith, pow_mono, rules, le-ltb, lt-ltb, eq-eqb, ne_eqb}
+use Rattle.std.proofs.Common.{◌≡◌, ℕ, ◌-◌, ◌^◌, ◌≤◌, sym, ◌∙◌, arith, pow_mono, rules, le-ltb, lt-ltb, eq-eqb, ne_eqb}
 use Rattle.sums.specs.State.{refusal_of}
 use Rattle.sums.specs.Calls.{fit_number_of, fits_of, gain_of}
 use Rattle.sums.proofs.Numbers.{span_some, width-most, capped_leb}
@@ -23,25 +23,24 @@ returns c =
     let f = c.before.refusal_of-number in
     unfit f.result _ _ (rw (← f.ensures, ne_eqb f.result 0 c.if-number-ne0.true)) c.if-number-ne0.true
 
-returns-2 : tie.Need-returns-then-b-eq0
+none-fit : (k width b : ℕ) → k ≡ 0 → b ≡ 0 → 17 ≡ fit_number_of k width b
 unfolding fit_number_of
-returns-2 c = unfit 17 _ _ (rw (none c.before, eq-eqb _ _ c.if-b-eq0.true)) (λ z. omega arith)
+none-fit k width b z e = rw (z, eq-eqb _ _ e)
 
 returns-3 : tie.Need-returns-then-width-b
 unfolding fit_number_of
 returns-3 c =
-    unfit 17 _ _ (rw (none c.before.before, ne_eqb _ _ c.before.if-b-eq0.false, lt-ltb _ _ c.if-width-b.true)) (λ z. omega arith)
+    unfit 17 _ _ (rw (none c.before.before, ne_eqb c.before.before.before.before.args.b 0 (λ z. omega arith), lt-ltb _ _ c.if-width-b.true)) (λ z. omega arith)
 
 returns-4 : tie.Need-returns-then-not-is_width
 unfolding fit_number_of
 returns-4 c =
     let e1 : tie.Else-number-ne0 = search in
-    let e2 : tie.Else-b-eq0 = search in
     let e3 : tie.Else-width-b = search in
     let w : tie.After-is_width = search in
     unfit 17 _ _ (rw (
       none e1,
-      ne_eqb _ _ e2.if-b-eq0.false,
+      ne_eqb e1.before.before.args.b 0 (λ z. omega arith),
       le-ltb _ _ e3.if-width-b.false,
       ← w.is_width.ensures,
       c.if-not-is_width.true,
@@ -59,8 +58,6 @@ power-requires c κs =
 -- the room's exponent
 room : (c : tie.Else-not-is_width) → let a = c.before.before.before.before.before.before.args in a.width - a.b ≤ 63
 room c =
-    let e2 : tie.Else-b-eq0 = search in
-    let nz = e2.if-b-eq0.false in
     omega (arith, width-most _ (sym c.before.is_width.ensures ∙ c.if-not-is_width.false))
 
 power-of-two-requires : tie.Need-power_of_two-requires
@@ -70,7 +67,6 @@ returns-5 : tie.Need-returns
 unfolding fit_number_of fits_of gain_of
 returns-5 c =
     let e1 : tie.Else-number-ne0 = search in
-    let e2 : tie.Else-b-eq0 = search in
     let e3 : tie.Else-width-b = search in
     let e4 : tie.Else-not-is_width = search in
     let w : tie.After-is_width = search in
@@ -78,7 +74,7 @@ returns-5 c =
     let a = e1.before.before.args in
     fitted _ _ _ (rw (
       none e1,
-      ne_eqb _ _ e2.if-b-eq0.false,
+      ne_eqb e1.before.before.args.b 0 (λ z. omega arith),
       le-ltb _ _ e3.if-width-b.false,
       ← w.is_width.ensures,
       e4.if-not-is_width.false,
@@ -91,5 +87,6 @@ returns-5 c =
 pub fit_spec : {M : Type 1} → statement M
 fit_spec =
     tie.close
-    (tie.spec (λ c κs. search rules) returns returns-2 returns-3 (λ c κs. search rules) returns-4 cast-span (λ c κs. search rules)
+    (tie.spec (λ c κs. search rules) returns
+    (λ c. unfit 17 _ _ (none-fit _ _ _ (none c.before) (omega arith)) (λ z. omega arith)) returns-3 (λ c κs. search rules) returns-4 cast-span (λ c κs. search rules)
     power-requires power-of-two-requires returns-5)

@@ -1,5 +1,5 @@
 -- The gain is the capped power wherever 14 is not given; the tests before and after it are the state's own.
-use Rattle.std.proofs.Common.{◌≡◌, ℕ, ◌-◌, ◌^◌, min, sym, ◌∙◌, arith, rules, le-ltb, lt-ltb, ne_eqb}
+use Rattle.std.proofs.Common.{◌≡◌, ℕ, ◌-◌, ◌^◌, ◌<◌, ◌≤◌, min, sym, ◌∙◌, arith, rules, le-ltb, lt-ltb, ne_eqb}
 use Rattle.sums.specs.State.{refusal_of}
 use Rattle.sums.specs.Calls.{gain_of, gain_number_of}
 use Rattle.sums.proofs.Numbers.{span_some, capped-over, capped_is}
@@ -25,14 +25,21 @@ made : (c : tie.After-power-gain) → c.power-gain.result ≡ min (whole c) powe
 unfolding gain_of
 made c = rw c.before.span.ensures at c.power-gain.ensures
 
-low : (c : tie.Else-gain-gt9223372036854775807) → let a = (begin c.before).args in
+low : (k : tie.After-power-gain) → k.power-gain.result ≤ 2 ^ 63 - 1 → let a = (begin k).args in
     gain_number_of a.order a.delay a.rate a.countdown a.unsettled
     ≡ refusal_of a.order a.delay a.rate a.countdown a.unsettled
 unfolding gain_number_of
-low c =
-    let k = c.before in let g = whole k in
-    let e = capped_is g k.power-gain.result power_cap (2 ^ 63 - 1) (made k) (omega arith) (omega (arith, c.if-gain-gt9223372036854775807.false)) in
-    rw (none k.before.before, le-ltb (2 ^ 63 - 1) g (omega (arith, e, c.if-gain-gt9223372036854775807.false)))
+low k l =
+    let g = whole k in
+    let e = capped_is g k.power-gain.result power_cap (2 ^ 63 - 1) (made k) (omega arith) l in
+    rw (none k.before.before, le-ltb (2 ^ 63 - 1) g (omega (arith, e)))
+
+over : (k : tie.After-power-gain) → 2 ^ 63 - 1 < k.power-gain.result → let a = (begin k).args in
+    14 ≡ gain_number_of a.order a.delay a.rate a.countdown a.unsettled
+unfolding gain_number_of
+over k l =
+    let g = whole k in
+    rw (none k.before.before, lt-ltb (2 ^ 63 - 1) g (capped-over g k.power-gain.result power_cap (2 ^ 63 - 1) (made k) (omega arith) l))
 
 returns : tie.Need-returns-then-first-ne0
 unfolding gain_number_of
@@ -47,24 +54,19 @@ power-requires : tie.Need-power-gain-requires
 power-requires c κs =
     let a = c.before.before.before.args in rw c.span.ensures (span_some a.rate a.delay (fine c.before).some)
 
-returns-2 : tie.Need-returns-then-gain-gt9223372036854775807
-unfolding gain_number_of
-returns-2 c =
-    let k = c.before in let g = whole k in
-    let over = capped-over g k.power-gain.result power_cap (2 ^ 63 - 1) (made k) (omega arith) c.if-gain-gt9223372036854775807.true in
-    untold 14 _ _ (rw (none k.before.before, lt-ltb (2 ^ 63 - 1) g over)) (λ z. omega arith)
-
 returns-3 : tie.Need-returns-then-number-ne0
 returns-3 c =
-    let f = c.before.refusal_of-number in untold f.result _ _ (f.ensures ∙ sym (low c.before.before)) c.if-number-ne0.true
+    let f = c.before.refusal_of-number in let w : tie.After-power-gain = search in
+    untold f.result _ _ (f.ensures ∙ sym (low w (omega arith))) c.if-number-ne0.true
 
 returns-4 : tie.Need-returns
 returns-4 c =
-    let k = c.before.before in let w = k.before in
-    tells _ w.power-gain.result _ (low k ∙ sym c.before.refusal_of-number.ensures ∙ c.if-number-ne0.false)
-    (capped_is (whole w) w.power-gain.result power_cap (2 ^ 63 - 1) (made w) (omega arith) (omega (arith, k.if-gain-gt9223372036854775807.false)))
+    let w : tie.After-power-gain = search in
+    tells _ w.power-gain.result _ (low w (omega arith) ∙ sym c.before.refusal_of-number.ensures ∙ c.if-number-ne0.false)
+    (capped_is (whole w) w.power-gain.result power_cap (2 ^ 63 - 1) (made w) (omega arith) (omega arith))
 
 pub gain_spec : {M : Type 1} → statement M
 gain_spec =
-    tie.close (tie.spec (λ c κs. search rules) returns cast-span (λ c κs. search rules) power-requires returns-2 (λ c κs. search rules)
+    tie.close (tie.spec (λ c κs. search rules) returns cast-span (λ c κs. search rules) power-requires
+    (λ c. untold 14 _ _ (over c.before (omega arith)) (λ z. omega arith)) (λ c κs. search rules)
     returns-3 returns-4)

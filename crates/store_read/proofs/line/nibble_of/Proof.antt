@@ -5,12 +5,12 @@ use Rattle.settings_text.proofs.Nibbles.{digit_most}
 use Rattle.store_read.proofs.line.nibble_of.Statement.{statement}
 use Rattle.store_read.proofs.line.nibble_of.Tie as tie
 
-cast-result : tie.Need-overflow-cast-result
+cast-result : tie.Need-overflow_cast-result
 cast-result c =
     let begin : tie.Start = search in
     let m = digit_most begin.args.b in
-    let e = c.hex-digit.ensures in
+    let e = c.hex_digit.ensures in
     record { fits = omega arith }
 
-pub nibble-of-spec : {M : Type 1} → statement M
-nibble-of-spec = tie.close (tie.spec (λ c κs. search rules) cast-result (λ c. search rules))
+pub nibble_of_spec : {M : Type 1} → statement M
+nibble_of_spec = tie.close (tie.spec (λ c κs. search rules) cast-result (λ c. search rules))

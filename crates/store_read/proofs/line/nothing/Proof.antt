@@ -4,7 +4,7 @@ use Rattle.store_read.proofs.line.nothing.Statement.{statement}
 use Rattle.store_read.proofs.line.nothing.Tie as tie
 
 returns : tie.Need-returns
-returns c = rw c.no-entry.ensures
+returns c = rw c.no_entry-entry.ensures
 
-pub nothing-spec : {M : Type 1} → statement M
-nothing-spec = tie.close (tie.spec (λ c κs. search rules) returns)
+pub nothing_spec : {M : Type 1} → statement M
+nothing_spec = tie.close (tie.spec (λ c κs. search rules) returns)

@@ -3,5 +3,5 @@ use borrow.Author.Rules.{rules}
 use Rattle.store_read.proofs.reading.read_form2.Statement.{statement}
 use Rattle.store_read.proofs.reading.read_form2.Tie as tie
 
-pub read-form2-spec : {M : Type 1} → statement M
-read-form2-spec = tie.close (tie.spec (λ c κs. search rules) (λ c. search rules))
+pub read_form2_spec : {M : Type 1} → statement M
+read_form2_spec = tie.close (tie.spec (λ c κs. search rules) (λ c. search rules))

@@ -4,7 +4,7 @@ use Rattle.store_read.proofs.reading.stopped.Statement.{statement}
 use Rattle.store_read.proofs.reading.stopped.Tie as tie
 
 returns : tie.Need-returns
-returns c = rw c.no-entry.ensures
+returns c = rw c.no_entry-entry.ensures
 
-pub stopped-spec : {M : Type 1} → statement M
-stopped-spec = tie.close (tie.spec (λ c κs. search rules) returns)
+pub stopped_spec : {M : Type 1} → statement M
+stopped_spec = tie.close (tie.spec (λ c κs. search rules) returns)

@@ -5,17 +5,17 @@ use Rattle.store_write.proofs.Judging.{allowed_cic, allowed_dither}
 use Rattle.store_write.proofs.saving.allowed.Statement.{statement}
 use Rattle.store_write.proofs.saving.allowed.Tie as tie
 
-returns : tie.Need-returns
+returns : tie.Need-returns-in-Cic
 returns c =
     let begin : tie.Start = search in
-    allowed_cic begin.args.version begin.args.kind _ _ _ c.before.kind.given.1 (omega arith) (omega arith) (omega arith)
+    allowed_cic begin.args.version begin.args.kind _ _ _ c.in-Cic.is (omega arith) (omega arith) (omega arith)
 
-returns-4 : tie.Need-returns-4
+returns-4 : tie.Need-returns-in-Two
 returns-4 c =
     let begin : tie.Start = search in
-    allowed_dither begin.args.version begin.args.kind _ c.enum-told2.given.1 c.before.before.before.kind3.given.1 (omega arith)
+    allowed_dither begin.args.version begin.args.kind _ c.in-Two.is c.in-Dither.is (omega arith)
 
-pub allowed-spec : {M : Type 1} → statement M
-allowed-spec =
+pub allowed_spec : {M : Type 1} → statement M
+allowed_spec =
     tie.close (tie.spec (λ c. search rules) (λ c. search rules) (λ c. search rules) (λ c. search rules) (λ c. search rules)
     returns (λ c. search rules) (λ c. search rules) returns-4)

@@ -11,28 +11,28 @@ use Rattle.store_write.proofs.Putting.{more-fields, wider}
 use Rattle.store_write.proofs.writing.put_dither.Statement.{statement}
 use Rattle.store_write.proofs.writing.put_dither.Tie as tie
 
-put-integers-requires : tie.Need-put-integers-requires
+put-integers-requires : tie.Need-put_integers-requires
 put-integers-requires c κs =
-    let at-put-natural : tie.After-put-natural = search in
+    let at-put-natural : tie.After-put_natural-x = search in
     let begin : tie.Start = search in
-    let h = at-put-natural.put-natural.ensures.high in
-    let l = at-put-natural.put-natural.ensures.long in
-    let p = begin.pre.0 in
-    (omega arith, omega arith, begin.pre.1)
+    let h = at-put-natural.put_natural-x.ensures.high in
+    let l = at-put-natural.put_natural-x.ensures.long in
+    let p = begin.requires.0 in
+    (omega arith, omega arith, begin.requires.1)
 
 returns : tie.Need-returns
 returns c =
     let begin : tie.Start = search in
-    let at-put-natural : tie.After-put-natural = search in
-    let at-put-integers : tie.After-put-integers = search in
-    let p = begin.pre.0 in
-    let h = at-put-natural.put-natural.ensures.high in
-    let l = at-put-natural.put-natural.ensures.long in
+    let at-put-natural : tie.After-put_natural-x = search in
+    let at-put-integers : tie.After-put_integers = search in
+    let p = begin.requires.0 in
+    let h = at-put-natural.put_natural-x.ensures.high in
+    let l = at-put-natural.put_natural-x.ensures.long in
     let a = begin.args in
     wider
-    (more-fields (decimal_of a.f ∷ []) (texts (take 8 (map (wrap w32) a.a.now))) (omega arith) at-put-natural.put-natural.ensures
-    at-put-integers.put-integers.ensures) (omega arith)
+    (more-fields (decimal_of a.f ∷ []) (texts (take 8 (map (wrap w32) a.a.now))) (omega arith) at-put-natural.put_natural-x.ensures
+    at-put-integers.put_integers.ensures) (omega arith)
 
-pub put-dither-spec : {M : Type 1} → statement M
-put-dither-spec =
+pub put_dither_spec : {M : Type 1} → statement M
+put_dither_spec =
     tie.close (tie.spec (λ c κs. search rules) put-integers-requires (λ c. search rules) returns)

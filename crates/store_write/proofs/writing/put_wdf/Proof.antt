@@ -12,46 +12,46 @@ use Rattle.store_write.proofs.Putting.{more-fields, wider}
 use Rattle.store_write.proofs.writing.put_wdf.Statement.{statement}
 use Rattle.store_write.proofs.writing.put_wdf.Tie as tie
 
-put-nibbles-requires : tie.Need-put-nibbles-requires
+put-nibbles-requires : tie.Need-put_nibbles-y-requires
 put-nibbles-requires c κs =
-    let at-put-natural : tie.After-put-natural = search in
+    let at-put-natural : tie.After-put_natural-x = search in
     let begin : tie.Start = search in
-    let h = at-put-natural.put-natural.ensures.high in
-    let l = at-put-natural.put-natural.ensures.long in
-    let p = begin.pre.0 in
-    (omega arith, begin.pre.1)
+    let h = at-put-natural.put_natural-x.ensures.high in
+    let l = at-put-natural.put_natural-x.ensures.long in
+    let p = begin.requires.0 in
+    (omega arith, begin.requires.1)
 
-put-integers-requires : tie.Need-put-integers-requires
+put-integers-requires : tie.Need-put_integers-requires
 put-integers-requires c κs =
-    let at-put-natural : tie.After-put-natural = search in
-    let at-put-nibbles : tie.After-put-nibbles = search in
+    let at-put-natural : tie.After-put_natural-x = search in
+    let at-put-nibbles : tie.After-put_nibbles-y = search in
     let begin : tie.Start = search in
-    let h = at-put-natural.put-natural.ensures.high in
-    let l = at-put-natural.put-natural.ensures.long in
-    let i = at-put-nibbles.put-nibbles.ensures.high in
-    let m = at-put-nibbles.put-nibbles.ensures.long in
-    let p = begin.pre.0 in
-    let q = begin.pre.1 in
-    (omega arith, q, begin.pre.2)
+    let h = at-put-natural.put_natural-x.ensures.high in
+    let l = at-put-natural.put_natural-x.ensures.long in
+    let i = at-put-nibbles.put_nibbles-y.ensures.high in
+    let m = at-put-nibbles.put_nibbles-y.ensures.long in
+    let p = begin.requires.0 in
+    let q = begin.requires.1 in
+    (omega arith, q, begin.requires.2)
 
 returns : tie.Need-returns
 returns c =
     let begin : tie.Start = search in
-    let at-put-natural : tie.After-put-natural = search in
-    let at-put-nibbles : tie.After-put-nibbles = search in
-    let at-put-integers : tie.After-put-integers = search in
-    let p = begin.pre.0 in
-    let q = begin.pre.1 in
-    let h = at-put-natural.put-natural.ensures.high in
-    let l = at-put-natural.put-natural.ensures.long in
+    let at-put-natural : tie.After-put_natural-x = search in
+    let at-put-nibbles : tie.After-put_nibbles-y = search in
+    let at-put-integers : tie.After-put_integers = search in
+    let p = begin.requires.0 in
+    let q = begin.requires.1 in
+    let h = at-put-natural.put_natural-x.ensures.high in
+    let l = at-put-natural.put_natural-x.ensures.long in
     let a = begin.args in
     let cs = texts (take a.k (map (wrap w32) a.a.now)) in
     wider
-    (more-fields (decimal_of a.k ∷ []) (nibbles_of a.k a.m ∷ cs) (omega arith) at-put-natural.put-natural.ensures
-    (more-fields (nibbles_of a.k a.m ∷ []) cs (omega arith) at-put-nibbles.put-nibbles.ensures
-    at-put-integers.put-integers.ensures)) (omega arith)
+    (more-fields (decimal_of a.k ∷ []) (nibbles_of a.k a.m ∷ cs) (omega arith) at-put-natural.put_natural-x.ensures
+    (more-fields (nibbles_of a.k a.m ∷ []) cs (omega arith) at-put-nibbles.put_nibbles-y.ensures
+    at-put-integers.put_integers.ensures)) (omega arith)
 
-pub put-wdf-spec : {M : Type 1} → statement M
-put-wdf-spec =
+pub put_wdf_spec : {M : Type 1} → statement M
+put_wdf_spec =
     tie.close (tie.spec (λ c. search rules) (λ c κs. search rules) put-nibbles-requires put-integers-requires
     (λ c. search rules) returns)

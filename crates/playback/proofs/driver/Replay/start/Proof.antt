@@ -19,7 +19,7 @@ returns c =
       line = replicate 64 0;
       len = 0;
       going = true;
-    }) c.before.new.ensures
+    }) c.before.new-m.ensures
 
 pub start_spec : {M : Type 1} → statement M
 start_spec = tie.close (tie.spec (λ c κs. search rules) returns)

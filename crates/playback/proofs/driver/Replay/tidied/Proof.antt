@@ -11,8 +11,8 @@ long c = search rules
 
 returns : tie.Need-returns
 returns c =
-    tidy_is c.before.before.before.args.self c.padded.result c.before.before.before.requires
-    (long c.before.before.before) c.padded.ensures
+    tidy_is c.before.before.before.args.self c.padded-line.result c.before.before.before.requires
+    (long c.before.before.before) c.padded-line.ensures
 
-pub tidied-spec : {M : Type 1} → statement M
-tidied-spec = tie.close (tie.spec (λ c κs. search rules) returns)
+pub tidied_spec : {M : Type 1} → statement M
+tidied_spec = tie.close (tie.spec (λ c κs. search rules) returns)
