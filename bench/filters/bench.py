@@ -4,7 +4,7 @@
     python3 bench/filters/bench.py [SRC] [--sizes] [--instructions] [--table]
 
 SRC is the folder of the crate's text, by default ../shared/docs/src from the project's root; --sizes adds the decimator's block from
-1,024 to 16 million inputs. The proved library is the archive of `rt staticlib bench_exports`, the crate is built by cargo in release
+1,024 to 16 million inputs. The proved library is the archive of `tools/build bench_exports`, the crate is built by cargo in release
 as oracle/run does, and the program stops where two outputs differ. On x86-64 it prints nanoseconds, the least of 60 rounds. On another
 processor the archive runs only under an emulator, where a time says nothing: there, and on x86-64 with --instructions, it counts the
 instructions between two marks (../x86.py). --table, on x86-64: both, the times as the median of five runs, with the least and the greatest
@@ -45,7 +45,7 @@ def build(src):
     x86.need("llvm-objdump", "apt-get install llvm")
     if not os.path.exists(os.path.join(ROOT, src, "cic.rs")):
         x86.stop("no text of the crate idsp 0.23.1 in %s: name its src folder" % src)
-    run(["rt", "staticlib", "bench_exports"], cwd=ROOT, stdout=subprocess.DEVNULL)
+    run([os.path.join(ROOT, "tools", "build"), "bench_exports"], cwd=ROOT, stdout=subprocess.DEVNULL)
     os.makedirs(WORK, exist_ok=True)
     run(["oracle/run", "--text", os.path.join("target", "bench", "oracle"), src], cwd=ROOT)
     harness = os.path.join(WORK, "harness")

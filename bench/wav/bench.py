@@ -3,7 +3,7 @@
 
     python3 bench/wav/bench.py
 
-The proved library is the archive of `rt staticlib bench_wav`; the harness stops where the two differ. Instructions a sample are those of
+The proved library is the archive of `tools/build bench_wav`; the harness stops where the two differ. Instructions a sample are those of
 one call on 131,072 samples less those on 65,536, less what the harness itself spends on as many more: counted by valgrind's callgrind on
 x86-64 and under an emulator elsewhere (../x86.py). On x86-64 it prints nanoseconds a sample too, the least of 400 rounds over 65,536
 samples. Wants rustc, and valgrind.
@@ -21,7 +21,7 @@ ROWS = [("read_part", "read", "read_twin"), ("write_part", "write", "write_twin"
 
 
 def built():
-    subprocess.run(["rt", "staticlib", "bench_wav"], cwd=x86.ROOT, check=True, stdout=subprocess.DEVNULL)
+    subprocess.run([os.path.join(x86.ROOT, "tools", "build"), "bench_wav"], cwd=x86.ROOT, check=True, stdout=subprocess.DEVNULL)
     os.makedirs(x86.WORK, exist_ok=True)
     program = os.path.join(x86.WORK, "wav_harness")
     words = [] if x86.NATIVE else ["--target", x86.TARGET, "-C", "linker=" + x86.linker(), "-C", "linker-flavor=ld.lld"]

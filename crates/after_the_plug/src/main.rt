@@ -87,7 +87,7 @@ fn main(rt: HostRuntime) -> io::Result<()> {
         return Ok(());
     }
     let ready = again.state;
-    // The samples since then: 28 of them give 7 outputs, of which the first N.M = 3 are not to be believed.
+    // The samples since then: 28 of them give 7 outputs, of which the first N·M = 3 are not to be believed.
     let samples = [7i32; 28];
     let mut out = [0i32; 28];
     let first = decimate(ready, &samples, &mut out);

@@ -8,7 +8,6 @@ use Rattle.cic.specs.Reading.{cic_of}
 use Rattle.cic.specs.Answers.{stepped_of}
 use Rattle.cic.specs.declared.state.Cic.{Cic}
 use Rattle.lent.specs.declared.steps.Out.{Out}
-use Rattle.lent.specs.declared.steps.Out.TheVariants as Out
 use Rattle.cic64.specs.Word as Word64
 use Rattle.cic64.specs.Reading as Reading64
 use Rattle.cic64.specs.declared.state.Cic as Wide
@@ -24,7 +23,6 @@ use Rattle.unwrap.specs.declared.clamp_wrap.ClampWrap.{ClampWrap}
 use Rattle.unwrap.specs.declared.unwrapper.Unwrapper.{Unwrapper}
 use Rattle.unwrap.specs.declared.wrapping.Wrap.TheVariants as Wrap
 use Rattle.unwrap.specs.declared.scale.Scaled.{Scaled}
-use Rattle.unwrap.specs.declared.scale.Scaled.TheVariants as Scaled
 use Rattle.unwrap.specs.Scales.{scaled_of}
 use Rattle.pll.specs.declared.PLL.{PLL}
 use Rattle.pll.specs.declared.PLLState.{PLLState}

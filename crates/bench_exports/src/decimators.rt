@@ -50,6 +50,7 @@ pub extern "C" fn bench_interpolate(
 }
 
 // What a step gives, or 0.
+#[tactic(auto, unfolding(crate::specs::Fresh::given_in))]
 fn given(out: Out) -> i32
     ensures { result ≡ given_in out }
 {

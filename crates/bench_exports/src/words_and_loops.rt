@@ -95,6 +95,7 @@ pub extern "C" fn bench_rpll(
 }
 
 // The value, or 0.
+#[tactic(auto, unfolding(crate::specs::Fresh::value_in))]
 fn value(s: Scaled) -> i32
     ensures { result ≡ value_in s }
 {

@@ -29,7 +29,6 @@ use Rattle.lent.specs.declared.runs.LentFilled.{LentFilled}
 use Rattle.lent.specs.Reading.{counted}
 use Rattle.lent.specs.Answers.{step_out, rise_out, sample_of}
 use Rattle.lent.specs.declared.steps.Out.{Out}
-use Rattle.lent.specs.declared.steps.Out.TheVariants as Out
 use Rattle.lent.specs.declared.steps.Output.{Output}
 use Rattle.lent.specs.declared.steps.Sample.{Sample}
 use Rattle.lent.specs.declared.steps.Interpolated.{Interpolated}

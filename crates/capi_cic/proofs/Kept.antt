@@ -1,12 +1,11 @@
 -- What a decimator's step leaves of a state's numbers, by what it gives: order, delay and rate; the unsettled count and the hold too where it
 -- gives nothing, and where an output stands; everything where it is refused.
 use mathlib.Core.Path.{◌≡◌, refl}
-use mathlib.Core.Option.{none, some}
 use Prim.Native.Nat.{ℕ, zero, suc, ◌-◌}
 use lib.Dec.{eqb-suc-zero}
 use lib.IntN.{ℤ}
 use Rattle.sums.specs.Machine.{decimated, decimated_at, given, given_at}
-use Rattle.sums.specs.State.{State, refusal, view, put}
+use Rattle.sums.specs.State.{refusal, view, put}
 use Rattle.sums.specs.Calls.{step_state, step_given}
 use Rattle.sums.specs.Counted.{Counted, take_number, take_state, take_given, with_number}
 use Rattle.sums.proofs.Numbering.{take_accepts}
@@ -14,7 +13,6 @@ use Rattle.lent.specs.Word.{word_ops}
 use Rattle.lent.specs.Answers.{out_of, step_out}
 use Rattle.lent.specs.declared.steps.Output.{Output}
 use Rattle.lent.specs.declared.steps.Out.{Out}
-use Rattle.lent.specs.declared.steps.Out.TheVariants as Out
 
 pub record Kept (c t : Counted ℤ) : Type 0 where
   pub order : t.state.order ≡ c.state.order

@@ -29,7 +29,6 @@ use Rattle.lent64.specs.declared.runs.LentFilled.{LentFilled}
 use Rattle.lent64.specs.Reading.{counted}
 use Rattle.lent64.specs.Answers.{step_out, rise_out, sample_of}
 use Rattle.lent64.specs.declared.steps.Out.{Out}
-use Rattle.lent64.specs.declared.steps.Out.TheVariants as Out
 use Rattle.lent64.specs.declared.steps.Output.{Output}
 use Rattle.lent64.specs.declared.steps.Sample.{Sample}
 use Rattle.lent64.specs.declared.steps.Interpolated.{Interpolated}

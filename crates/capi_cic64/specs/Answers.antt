@@ -2,16 +2,11 @@
 -- there. A decimator's step answers 1 where it gives an output that is told 0, 2 where it gives another, and 0 where it gives none.
 use Rattle.std.specs.Prelude.{cond, ℕ, eqb, ℤ}
 use Rattle.blocks.specs.declared.Verdict.{Verdict}
-use Rattle.blocks.specs.declared.Verdict.TheVariants as Verdict
 use Rattle.shape.specs.declared.runs.Written.{Written}
 use Rattle.shape.specs.declared.runs.Wrote.{Wrote}
-use Rattle.shape.specs.declared.runs.Wrote.TheVariants as Wrote
 use Rattle.shape.specs.declared.runs.Read.{Read}
-use Rattle.shape.specs.declared.runs.Read.TheVariants as Read
 use Rattle.lent64.specs.declared.steps.Out.{Out}
-use Rattle.lent64.specs.declared.steps.Out.TheVariants as Out
 use Rattle.lent64.specs.declared.steps.Interpolated.{Interpolated}
-use Rattle.lent64.specs.declared.steps.Interpolated.TheVariants as Interpolated
 
 unfoldable pub verdict_number : Verdict → ℕ
 verdict_number Verdict.Done = 0

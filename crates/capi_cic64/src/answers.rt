@@ -8,6 +8,7 @@ use lent64::runs::{Read, Written, Wrote};
 use lent64::steps::Interpolated;
 use lent64::word::Word;
 
+#[tactic(auto, unfolding(crate::specs::Answers::verdict_number))]
 pub(crate) fn number(verdict: Verdict) -> u32
     ensures { result ≡ verdict_number verdict }
 {
@@ -17,6 +18,7 @@ pub(crate) fn number(verdict: Verdict) -> u32
     }
 }
 
+#[tactic(auto, unfolding(crate::specs::Answers::wrote_number))]
 pub(crate) fn wrote_number(wrote: Wrote) -> u32
     ensures { result ≡ wrote_number wrote }
 {
@@ -26,6 +28,7 @@ pub(crate) fn wrote_number(wrote: Wrote) -> u32
     }
 }
 
+#[tactic(auto, unfolding(crate::specs::Answers::wrote_or))]
 pub(crate) fn wrote_or(wrote: Wrote, old: Written) -> Written
     ensures { result ≡ wrote_or wrote old }
 {
@@ -35,6 +38,7 @@ pub(crate) fn wrote_or(wrote: Wrote, old: Written) -> Written
     }
 }
 
+#[tactic(auto, unfolding(crate::specs::Answers::read_number))]
 pub(crate) fn read_number(read: Read) -> u32
     ensures { result ≡ read_number read }
 {
@@ -44,6 +48,7 @@ pub(crate) fn read_number(read: Read) -> u32
     }
 }
 
+#[tactic(auto, unfolding(crate::specs::Answers::read_or))]
 pub(crate) fn read_or(read: Read, old: usize) -> usize
     ensures { result ≡ read_or read old }
 {
@@ -53,6 +58,7 @@ pub(crate) fn read_or(read: Read, old: usize) -> usize
     }
 }
 
+#[tactic(auto, unfolding(crate::specs::Answers::interpolated_number))]
 pub(crate) fn interpolated_number(out: Interpolated) -> u32
     ensures { result ≡ interpolated_number out }
 {
@@ -62,6 +68,7 @@ pub(crate) fn interpolated_number(out: Interpolated) -> u32
     }
 }
 
+#[tactic(auto, unfolding(crate::specs::Answers::interpolated_or))]
 pub(crate) fn interpolated_or(out: Interpolated, old: Word) -> Word
     ensures { result ≡ interpolated_or out old }
 {

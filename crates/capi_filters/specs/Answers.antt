@@ -2,7 +2,6 @@
 use Rattle.std.specs.Prelude.{◌≡◌, List, ℕ, ℤ}
 use Rattle.blocks.specs.declared.Verdict.{Verdict}
 use Rattle.blocks.specs.declared.Verdict.TheVariants.{Done, Refused}
-use Rattle.blocks.specs.Verdicts.{verdict_of}
 use Rattle.blocks.specs.Blocks.{unless}
 use Rattle.blocks.specs.Scan.{scan, ends}
 use Rattle.dsm.specs.declared.Dsm.{Dsm}

@@ -4,11 +4,9 @@ use Rattle.std.specs.Prelude.{cond, ◌≡◌, ℕ, eqb, ℤ, Float}
 use Rattle.blocks.specs.Blocks.{unless}
 use Rattle.dsm.specs.declared.Dsm.{Dsm}
 use Rattle.dsm.specs.declared.OutputRange.{OutputRange}
-use Rattle.dsm.specs.declared.OutputRange.TheVariants as OutputRange
 use Rattle.dsm.specs.Calls.{order_number, zeros_of, range_of}
 use Rattle.wdf.specs.declared.filter.Wdf.{Wdf}
 use Rattle.adapters.specs.declared.quantize.Quantized.{Quantized}
-use Rattle.adapters.specs.declared.quantize.Quantized.TheVariants as Quantized
 use Rattle.adapters.specs.Adapters.{code_of}
 use Rattle.wdf.specs.Calls.{made_unless}
 use Rattle.adapters.specs.Quantize.{quantized}
@@ -16,7 +14,6 @@ use Rattle.biquad.specs.declared.pair.Pair.{Pair}
 use Rattle.biquad.specs.declared.pair.Pair.TheVariants.{Real, Complex}
 use Rattle.biquad.specs.declared.biquad_clamp.BiquadClamp.{BiquadClamp}
 use Rattle.biquad.specs.declared.biquad_clamp.Answer.{Answer}
-use Rattle.biquad.specs.declared.biquad_clamp.Answer.TheVariants as Answer
 use Rattle.biquad.specs.Answers.{offset_of}
 
 unfoldable pub range_number : OutputRange → ℕ

@@ -6,6 +6,7 @@ use adapters::quantize::Quantized;
 use biquad::biquad_clamp::Answer;
 use dsm::OutputRange;
 
+#[tactic(auto, unfolding(crate::specs::Makers::range_number))]
 pub(crate) fn range_number(r: OutputRange) -> u32
     ensures { result ≡ range_number r }
 {
@@ -15,6 +16,7 @@ pub(crate) fn range_number(r: OutputRange) -> u32
     }
 }
 
+#[tactic(auto, unfolding(crate::specs::Makers::least_or))]
 pub(crate) fn least_or(r: OutputRange, old: i16) -> i16
     ensures { result ≡ least_or r old }
 {
@@ -24,6 +26,7 @@ pub(crate) fn least_or(r: OutputRange, old: i16) -> i16
     }
 }
 
+#[tactic(auto, unfolding(crate::specs::Makers::greatest_or))]
 pub(crate) fn greatest_or(r: OutputRange, old: i16) -> i16
     ensures { result ≡ greatest_or r old }
 {
@@ -33,6 +36,7 @@ pub(crate) fn greatest_or(r: OutputRange, old: i16) -> i16
     }
 }
 
+#[tactic(auto, unfolding(crate::specs::Makers::quantized_number))]
 pub(crate) fn quantized_number(q: Quantized) -> u32
     ensures { result ≡ quantized_number q }
 {
@@ -42,6 +46,7 @@ pub(crate) fn quantized_number(q: Quantized) -> u32
     }
 }
 
+#[tactic(auto, unfolding(crate::specs::Makers::bits_or))]
 pub(crate) fn bits_or(q: Quantized, old: i32) -> i32
     ensures { result ≡ bits_or q old }
 {
@@ -51,6 +56,7 @@ pub(crate) fn bits_or(q: Quantized, old: i32) -> i32
     }
 }
 
+#[tactic(auto, unfolding(crate::specs::Makers::offset_number))]
 pub(crate) fn offset_number(a: Answer) -> u32
     ensures { result ≡ offset_number a }
 {
@@ -60,6 +66,7 @@ pub(crate) fn offset_number(a: Answer) -> u32
     }
 }
 
+#[tactic(auto, unfolding(crate::specs::Makers::offset_or))]
 pub(crate) fn offset_or(a: Answer, old: f64) -> f64
     ensures { result ≡ offset_or a old }
 {

@@ -126,6 +126,7 @@ pub extern "C" fn mittenload_wdf_quantize(nibble: u8, g: f64, bits: &mut i32) ->
 }
 
 // The real roots x and y, or for any other number than 0 the complex pair x + jy and x - jy.
+#[tactic(auto, unfolding(crate::specs::Makers::pair_at))]
 fn pair_at(complex: u32, x: f64, y: f64) -> Pair
     ensures { result ≡ pair_at complex x y }
 {

@@ -327,6 +327,7 @@ pub(crate) fn word_clamp_in(
 }
 
 // The number of a refusal, or 0.
+#[tactic(auto, unfolding(crate::specs::Answers::verdict_number))]
 pub(crate) fn number(verdict: Verdict) -> u32
     ensures { result ≡ verdict_number verdict }
 {

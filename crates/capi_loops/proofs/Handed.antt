@@ -7,7 +7,7 @@ use lib.IntN.{ℤ}
 use borrow.Author.Tests.{ne_eqb}
 use Rattle.blocks.specs.declared.Verdict.{Verdict}
 use Rattle.blocks.specs.Verdicts.{verdict_of}
-use Rattle.blocks.specs.Blocks.{Blocked, lengths_number, unless}
+use Rattle.blocks.specs.Blocks.{Blocked, lengths_number}
 use Rattle.unwrap.specs.declared.clamp_wrap.ClampWrap.{ClampWrap}
 use Rattle.unwrap.specs.declared.scale.Scaled.{Scaled}
 use Rattle.unwrap.specs.Phases.{clamp_out, clamp_next}

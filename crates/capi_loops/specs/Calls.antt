@@ -1,11 +1,9 @@
 -- What the calls leave in the lent fields and answer: the number of a refusal, or 0. A refused call leaves everything as it was.
 use Rattle.std.specs.Prelude.{◌≡◌, List, ℕ, ℤ}
 use Rattle.blocks.specs.declared.Verdict.{Verdict}
-use Rattle.blocks.specs.declared.Verdict.TheVariants as Verdict
 use Rattle.blocks.specs.Blocks.{lengths_number, unless}
 use Rattle.blocks.specs.Scan.{scan, ends}
 use Rattle.unwrap.specs.declared.scale.Scaled.{Scaled}
-use Rattle.unwrap.specs.declared.scale.Scaled.TheVariants as Scaled
 use Rattle.unwrap.specs.Phases.{clamp_out, clamp_next, difference_of}
 use Rattle.unwrap.specs.Scales.{scaled_of}
 use Rattle.pll.specs.declared.PLL.{PLL}
@@ -14,7 +12,6 @@ use Rattle.rpll.specs.declared.RPLL.{RPLL}
 use Rattle.rpll.specs.declared.RPLLConfig.{RPLLConfig}
 use Rattle.rpll.specs.declared.Timestamp.{Timestamp}
 use Rattle.rpll.specs.declared.Estimate.{Estimate}
-use Rattle.rpll.specs.declared.Estimate.TheVariants as Estimate
 use Rattle.rpll.specs.Loops.{processed_of}
 use Rattle.capi_loops.specs.States.{Fields, clamp_at, wrap_number, pll_in, fields_of}
 

@@ -10,6 +10,7 @@ use unwrap::clamp_wrap::ClampWrap;
 use unwrap::scale::Scaled;
 use unwrap::wrapping::Wrap;
 
+#[tactic(auto, unfolding(crate::specs::Calls::verdict_number))]
 pub(crate) fn number(verdict: Verdict) -> u32
     ensures { result ≡ verdict_number verdict }
 {
@@ -19,6 +20,7 @@ pub(crate) fn number(verdict: Verdict) -> u32
     }
 }
 
+#[tactic(auto, unfolding(crate::specs::Calls::scaled_number))]
 pub(crate) fn scaled_number(s: Scaled) -> u32
     ensures { result ≡ scaled_number s }
 {
@@ -28,6 +30,7 @@ pub(crate) fn scaled_number(s: Scaled) -> u32
     }
 }
 
+#[tactic(auto, unfolding(crate::specs::Calls::scaled_or))]
 pub(crate) fn scaled_or(s: Scaled, old: i32) -> i32
     ensures { result ≡ scaled_or s old }
 {
@@ -37,6 +40,7 @@ pub(crate) fn scaled_or(s: Scaled, old: i32) -> i32
     }
 }
 
+#[tactic(auto, unfolding(crate::specs::Calls::estimate_number))]
 pub(crate) fn estimate_number(e: Estimate) -> u32
     ensures { result ≡ estimate_number e }
 {
@@ -46,6 +50,7 @@ pub(crate) fn estimate_number(e: Estimate) -> u32
     }
 }
 
+#[tactic(auto, unfolding(crate::specs::Calls::phase_or))]
 pub(crate) fn phase_or(e: Estimate, old: i32) -> i32
     ensures { result ≡ phase_or e old }
 {
@@ -55,6 +60,7 @@ pub(crate) fn phase_or(e: Estimate, old: i32) -> i32
     }
 }
 
+#[tactic(auto, unfolding(crate::specs::Calls::frequency_or))]
 pub(crate) fn frequency_or(e: Estimate, old: i32) -> i32
     ensures { result ≡ frequency_or e old }
 {
@@ -64,6 +70,7 @@ pub(crate) fn frequency_or(e: Estimate, old: i32) -> i32
     }
 }
 
+#[tactic(auto, unfolding(crate::specs::States::wrap_at))]
 fn wrap_at(n: u32) -> Wrap
     ensures { result ≡ wrap_at n }
 {
@@ -76,6 +83,7 @@ fn wrap_at(n: u32) -> Wrap
     Wrap::Negative
 }
 
+#[tactic(auto, unfolding(crate::specs::States::wrap_number))]
 pub(crate) fn wrap_number(w: Wrap) -> u32
     ensures { result ≡ wrap_number w }
 {

@@ -11,10 +11,8 @@ use Rattle.entries.specs.declared.settings.Settings.{Settings}
 use Rattle.store_read.specs.declared.reading.Read.{Read}
 use Rattle.store_read.specs.Reading.{found}
 use Rattle.store_write.specs.declared.saving.Written.{Written}
-use Rattle.store_write.specs.declared.saving.Written.TheVariants as Written
 use Rattle.store_write.specs.Saving.{saved, text_as}
 use Rattle.store.specs.declared.moving.Move.{Move}
-use Rattle.store.specs.declared.moving.Move.TheVariants as Move
 use Rattle.store.specs.Moving.{move_ends}
 use Rattle.capi_settings.specs.Fields.{Fields, version_at, fields_of}
 

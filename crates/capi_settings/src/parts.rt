@@ -20,6 +20,7 @@ pub(crate) struct Numbers {
     pub f: u32,
 }
 
+#[tactic(auto, unfolding(crate::specs::Fields::version_at))]
 pub(crate) fn version_at(form: u32) -> Version
     ensures { result ≡ version_at form }
 {
@@ -29,6 +30,7 @@ pub(crate) fn version_at(form: u32) -> Version
     Version::One
 }
 
+#[tactic(auto, unfolding(crate::specs::Fields::form_number))]
 pub(crate) fn form_number(version: Version) -> u32
     ensures { result ≡ form_number version }
 {
@@ -38,6 +40,7 @@ pub(crate) fn form_number(version: Version) -> u32
     }
 }
 
+#[tactic(auto, unfolding(crate::specs::Fields::numbers_of))]
 fn numbers_of(kind: Kind) -> Numbers
     ensures { result ≡ numbers_of kind }
 {
@@ -72,6 +75,7 @@ fn numbers_of(kind: Kind) -> Numbers
     }
 }
 
+#[tactic(auto, unfolding(crate::specs::Fields::kind_at))]
 fn kind_at(n: Numbers) -> Kind
     ensures { result ≡ kind_at n }
 {
@@ -153,6 +157,7 @@ pub(crate) fn entry_out(
 }
 
 // The record at a place; an empty one where there is none.
+#[tactic(auto, unfolding(crate::specs::Calls::record_at))]
 pub(crate) fn record_at(settings: Settings, place: usize) -> Entry
     ensures { result ≡ record_at settings place }
 {
@@ -168,6 +173,7 @@ pub(crate) fn record_at(settings: Settings, place: usize) -> Entry
 }
 
 // The settings with a record at a place, in the place of the one there or after the last. A place beyond the 64th makes them too many.
+#[tactic(auto, unfolding(crate::specs::Calls::placed))]
 pub(crate) fn put_at(settings: Settings, place: usize, entry: Entry) -> Settings
     ensures { result ≡ placed settings place entry }
 {
@@ -188,6 +194,7 @@ pub(crate) fn put_at(settings: Settings, place: usize, entry: Entry) -> Settings
     }
 }
 
+#[tactic(auto, unfolding(crate::specs::Calls::written_number))]
 pub(crate) fn written_number(w: Written) -> u32
     ensures { result ≡ written_number w }
 {
@@ -197,6 +204,7 @@ pub(crate) fn written_number(w: Written) -> u32
     }
 }
 
+#[tactic(auto, unfolding(crate::specs::Calls::written_or))]
 pub(crate) fn written_or(w: Written, old: usize) -> usize
     ensures { result ≡ written_or w old }
 {
@@ -206,6 +214,7 @@ pub(crate) fn written_or(w: Written, old: usize) -> usize
     }
 }
 
+#[tactic(auto, unfolding(crate::specs::Calls::move_number))]
 pub(crate) fn move_number(m: Move) -> u32
     ensures { result ≡ move_number m }
 {
@@ -215,6 +224,7 @@ pub(crate) fn move_number(m: Move) -> u32
     }
 }
 
+#[tactic(auto, unfolding(crate::specs::Calls::move_or))]
 pub(crate) fn move_or(m: Move, old: usize) -> usize
     ensures { result ≡ move_or m old }
 {

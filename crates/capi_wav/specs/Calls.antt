@@ -1,10 +1,8 @@
 -- WAV calls as C makes them: the number of a refusal, or 0. A refused call leaves everything that is lent as it was.
 use Rattle.std.specs.Prelude.{◌≡◌, List, ◌++◌, ℕ, ◌/◌, ◌*◌, ℤ, length, drop}
 use Rattle.blocks.specs.declared.Verdict.{Verdict}
-use Rattle.blocks.specs.declared.Verdict.TheVariants as Verdict
 use Rattle.blocks.specs.Blocks.{unless}
 use Rattle.wav.specs.declared.header.Head.{Head}
-use Rattle.wav.specs.declared.header.Head.TheVariants as Head
 use Rattle.wav.specs.declared.header.Recording.{Recording}
 use Rattle.wav.specs.Header.{head_of, header_of, head_number}
 use Rattle.wav.specs.Samples.{read_number, write_number, read_slice, write_slice}

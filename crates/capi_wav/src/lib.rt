@@ -11,6 +11,7 @@ use blocks::Verdict;
 use wav::header::{Head, Recording, read_header, write_header};
 use wav::samples::{read_part, write_part};
 
+#[tactic(auto, unfolding(crate::specs::Calls::verdict_number))]
 fn number(verdict: Verdict) -> u32
     ensures { result ≡ verdict_number verdict }
 {
@@ -20,6 +21,7 @@ fn number(verdict: Verdict) -> u32
     }
 }
 
+#[tactic(auto, unfolding(crate::specs::Calls::verdict_or))]
 fn count_or(verdict: Verdict, count: usize, old: usize) -> usize
     ensures { result ≡ verdict_or verdict count old }
 {
@@ -29,6 +31,7 @@ fn count_or(verdict: Verdict, count: usize, old: usize) -> usize
     }
 }
 
+#[tactic(auto, unfolding(crate::specs::Calls::head_answer))]
 fn head_number(head: Head) -> u32
     ensures { result ≡ head_answer head }
 {
@@ -38,6 +41,7 @@ fn head_number(head: Head) -> u32
     }
 }
 
+#[tactic(auto, unfolding(crate::specs::Calls::head_or))]
 fn head_or(head: Head, old: Recording) -> Recording
     ensures { result ≡ head_or head old }
 {

@@ -1,6 +1,6 @@
 -- A line's parts are found by its first tab; an answer's bytes are put together from their fields.
 use native.Mathlib.Omega.{arith}
-use mathlib.Core.Path.{◌≡◌, refl, sym, ap, ◌∙◌}
+use mathlib.Core.Path.{◌≡◌, sym, ap, ◌∙◌}
 use mathlib.Core.List.{List, [], ◌∷◌, ◌++◌, append_assoc}
 use Prim.Native.Nat.{ℕ, ◌+◌, ◌-◌, ◌^◌, ◌≤◌, ◌<◌}
 use lib.IntN.{ℤ}
@@ -15,14 +15,11 @@ use Rattle.text.specs.Hex.{pattern_of}
 use Rattle.text.specs.Parts.{before, end_of}
 use Rattle.text.specs.Writing.{Wrote, Puts}
 use Rattle.text.specs.declared.hex.Pattern.{Pattern}
-use Rattle.text.specs.declared.hex.Pattern.TheVariants as Pattern
 use Rattle.text.proofs.Parting.{before-take}
 use Rattle.text.proofs.Putting.{written, then_puts, wrote-same}
 use Rattle.text.proofs.Spelling.{spelt-short, decimal_most, signed-most}
-use Rattle.adapters.specs.declared.quantize.Quantized.{Quantized}
 use Rattle.adapters.specs.declared.quantize.Quantized.TheVariants.{Refused}
 use Rattle.coefficient_lines.specs.declared.adapter.Adapter.{Adapter}
-use Rattle.coefficient_lines.specs.declared.adapter.Adapter.TheVariants.{Named, Unknown}
 use Rattle.coefficient_lines.specs.Lines.{adapter_of, pole_bits, line_bits, bits_line, refused_line}
 
 module _ (l : List ℕ) where

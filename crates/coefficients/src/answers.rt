@@ -23,6 +23,7 @@ const DIGITS: u32 = 75;
 pub(crate) const CUT: u32 = 77;
 
 // The adapter that one letter names.
+#[tactic(auto, unfolding(coefficient_lines::specs::Lines::letter_of))]
 fn named_by_letter(name: &[u8]) -> Adapter
     ensures { result ≡ letter_of name.now }
 {
@@ -47,6 +48,7 @@ fn named_by_letter(name: &[u8]) -> Adapter
     Adapter::Unknown
 }
 
+#[tactic(auto, unfolding(coefficient_lines::specs::Lines::adapter_of))]
 fn named_by(name: &[u8]) -> Adapter
     ensures { result ≡ adapter_of name.now }
 {

@@ -17,7 +17,7 @@ use crate::answers::{CUT, LONG, line_bits, put_answer};
 use adapters::quantize::Quantized;
 
 // Where the input stands: the length of the line so far, how many lines came before it, and whether to go on.
-#[derive(Drop)]
+#[derive(Clone, Copy)]
 pub struct Place {
     pub len: usize,
     pub lines: u64,
@@ -25,7 +25,7 @@ pub struct Place {
 }
 
 // The place after some bytes, and the place behind what was written.
-#[derive(Drop)]
+#[derive(Clone, Copy)]
 pub struct Taken {
     pub place: Place,
     pub next: usize,

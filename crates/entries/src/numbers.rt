@@ -91,6 +91,7 @@ fn held(name: Name) -> usize
 }
 
 // What a well-formed record is refused with after k records, the last of them named `last`; or 0.
+#[tactic(auto, unfolding(crate::specs::Entries::number_for))]
 pub fn number_of(version: Version, k: usize, last: Name, name: Name, kind: Kind, a: [i32; 8]) -> u32
     ensures { result ≡ number_for version k (name_bytes last) (name_bytes name) kind (map (wrap w32) a) }
 {

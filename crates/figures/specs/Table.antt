@@ -1,5 +1,5 @@
 -- 01, 'Bench figures': T1 to T10, a single statement over one table. A further case is a further entry.
-use Rattle.std.specs.Prelude.{◌≡◌, true, false, List, [], ◌∷◌, map, ℕ, ◌^◌, ℤ, pos, negsuc, length, replicate}
+use Rattle.std.specs.Prelude.{◌≡◌, List, [], ◌∷◌, map, ℕ, ◌^◌, ℤ, pos, negsuc, length, replicate}
 use Rattle.std.specs.Int.{w32}
 use Rattle.sums.specs.Ops.{Ops}
 use Rattle.sums.specs.Signed.{signed_ops}

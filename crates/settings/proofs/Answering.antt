@@ -19,11 +19,11 @@ use Rattle.settings_text.specs.Moves as asked
 use Rattle.settings_text.specs.declared.version.Version.{Version}
 use Rattle.settings_text.specs.declared.version.Version.TheVariants.{One, Two}
 use Rattle.settings_text.proofs.Stores.{numbered}
-use Rattle.store.specs.Moving.{Moves, move_ends}
+use Rattle.store.specs.Moving.{Moves}
 use Rattle.store.specs.declared.moving.Move.{Move}
 use Rattle.store.specs.declared.moving.Move.TheVariants as moves
 use Rattle.store_read.specs.Reading.{found}
-use Rattle.store_write.specs.Saving.{SavesAs, saved, text_as}
+use Rattle.store_write.specs.Saving.{SavesAs, text_as}
 use Rattle.entries.specs.Entries.{number_as}
 use Rattle.store_read.specs.declared.reading.Read.{Read}
 use Rattle.store_write.specs.declared.saving.Written.{Written}

@@ -10,22 +10,21 @@ use Prim.Native.Nat.{ℕ, zero, suc, ◌+◌, ◌-◌, ◌%◌, ◌^◌, ◌≤�
 use lib.Dec.{leb}
 use lib.ListN.{length, take, drop, get_or, set, replicate, drop_of_length-le}
 use lib.Seq.{take_all, take-suc, drop-cons, set_at, get_or_at, length-take-le}
-use borrow.Author.Tests.{lt-ltb, ne_eqb}
-use Rattle.text.specs.Writing.{overlaid}
+use borrow.Author.Tests.{lt-ltb}
 use Rattle.wdf.specs.Retired.{moved}
 use Rattle.wdf.proofs.Retired.{moved_at_most}
 use Rattle.text.proofs.Ranges.{both_some}
-use Rattle.settings_text.specs.Lines.{Setting, Cic, Wdf, Dither, formed, parameters, form_of}
-use Rattle.settings_text.specs.Moves.{Moved, Text, placed, placed_text, move, raised, lowered, forth, back, any_dither}
-use Rattle.settings_text.specs.Stores.{Found, Good, Bad, listed_number, list_from, list_number, read_of, text_of}
+use Rattle.settings_text.specs.Lines.{Setting, Cic, Wdf, Dither, parameters, form_of}
+use Rattle.settings_text.specs.Moves.{Text, placed, placed_text, move, raised, lowered, back, any_dither}
+use Rattle.settings_text.specs.Stores.{Found, Good, Bad, listed_number, list_from, read_of, text_of}
 use Rattle.settings_text.specs.declared.version.Version.{Version}
 use Rattle.settings_text.specs.declared.version.Version.TheVariants.{One, Two}
 use Rattle.settings_text.proofs.Forms.{only-text}
 use Rattle.settings_text.proofs.Lines.{wdf_small, below}
-use Rattle.settings_text.proofs.Moves.{Keeps, list_kept, forth-keeps, back-keeps, all_placed, missing, dither_missing, number_parts}
+use Rattle.settings_text.proofs.Moves.{Keeps, list_kept, all_placed, missing, dither_missing, number_parts}
 use Rattle.settings_text.proofs.Stores.{both_zero, write_zero, no_parameter, numbered}
 use Rattle.entries.specs.Entries.{empty_entry, entry_of, number_as}
-use Rattle.store.specs.Moving.{Moves, move_ends, third_in, architecture_in, recast_entry, recast_in, dither_kind, any_dither_in}
+use Rattle.store.specs.Moving.{Moves, third_in, architecture_in, recast_entry, recast_in, dither_kind, any_dither_in}
 use Rattle.store_read.specs.Reading.{found}
 use Rattle.store_write.specs.Saving.{SavesAs, text_as}
 use Rattle.store.specs.declared.moving.Move.TheVariants as moves

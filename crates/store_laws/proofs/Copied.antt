@@ -2,7 +2,7 @@
 use native.Mathlib.Omega.{arith}
 use native.Mathlib.Nat.{pow-le-pow_right}
 use mathlib.Core.Path.{◌≡◌, refl, sym, ap, ◌∙◌}
-use mathlib.Core.Bool.{Bool, true, false, cond, ◌&&◌}
+use mathlib.Core.Bool.{Bool, true, false, cond}
 use mathlib.Core.List.{List, [], ◌∷◌, ◌++◌, map, append-nil}
 use Prim.Native.Nat.{ℕ, zero, suc, ◌+◌, ◌-◌, ◌%◌, ◌/◌, ◌^◌, ◌≤◌, ◌<◌}
 use lib.Dec.{leb}
@@ -17,18 +17,16 @@ use Rattle.text.specs.Ranges.{signed, unsigned, lies, all_lie}
 use Rattle.text.proofs.Ranges.{two}
 use Rattle.settings_text.specs.Fields.{is_name}
 use Rattle.settings_text.specs.Lines.{Setting, Cic, Wdf, Dither, formed, parameters, form_of}
-use Rattle.settings_text.specs.Stores.{Good, or_else, record_number, listed_number, list_from, list_number, text_of, read_of}
+use Rattle.settings_text.specs.Stores.{record_number, listed_number, list_from, list_number, text_of}
 use Rattle.settings_text.specs.declared.version.Version.{Version}
 use Rattle.settings_text.proofs.Forms.{only-text}
 use Rattle.settings_text.proofs.Lines.{wdf_small, below}
 use Rattle.settings_text.proofs.Names.{name-short}
 use Rattle.settings_text.proofs.Stores.{both_zero, write_zero, no_parameter}
-use Rattle.entries.specs.Entries.{pad_to, eight, padded, name_bytes, whole_name, entry_of, setting_by, entry_setting, records_in}
+use Rattle.entries.specs.Entries.{pad_to, eight, padded, whole_name, entry_of, setting_by, entry_setting, records_in}
 use Rattle.entries.specs.Entries.{number_as, empty_entry}
 use Rattle.store_laws.specs.Laws.{CopySame}
-use Rattle.store_read.specs.Reading.{found}
 use Rattle.entries.specs.declared.settings.Entry.{Entry}
-use Rattle.entries.specs.declared.settings.Kind.TheVariants as kinds
 use Rattle.entries.proofs.Arrays.{name_back, whole-name}
 use Rattle.entries.proofs.Numbering.{kept, eight_words}
 

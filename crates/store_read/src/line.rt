@@ -260,6 +260,7 @@ fn dither(version: Version, name: Name, line: &[u8], from: usize) -> Line
 }
 
 // A line read as a record of a form.
+#[tactic(auto, using(crate::proofs::Ends::too_long))]
 pub(crate) fn record_in(version: Version, line: &[u8]) -> Line
     ensures { result ≡ line_read (record_in version line.now) }
 {

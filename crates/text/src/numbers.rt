@@ -64,6 +64,7 @@ fn flip(n: Number) -> Number
 }
 
 // Digits that do not begin with 0.
+#[tactic(auto, using(crate::proofs::Numerals::leading_none, crate::proofs::Numerals::leading_zero, crate::proofs::Numerals::leading_some))]
 fn leading(s: &[u8]) -> Number
     ensures { result ≡ capped (leading_of s.now) }
 {

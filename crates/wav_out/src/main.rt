@@ -10,8 +10,9 @@
 //
 // A header tells the size of the data that follow, which is known at the end: so the output is a file, empty at first, that
 // begins with 44 zeros until all is read and no refusal is left. Only then does it get its header. Where anything is refused it is
-// emptied and holds the `bad` line alone. A file that isn't empty is 90 at line 0, behind what it holds. To an output that can't be
-// sought, as a pipe, header and data are written at the end, or the `bad` line alone; until then the data are held in memory.
+// emptied and holds the `bad` line alone. A file that isn't empty is 90 at line 0, behind what it holds, and so is an output that
+// can't be sought, as a pipe; but where the first argument is `pipe`, header and data are written to that at the end, or the `bad`
+// line alone, and until then the data are held in memory.
 
 #![tactic(auto)]
 
@@ -20,7 +21,9 @@ ghost use Rattle.std.specs.Prelude.{◌<◌};
 use blocks::Verdict;
 use std::fs::File;
 use std::io::{Read, Seek, SeekFrom, Write};
+use std::rt::Env;
 use std::{fs, io};
+use text::comparing::same_bytes;
 use text::parts::part_end;
 use wav::header::write_header;
 use wav::samples::write_part;
@@ -417,19 +420,36 @@ fn into_pipe(rt: &HostRuntime) -> io::Result<()> {
     rt.write_all(&data)
 }
 
+// Whether the first argument is `pipe`.
+fn pipe_asked(rt: &impl Env) -> bool {
+    let mut word = [0u8; 8];
+    match rt.arg(1, &mut word) {
+        Ok(n) => same_bytes(&word[..n], b"pipe"),
+        Err(_) => false,
+    }
+}
+
+// An output that can't be sought is refused, but where the first argument asks for a pipe.
+fn no_file(rt: &HostRuntime) -> io::Result<()> {
+    if pipe_asked(rt) {
+        return into_pipe(rt);
+    }
+    put_refusal(&mut rt.stdout(), 90, 0)
+}
+
 fn main(rt: HostRuntime) -> io::Result<()> {
     let Ok(about) = fs::metadata(&rt, "/dev/stdout") else {
-        return into_pipe(&rt);
+        return no_file(&rt);
     };
     if !about.is_file() {
-        return into_pipe(&rt);
+        return no_file(&rt);
     }
     if about.len() != 0 {
         let mut file = File::options().append(true).open(&rt, "/dev/stdout")?;
         return put_refusal(&mut file, 90, 0);
     }
     let Ok(mut file) = File::options().write(true).open(&rt, "/dev/stdout") else {
-        return into_pipe(&rt);
+        return no_file(&rt);
     };
     into_file(&rt, &mut file)
 }

@@ -6,7 +6,7 @@ use Rattle.bench_wav.proofs.bench_read_part.Statement.{statement}
 use Rattle.bench_wav.proofs.bench_read_part.Tie as tie
 
 returns : tie.Need-returns
-returns c = (ap (λ (p : Part). p.count) c.before.read-part.ensures.0, c.before.read-part.ensures.1)
+returns c = (ap (λ (p : Part). p.count) c.before.read_part.ensures.0, c.before.read_part.ensures.1)
 
-pub bench-read-part-spec : {M : Type 1} → statement M
-bench-read-part-spec = tie.close (tie.spec (λ c κs. search rules) (λ c. search rules) returns)
+pub bench_read_part_spec : {M : Type 1} → statement M
+bench_read_part_spec = tie.close (tie.spec (λ c κs. search rules) (λ c. search rules) returns)

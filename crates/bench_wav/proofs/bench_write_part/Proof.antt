@@ -6,7 +6,7 @@ use Rattle.bench_wav.proofs.bench_write_part.Statement.{statement}
 use Rattle.bench_wav.proofs.bench_write_part.Tie as tie
 
 returns : tie.Need-returns
-returns c = (ap (λ (p : Part). p.count) c.before.before.write-part.ensures.0, c.before.before.write-part.ensures.1)
+returns c = (ap (λ (p : Part). p.count) c.before.before.write_part.ensures.0, c.before.before.write_part.ensures.1)
 
-pub bench-write-part-spec : {M : Type 1} → statement M
-bench-write-part-spec = tie.close (tie.spec (λ c κs. search rules) (λ c. search rules) returns)
+pub bench_write_part_spec : {M : Type 1} → statement M
+bench_write_part_spec = tie.close (tie.spec (λ c κs. search rules) (λ c. search rules) returns)

@@ -8,8 +8,8 @@ use Rattle.capi_wav.proofs.mittenload_wav_write_header.Tie as tie
 
 returns : tie.Need-returns
 returns c =
-    let d : tie.After-write-header = search in
-    record { answer = c.number.ensures ∙ ap verdict_number d.write-header.ensures.0 ∙ verdict-number _; written = d.write-header.ensures.1 }
+    let d : tie.After-write_header-verdict = search in
+    record { answer = c.number.ensures ∙ ap verdict_number d.write_header-verdict.ensures.0 ∙ verdict-number _; written = d.write_header-verdict.ensures.1 }
 
-pub mittenload-wav-write-header-spec : {M : Type 1} → statement M
-mittenload-wav-write-header-spec = tie.close (tie.spec (λ c κs. search rules) (λ c κs. search rules) (λ c. search rules) returns)
+pub mittenload_wav_write_header_spec : {M : Type 1} → statement M
+mittenload_wav_write_header_spec = tie.close (tie.spec (λ c κs. search rules) (λ c κs. search rules) (λ c. search rules) returns)

@@ -6,14 +6,14 @@ use Rattle.capi_wav.proofs.mittenload_wav_write_part.Tie as tie
 
 returns : tie.Need-returns
 returns c =
-    let d : tie.After-write-part = search in
-    let o : tie.After-count-or = search in
-    let e = d.write-part.ensures.0 in
+    let d : tie.After-write_part-part = search in
+    let o : tie.After-count_or-n = search in
+    let e = d.write_part-part.ensures.0 in
     record {
-      answer = number_of d.write-part.result _ _ 0 0 _ e c.number.ensures;
-      written = d.write-part.ensures.1;
-      count = counted d.write-part.result _ _ _ _ 0 e o.count-or.ensures;
+      answer = number_of d.write_part-part.result _ _ 0 0 _ e c.number.ensures;
+      written = d.write_part-part.ensures.1;
+      count = counted d.write_part-part.result _ _ _ _ 0 e o.count_or-n.ensures;
     }
 
-pub mittenload-wav-write-part-spec : {M : Type 1} → statement M
-mittenload-wav-write-part-spec = tie.close (tie.spec (λ c κs. search rules) (λ c κs. search rules) (λ c κs. search rules) (λ c. search rules) returns)
+pub mittenload_wav_write_part_spec : {M : Type 1} → statement M
+mittenload_wav_write_part_spec = tie.close (tie.spec (λ c κs. search rules) (λ c κs. search rules) (λ c κs. search rules) (λ c. search rules) returns)

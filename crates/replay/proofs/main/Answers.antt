@@ -1,6 +1,6 @@
 -- The buffers have their lengths.
 use Rattle.std.proofs.Common.{arith}
-use Rattle.std.proofs.lemmas.List.{length-replicate}
+use lib.ListN.{length-replicate}
 use Rattle.replay.proofs.main.Goals as goal
 
 pub replay_input-requires : goal.replay_input-requires

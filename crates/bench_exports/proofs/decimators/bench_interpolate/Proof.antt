@@ -6,8 +6,8 @@ use Rattle.bench_exports.proofs.decimators.bench_interpolate.Tie as tie
 returns : tie.Need-returns
 returns c =
     let made = c.before.before.before in
-    rw made.before.new.ensures at c.before.interpolate_block.ensures.1
+    rw made.before.new-made.ensures at c.before.interpolate_block.ensures.1
 
-pub bench-interpolate-spec : {M : Type 1} → statement M
-bench-interpolate-spec =
+pub bench_interpolate_spec : {M : Type 1} → statement M
+bench_interpolate_spec =
     tie.close (tie.spec (λ c κs. search rules) (λ c κs. search rules) (λ c. search rules) returns)

@@ -4,14 +4,14 @@ use borrow.Author.Rules.{rules}
 use Rattle.bench_exports.proofs.decimators.bench_steps.Statement.{statement}
 use Rattle.bench_exports.proofs.decimators.bench_steps.Tie as tie
 
-returns : tie.Need-returns
-returns c = rw (ne_eqb _ _ c.if1.true)
+returns : tie.Need-returns-then-xs-ys
+returns c = rw (ne_eqb _ _ c.if-xs-ys.true)
 
-returns-2 : tie.Need-returns-2
+returns-2 : tie.Need-returns
 returns-2 c =
     let made = c.before.before.before in
-    rw (eq-eqb _ _ made.before.before.if1.false) (rw made.before.new.ensures at c.before.step-all.ensures)
+    rw (eq-eqb _ _ made.before.before.if-xs-ys.false) (rw made.before.new-made.ensures at c.before.step_all.ensures)
 
-pub bench-steps-spec : {M : Type 1} → statement M
-bench-steps-spec =
+pub bench_steps_spec : {M : Type 1} → statement M
+bench_steps_spec =
     tie.close (tie.spec returns (λ c κs. search rules) (λ c κs. search rules) (λ c. search rules) returns-2)

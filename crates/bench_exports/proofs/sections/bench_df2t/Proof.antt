@@ -8,6 +8,6 @@ returns c =
     let called = c.before.before in
     rw called.before.before.default.ensures at called.block.ensures.written
 
-pub bench-df2t-spec : {M : Type 1} → statement M
-bench-df2t-spec =
+pub bench_df2t_spec : {M : Type 1} → statement M
+bench_df2t_spec =
     tie.close (tie.spec (λ c κs. search rules) (λ c κs. search rules) (λ c. search rules) returns)

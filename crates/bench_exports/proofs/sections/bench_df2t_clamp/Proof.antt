@@ -6,8 +6,8 @@ use Rattle.bench_exports.proofs.sections.bench_df2t_clamp.Tie as tie
 returns : tie.Need-returns
 returns c =
     let called = c.before.before in
-    rw called.before.before.default.ensures at called.block-clamp.ensures.written
+    rw called.before.before.default.ensures at called.block_clamp.ensures.written
 
-pub bench-df2t-clamp-spec : {M : Type 1} → statement M
-bench-df2t-clamp-spec =
+pub bench_df2t_clamp_spec : {M : Type 1} → statement M
+bench_df2t_clamp_spec =
     tie.close (tie.spec (λ c κs. search rules) (λ c κs. search rules) (λ c. search rules) returns)

@@ -13,9 +13,9 @@ returns c =
     let made = c.before.before.before in
     let a = made.before.args in
     let g = made.before.ranges in
-    let e = made.coefficients.ensures ∙ biquad_sent a.f g.b0 g.b1 g.b2 g.a1 g.a2 in
+    let e = made.coefficients-coeff.ensures ∙ biquad_sent a.f g.b0 g.b1 g.b2 g.a1 g.a2 in
     handed (fraction_number 1) dither_out dither_next a.xs.now a.ys.now _ _ zero_dither _ _ _ e c.before.block.ensures
 
-pub bench-dither-spec : {M : Type 1} → statement M
-bench-dither-spec =
+pub bench_dither_spec : {M : Type 1} → statement M
+bench_dither_spec =
     tie.close (tie.spec (λ c κs. search rules) (λ c κs. search rules) (λ c. search rules) returns)

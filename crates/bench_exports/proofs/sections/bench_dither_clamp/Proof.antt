@@ -14,10 +14,10 @@ returns c =
     let made = limited.before in
     let a = made.before.args in
     let g = made.before.ranges in
-    let e = made.coefficients.ensures ∙ biquad_sent a.f g.b0 g.b1 g.b2 g.a1 g.a2 in
-    let l = (rw e at limited.bounded.ensures) ∙ clamp_sent g.u g.min g.max _ in
-    handed (clamp_number 1) dither_held dither_onward a.xs.now a.ys.now _ _ zero_dither _ _ _ l c.before.block-clamp.ensures
+    let e = made.coefficients-coeff.ensures ∙ biquad_sent a.f g.b0 g.b1 g.b2 g.a1 g.a2 in
+    let l = (rw e at limited.bounded-limited.ensures) ∙ clamp_sent g.u g.min g.max _ in
+    handed (clamp_number 1) dither_held dither_onward a.xs.now a.ys.now _ _ zero_dither _ _ _ l c.before.block_clamp.ensures
 
-pub bench-dither-clamp-spec : {M : Type 1} → statement M
-bench-dither-clamp-spec =
+pub bench_dither_clamp_spec : {M : Type 1} → statement M
+bench_dither_clamp_spec =
     tie.close (tie.spec (λ c κs. search rules) (λ c κs. search rules) (λ c κs. search rules) (λ c. search rules) returns)

@@ -6,8 +6,8 @@ use Rattle.bench_exports.proofs.sections.bench_dsm.Tie as tie
 returns : tie.Need-returns
 returns c =
     let made = c.before.before.before in
-    rw made.before.new.ensures at c.before.block.ensures.written
+    rw made.before.new-made.ensures at c.before.block.ensures.written
 
-pub bench-dsm-spec : {M : Type 1} → statement M
-bench-dsm-spec =
+pub bench_dsm_spec : {M : Type 1} → statement M
+bench_dsm_spec =
     tie.close (tie.spec (λ c κs. search rules) (λ c κs. search rules) (λ c. search rules) returns)

@@ -9,8 +9,8 @@ returns : tie.Need-returns
 returns c =
     let made = c.before.before.before in
     let s = made.before.before in
-    rw (made.before.from-form1.ensures, to_z-of_z w32 s.args.a s.ranges.a) at c.before.block.ensures.written
+    rw (made.before.from_form1-made.ensures, to_z-of_z w32 s.args.a s.ranges.a) at c.before.block.ensures.written
 
-pub bench-wdf-spec : {M : Type 1} → statement M
-bench-wdf-spec =
+pub bench_wdf_spec : {M : Type 1} → statement M
+bench_wdf_spec =
     tie.close (tie.spec (λ c κs. search rules) (λ c κs. search rules) (λ c. search rules) returns)

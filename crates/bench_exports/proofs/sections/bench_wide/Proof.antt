@@ -13,9 +13,9 @@ returns c =
     let made = c.before.before.before in
     let a = made.before.args in
     let g = made.before.ranges in
-    let e = made.coefficients.ensures ∙ biquad_sent a.f g.b0 g.b1 g.b2 g.a1 g.a2 in
+    let e = made.coefficients-coeff.ensures ∙ biquad_sent a.f g.b0 g.b1 g.b2 g.a1 g.a2 in
     handed (fraction_number 0) wide_out wide_next a.xs.now a.ys.now _ _ zero_wide _ _ _ e c.before.block.ensures
 
-pub bench-wide-spec : {M : Type 1} → statement M
-bench-wide-spec =
+pub bench_wide_spec : {M : Type 1} → statement M
+bench_wide_spec =
     tie.close (tie.spec (λ c κs. search rules) (λ c κs. search rules) (λ c. search rules) returns)

@@ -17,11 +17,11 @@ returns c =
     let s = zero.before in
     let a = s.args in
     let g = s.ranges in
-    let e : made.lead-lag.result ≡ loop_of a.b0 a.b1 a.a1 =
-    rw (to_z-of_z w32 a.b0 g.b0, to_z-of_z w32 a.b1 g.b1, to_z-of_z w32 a.a1 g.a1) at made.lead-lag.ensures in
+    let e : made.lead_lag.result ≡ loop_of a.b0 a.b1 a.a1 =
+    rw (to_z-of_z w32 a.b0 g.b0, to_z-of_z w32 a.b1 g.b1, to_z-of_z w32 a.a1 g.a1) at made.lead_lag.ensures in
     handed (λ p. 0) tracked_phase tracked_next a.xs.now a.ys.now _ _ zero_pll _ _ _ e
-    (rw zero.unclamped-wrap.ensures at called.block.ensures)
+    (rw zero.unclamped_wrap-clamp.ensures at called.block.ensures)
 
-pub bench-pll-spec : {M : Type 1} → statement M
-bench-pll-spec =
+pub bench_pll_spec : {M : Type 1} → statement M
+bench_pll_spec =
     tie.close (tie.spec (λ c κs. search rules) (λ c κs. search rules) (λ c κs. search rules) (λ c. search rules) returns)

@@ -15,44 +15,44 @@ use Rattle.bench_exports.specs.Fresh.{scale_out, scale_next}
 use Rattle.bench_exports.proofs.words_and_loops.scale_all.Statement.{statement}
 use Rattle.bench_exports.proofs.words_and_loops.scale_all.Tie as tie
 
-abbrev invariant-loop : tie.invariant-loop
+abbrev invariant-loop : tie.invariant-loop-i
 invariant-loop hi shift xs ys₀ i₀ ys i = Going (scale_out shift) scale_next (to_z w32 hi) xs ys (to_z w32 hi) i
 
-abbrev decreases-loop : tie.decreases-loop
+abbrev decreases-loop : tie.decreases-loop-i
 decreases-loop hi shift xs ys₀ i₀ ys i = length xs - i
 
-loop-holds : tie.Need-loop-init invariant-loop decreases-loop
+loop-holds : tie.Need-loop-i-init invariant-loop decreases-loop
 loop-holds c = start _ _ _ _ _ (sym c.requires)
 
 shared-slice-copy-out-saturating-scale :
-    tie.Need-shared-slice-copy-out-saturating-scale invariant-loop decreases-loop
+    tie.Need-bounds-xs-i invariant-loop decreases-loop
 shared-slice-copy-out-saturating-scale c = search rules
 
-loop-again : tie.Need-loop-preserved invariant-loop decreases-loop
+loop-again : tie.Need-loop-i-preserved invariant-loop decreases-loop
 loop-again c =
     let d = c.before in
     let at = d.before.before.before in
-    let l = at.loop in
+    let l = at.loop-i in
     let s = at.before in
     let a = s.args in
     let hi = to_z-of_z w32 a.hi s.ranges.hi in
     let x = get_or a.xs.now l.i (pos 0) in
-    let e : d.saturating-scale.result ≡ scaled_of x a.hi a.shift =
-    rw (read w32 x d.before.saturating-scale-arg.given, hi) at d.saturating-scale.ensures in
-    rw (hi, read w32 c.value.result c.value.type-inv, c.value.ensures, e)
+    let e : d.saturating_scale-scaled.result ≡ scaled_of x a.hi a.shift =
+    rw (read w32 x d.before.saturating_scale-arg-1.given, hi) at d.saturating_scale-scaled.ensures in
+    rw (hi, read w32 c.value-y.result c.value-y.type_inv, c.value-y.ensures, e)
     (turn (scale_out a.shift) scale_next a.hi a.xs.now l.ys a.hi l.i (pos 0)
-    d.before.before.loop-test.true (rw hi at l.invariant))
+    d.before.before.loop-i-test.true (rw hi at l.invariant))
 
-same_length : tie.Need-same-length invariant-loop decreases-loop
+same_length : tie.Need-shape_of-ys invariant-loop decreases-loop
 same_length c = omega arith
 
 returns : tie.Need-returns invariant-loop decreases-loop
 returns c =
     let s = c.before.before in
-    (done _ _ _ _ _ _ _ c.loop-test.false (rw (to_z-of_z w32 s.args.hi s.ranges.hi) at c.before.loop.invariant)).1
+    (done _ _ _ _ _ _ _ c.loop-i-test.false (rw (to_z-of_z w32 s.args.hi s.ranges.hi) at c.before.loop-i.invariant)).1
 
-pub scale-all-spec : {M : Type 1} → statement M
-scale-all-spec =
+pub scale_all_spec : {M : Type 1} → statement M
+scale_all_spec =
     tie.close (tie.spec invariant-loop decreases-loop loop-holds (λ c. search rules) shared-slice-copy-out-saturating-scale
     (λ c κs. search rules) (λ c κs. search rules) (λ c. search rules) (λ c. search rules) (λ c. search rules)
     (λ c. search rules) loop-again same_length returns)

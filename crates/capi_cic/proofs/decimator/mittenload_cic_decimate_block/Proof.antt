@@ -4,20 +4,20 @@ use Rattle.capi_cic.proofs.Handed.{decimate_block}
 use Rattle.capi_cic.proofs.decimator.mittenload_cic_decimate_block.Statement.{statement}
 use Rattle.capi_cic.proofs.decimator.mittenload_cic_decimate_block.Tie as tie
 
-abbrev called : tie.After-numbers-out → tie.After-decimate-block
+abbrev called : tie.After-numbers_out → tie.After-decimate_block-block
 called p = search
 
-abbrev begun : tie.After-decimate-block → tie.After-numbers-in
+abbrev begun : tie.After-decimate_block-block → tie.After-numbers_in-s
 begun p = search
 
 returns : tie.Need-returns
 returns c =
-    let o : tie.After-wrote-or = search in
-    let p : tie.After-numbers-out = search in
-    let d : tie.After-decimate-block = called p in
-    let g : tie.After-numbers-in = begun d in
-    decimate_block _ g.numbers-in.result _ d.decimate_block.last.1.0 d.decimate_block.last.1.1.0 g.numbers-in.ensures _ _ _ _ _ d.decimate_block.result _
-    d.decimate_block.ensures p.numbers-out.ensures o.wrote-or.ensures c.wrote-number.ensures
+    let o : tie.After-wrote_or-w = search in
+    let p : tie.After-numbers_out = search in
+    let d : tie.After-decimate_block-block = called p in
+    let g : tie.After-numbers_in-s = begun d in
+    decimate_block _ g.numbers_in-s.result _ d.decimate_block-block.new.integrators d.decimate_block-block.new.combs g.numbers_in-s.ensures _ _ _ _ _ d.decimate_block-block.result _
+    d.decimate_block-block.ensures p.numbers_out.ensures o.wrote_or-w.ensures c.wrote_number.ensures
 
-pub mittenload-cic-decimate-block-spec : {M : Type 1} → statement M
-mittenload-cic-decimate-block-spec = tie.close (tie.spec (λ c κs. search rules) (λ c κs. search rules) (λ c κs. search rules) (λ c κs. search rules) (λ c κs. search rules) (λ c. search rules) returns)
+pub mittenload_cic_decimate_block_spec : {M : Type 1} → statement M
+mittenload_cic_decimate_block_spec = tie.close (tie.spec (λ c κs. search rules) (λ c κs. search rules) (λ c κs. search rules) (λ c κs. search rules) (λ c κs. search rules) (λ c. search rules) returns)

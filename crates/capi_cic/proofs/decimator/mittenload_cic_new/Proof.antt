@@ -4,27 +4,27 @@ use Rattle.capi_cic.proofs.Handed.{new_not, new_done}
 use Rattle.capi_cic.proofs.decimator.mittenload_cic_new.Statement.{statement}
 use Rattle.capi_cic.proofs.decimator.mittenload_cic_new.Tie as tie
 
-abbrev left_at : tie.After-spread → tie.Else1
+abbrev left_at : tie.After-spread → tie.Else-refused-ne0
 left_at p = search
 
-abbrev numbered : tie.Else1 → tie.After-number
+abbrev numbered : tie.Else-refused-ne0 → tie.After-number-refused
 numbered p = search
 
-abbrev made : tie.After-number → tie.After-new
+abbrev made : tie.After-number-refused → tie.After-new-made
 made p = search
 
-returns : tie.Need-returns
+returns : tie.Need-returns-then-refused-ne0
 returns c =
-    let d : tie.After-new = search in
-    let n : tie.After-number = search in
-    new_not _ d.new.result n.number.result n.number.ensures _ _ _ d.new.ensures c.if1.true
+    let d : tie.After-new-made = search in
+    let n : tie.After-number-refused = search in
+    new_not _ d.new-made.result n.number-refused.result n.number-refused.ensures _ _ _ d.new-made.ensures c.if-refused-ne0.true
 
-returns-2 : tie.Need-returns-2
+returns-2 : tie.Need-returns
 returns-2 c =
-    let e : tie.Else1 = left_at c in
-    let n : tie.After-number = numbered e in
-    let d : tie.After-new = made n in
-    new_done _ d.new.result n.number.result n.number.ensures _ _ _ d.new.ensures e.if1.left _ c.spread.ensures
+    let e : tie.Else-refused-ne0 = left_at c in
+    let n : tie.After-number-refused = numbered e in
+    let d : tie.After-new-made = made n in
+    new_done _ d.new-made.result n.number-refused.result n.number-refused.ensures _ _ _ d.new-made.ensures e.if-refused-ne0.false _ c.spread.ensures
 
-pub mittenload-cic-new-spec : {M : Type 1} → statement M
-mittenload-cic-new-spec = tie.close (tie.spec (λ c κs. search rules) (λ c κs. search rules) returns (λ c κs. search rules) returns-2)
+pub mittenload_cic_new_spec : {M : Type 1} → statement M
+mittenload_cic_new_spec = tie.close (tie.spec (λ c κs. search rules) (λ c κs. search rules) returns (λ c κs. search rules) returns-2)

@@ -6,11 +6,11 @@ use Rattle.capi_cic.proofs.decimator.mittenload_cic_set_rate.Tie as tie
 
 returns : tie.Need-returns
 returns c =
-    let g : tie.After-gathered = search in
-    let d : tie.After-set-rate = search in
+    let g : tie.After-gathered-s = search in
+    let d : tie.After-set_rate-made = search in
     let p : tie.After-spread = search in
-    set_rate _ _ d.set_rate.result _ c.number.ensures _
-    (rw g.gathered.ensures at d.set_rate.ensures) p.spread.ensures
+    set_rate _ _ d.set_rate-made.result _ c.number.ensures _
+    (rw g.gathered-s.ensures at d.set_rate-made.ensures) p.spread.ensures
 
-pub mittenload-cic-set-rate-spec : {M : Type 1} → statement M
-mittenload-cic-set-rate-spec = tie.close (tie.spec (λ c κs. search rules) (λ c κs. search rules) (λ c κs. search rules) (λ c κs. search rules) returns)
+pub mittenload_cic_set_rate_spec : {M : Type 1} → statement M
+mittenload_cic_set_rate_spec = tie.close (tie.spec (λ c κs. search rules) (λ c κs. search rules) (λ c κs. search rules) (λ c κs. search rules) returns)

@@ -6,27 +6,27 @@ use Rattle.capi_cic.proofs.Handed.{interpolate}
 use Rattle.capi_cic.proofs.interpolator.mittenload_cic_interpolate_held.Statement.{statement}
 use Rattle.capi_cic.proofs.interpolator.mittenload_cic_interpolate_held.Tie as tie
 
-abbrev called : tie.After-numbers-out → tie.After-interpolate
+abbrev called : tie.After-numbers_out → tie.After-interpolate-step
 called p = search
 
-abbrev begun : tie.After-interpolate → tie.After-numbers-in
+abbrev begun : tie.After-interpolate-step → tie.After-numbers_in-s
 begun p = search
 
-abbrev started : tie.After-numbers-in → tie.Start
+abbrev started : tie.After-numbers_in-s → tie.Start
 started p = search
 
 returns : tie.Need-returns
 returns c =
-    let o : tie.After-interpolated-or = search in
-    let v : tie.After-stood = search in
-    let p : tie.After-numbers-out = search in
-    let d : tie.After-interpolate = called p in
-    let g : tie.After-numbers-in = begun d in
+    let o : tie.After-interpolated_or-after = search in
+    let v : tie.After-stood-1 = search in
+    let p : tie.After-numbers_out = search in
+    let d : tie.After-interpolate-step = called p in
+    let g : tie.After-numbers_in-s = begun d in
     let b : tie.Start = started g in
-    rw (read width o.interpolated-or.result o.interpolated-or.ok)
-    (interpolate _ g.numbers-in.result _ d.interpolate.last.1.0 d.interpolate.last.1.1.0 g.numbers-in.ensures _ _ _ d.interpolate.result _
-    d.interpolate.ensures p.numbers-out.ensures
-    (rw (read width b.args.value.now v.stood.given) at o.interpolated-or.ensures) c.interpolated-number.ensures)
+    rw (read width o.interpolated_or-after.result o.interpolated_or-after.type_inv)
+    (interpolate _ g.numbers_in-s.result _ d.interpolate-step.new.integrators d.interpolate-step.new.combs g.numbers_in-s.ensures _ _ _ d.interpolate-step.result _
+    d.interpolate-step.ensures p.numbers_out.ensures
+    (rw (read width b.args.value.now v.stood-1.given) at o.interpolated_or-after.ensures) c.interpolated_number.ensures)
 
-pub mittenload-cic-interpolate-held-spec : {M : Type 1} → statement M
-mittenload-cic-interpolate-held-spec = tie.close (tie.spec (λ c κs. search rules) (λ c κs. search rules) (λ c κs. search rules) (λ c κs. search rules) (λ c κs. search rules) returns)
+pub mittenload_cic_interpolate_held_spec : {M : Type 1} → statement M
+mittenload_cic_interpolate_held_spec = tie.close (tie.spec (λ c κs. search rules) (λ c κs. search rules) (λ c κs. search rules) (λ c κs. search rules) (λ c κs. search rules) returns)

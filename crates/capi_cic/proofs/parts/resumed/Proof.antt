@@ -12,5 +12,5 @@ returns c =
     let e : to_z width (of_z width b.args.s.hold) ≡ b.args.s.hold = search rules in
     rw e at c.resume.ensures
 
-pub resumed-spec : {M : Type 1} → statement M
-resumed-spec = tie.close (tie.spec (λ c κs. search rules) returns)
+pub resumed_spec : {M : Type 1} → statement M
+resumed_spec = tie.close (tie.spec (λ c κs. search rules) returns)

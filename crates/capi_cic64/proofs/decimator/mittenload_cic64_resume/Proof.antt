@@ -5,30 +5,30 @@ use Rattle.capi_cic64.proofs.Handed.{resumed_of, resume_not, resume_done}
 use Rattle.capi_cic64.proofs.decimator.mittenload_cic64_resume.Statement.{statement}
 use Rattle.capi_cic64.proofs.decimator.mittenload_cic64_resume.Tie as tie
 
-abbrev left_at : tie.After-spread → tie.Else1
+abbrev left_at : tie.After-spread → tie.Else-refused-ne0
 left_at p = search
 
-abbrev made : tie.After-number → tie.After-resumed
+abbrev made : tie.After-number-refused → tie.After-resumed-made
 made p = search
 
-abbrev begun : tie.After-resumed → tie.After-gathered
+abbrev begun : tie.After-resumed-made → tie.After-gathered-s
 begun p = search
 
-returns : tie.Need-returns
+returns : tie.Need-returns-then-refused-ne0
 returns c =
-    let n : tie.After-number = search in
-    let d : tie.After-resumed = made n in
-    let g : tie.After-gathered = begun d in
-    resume_not _ d.resumed.result n.number.result n.number.ensures (d.resumed.ensures ∙ ap resumed_of g.gathered.ensures) c.if1.true
+    let n : tie.After-number-refused = search in
+    let d : tie.After-resumed-made = made n in
+    let g : tie.After-gathered-s = begun d in
+    resume_not _ d.resumed-made.result n.number-refused.result n.number-refused.ensures (d.resumed-made.ensures ∙ ap resumed_of g.gathered-s.ensures) c.if-refused-ne0.true
 
-returns-2 : tie.Need-returns-2
+returns-2 : tie.Need-returns
 returns-2 c =
-    let e : tie.Else1 = left_at c in
-    let n : tie.After-number = e.before in
-    let d : tie.After-resumed = made n in
-    let g : tie.After-gathered = begun d in
-    resume_done _ d.resumed.result n.number.result n.number.ensures (d.resumed.ensures ∙ ap resumed_of g.gathered.ensures) e.if1.left _
+    let e : tie.Else-refused-ne0 = left_at c in
+    let n : tie.After-number-refused = e.before in
+    let d : tie.After-resumed-made = made n in
+    let g : tie.After-gathered-s = begun d in
+    resume_done _ d.resumed-made.result n.number-refused.result n.number-refused.ensures (d.resumed-made.ensures ∙ ap resumed_of g.gathered-s.ensures) e.if-refused-ne0.false _
     c.spread.ensures
 
-pub mittenload-cic64-resume-spec : {M : Type 1} → statement M
-mittenload-cic64-resume-spec = tie.close (tie.spec (λ c κs. search rules) (λ c κs. search rules) (λ c κs. search rules) returns (λ c κs. search rules) returns-2)
+pub mittenload_cic64_resume_spec : {M : Type 1} → statement M
+mittenload_cic64_resume_spec = tie.close (tie.spec (λ c κs. search rules) (λ c κs. search rules) (λ c κs. search rules) returns (λ c κs. search rules) returns-2)

@@ -10,14 +10,14 @@ use Rattle.capi_cic64.proofs.interpolator.mittenload_cic64_get_interpolate.Tie a
 returns : tie.Need-returns
 returns c =
     let b : tie.Start = search in
-    let g : tie.After-gathered = search in
-    let d : tie.After-get-interpolate = search in
-    let o : tie.After-interpolated-or = search in
-    let new : to_z width (of_z width o.interpolated-or.result) ≡ o.interpolated-or.result = search rules in
+    let g : tie.After-gathered-s = search in
+    let d : tie.After-get_interpolate-out = search in
+    let o : tie.After-interpolated_or-after = search in
+    let new : to_z width (of_z width o.interpolated_or-after.result) ≡ o.interpolated_or-after.result = search rules in
     let old : to_z width (of_z width b.args.value.now) ≡ b.args.value.now = search rules in
     rw new
-    (get-interpolate _ _ _ d.get-interpolate.result _ (rw g.gathered.ensures at d.get-interpolate.ensures)
-    (rw old at o.interpolated-or.ensures) c.interpolated-number.ensures)
+    (get-interpolate _ _ _ d.get_interpolate-out.result _ (rw g.gathered-s.ensures at d.get_interpolate-out.ensures)
+    (rw old at o.interpolated_or-after.ensures) c.interpolated_number.ensures)
 
-pub mittenload-cic64-get-interpolate-spec : {M : Type 1} → statement M
-mittenload-cic64-get-interpolate-spec = tie.close (tie.spec (λ c κs. search rules) (λ c κs. search rules) (λ c κs. search rules) (λ c κs. search rules) returns)
+pub mittenload_cic64_get_interpolate_spec : {M : Type 1} → statement M
+mittenload_cic64_get_interpolate_spec = tie.close (tie.spec (λ c κs. search rules) (λ c κs. search rules) (λ c κs. search rules) (λ c κs. search rules) returns)

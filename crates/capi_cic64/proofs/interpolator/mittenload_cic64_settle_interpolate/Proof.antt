@@ -7,23 +7,23 @@ use Rattle.cic64.specs.Word.{width}
 use Rattle.capi_cic64.proofs.interpolator.mittenload_cic64_settle_interpolate.Statement.{statement}
 use Rattle.capi_cic64.proofs.interpolator.mittenload_cic64_settle_interpolate.Tie as tie
 
-abbrev made : tie.After-spread → tie.After-settle-interpolate
+abbrev made : tie.After-spread → tie.After-settle_interpolate-made
 made p = search
 
-abbrev begun : tie.After-settle-interpolate → tie.After-gathered
+abbrev begun : tie.After-settle_interpolate-made → tie.After-gathered-s
 begun p = search
 
-abbrev started : tie.After-gathered → tie.Start
+abbrev started : tie.After-gathered-s → tie.Start
 started p = search
 
 returns : tie.Need-returns
 returns c =
     let p : tie.After-spread = search in
-    let d : tie.After-settle-interpolate = made p in
-    let g : tie.After-gathered = begun d in
+    let d : tie.After-settle_interpolate-made = made p in
+    let g : tie.After-gathered-s = begun d in
     let b : tie.Start = started g in
-    settle _ _ d.settle_interpolate.result _ c.number.ensures _
-    ((rw (to_z-of_z width b.args.x b.fits.x) at d.settle_interpolate.ensures) ∙ ap (settled_of b.args.x) g.gathered.ensures) p.spread.ensures
+    settle _ _ d.settle_interpolate-made.result _ c.number.ensures _
+    ((rw (to_z-of_z width b.args.x b.ranges.x) at d.settle_interpolate-made.ensures) ∙ ap (settled_of b.args.x) g.gathered-s.ensures) p.spread.ensures
 
-pub mittenload-cic64-settle-interpolate-spec : {M : Type 1} → statement M
-mittenload-cic64-settle-interpolate-spec = tie.close (tie.spec (λ c κs. search rules) (λ c κs. search rules) (λ c κs. search rules) (λ c κs. search rules) returns)
+pub mittenload_cic64_settle_interpolate_spec : {M : Type 1} → statement M
+mittenload_cic64_settle_interpolate_spec = tie.close (tie.spec (λ c κs. search rules) (λ c κs. search rules) (λ c κs. search rules) (λ c κs. search rules) returns)

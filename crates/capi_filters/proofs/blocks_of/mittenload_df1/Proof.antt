@@ -6,23 +6,23 @@ use Rattle.capi_filters.proofs.Handed.{handed_by}
 use Rattle.capi_filters.proofs.blocks_of.mittenload_df1.Statement.{statement}
 use Rattle.capi_filters.proofs.blocks_of.mittenload_df1.Tie as tie
 
-abbrev called : tie.After-df1-out → tie.After-block
+abbrev called : tie.After-df1_out → tie.After-block-block
 called p = search
 
-abbrev begun : tie.After-block → tie.After-df1-in
+abbrev begun : tie.After-block-block → tie.After-df1_in-state
 begun p = search
 
-abbrev taken : tie.After-df1-in → tie.After-float-in
+abbrev taken : tie.After-df1_in-state → tie.After-float_in-coeff
 taken p = search
 
 returns : tie.Need-returns
 returns c =
-    let p : tie.After-df1-out = search in
-    let d : tie.After-block = called p in
-    let g : tie.After-df1-in = begun d in
-    let f : tie.After-float-in = taken g in
-    handed_by (λ (q : Biquad). 0) sum1 next1 _ f.Float-in.result _ g.df1-in.result _ d.block.result.state _ _ _ d.block.result.verdict _
-    f.Float-in.ensures g.df1-in.ensures d.block.ensures p.df1-out.ensures c.number.ensures
+    let p : tie.After-df1_out = search in
+    let d : tie.After-block-block = called p in
+    let g : tie.After-df1_in-state = begun d in
+    let f : tie.After-float_in-coeff = taken g in
+    handed_by (λ (q : Biquad). 0) sum1 next1 _ f.float_in-coeff.result _ g.df1_in-state.result _ d.block-block.result.state _ _ _ d.block-block.result.verdict _
+    f.float_in-coeff.ensures g.df1_in-state.ensures d.block-block.ensures p.df1_out.ensures c.number.ensures
 
-pub mittenload-df1-spec : {M : Type 1} → statement M
-mittenload-df1-spec = tie.close (tie.spec (λ c κs. search rules) (λ c κs. search rules) (λ c κs. search rules) (λ c κs. search rules) (λ c κs. search rules) (λ c. search rules) returns)
+pub mittenload_df1_spec : {M : Type 1} → statement M
+mittenload_df1_spec = tie.close (tie.spec (λ c κs. search rules) (λ c κs. search rules) (λ c κs. search rules) (λ c κs. search rules) (λ c κs. search rules) (λ c. search rules) returns)

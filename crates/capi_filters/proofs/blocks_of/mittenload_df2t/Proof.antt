@@ -6,11 +6,11 @@ use Rattle.capi_filters.proofs.blocks_of.mittenload_df2t.Tie as tie
 
 returns : tie.Need-returns
 returns c =
-    let f : tie.After-float-in = search in
-    let g : tie.After-df2t-in = search in
-    let d : tie.After-block = search in
-    let p : tie.After-df2t-out = search in
-    handed _ _ _ _ _ d.block.result.state _ _ _ d.block.result.verdict _ (rw (f.Float-in.ensures, g.df2t-in.ensures) at d.block.ensures) p.df2t-out.ensures c.number.ensures
+    let f : tie.After-float_in-coeff = search in
+    let g : tie.After-df2t_in-state = search in
+    let d : tie.After-block-block = search in
+    let p : tie.After-df2t_out = search in
+    handed _ _ _ _ _ d.block-block.result.state _ _ _ d.block-block.result.verdict _ (rw (f.float_in-coeff.ensures, g.df2t_in-state.ensures) at d.block-block.ensures) p.df2t_out.ensures c.number.ensures
 
-pub mittenload-df2t-spec : {M : Type 1} → statement M
-mittenload-df2t-spec = tie.close (tie.spec (λ c κs. search rules) (λ c κs. search rules) (λ c κs. search rules) (λ c κs. search rules) (λ c κs. search rules) (λ c. search rules) returns)
+pub mittenload_df2t_spec : {M : Type 1} → statement M
+mittenload_df2t_spec = tie.close (tie.spec (λ c κs. search rules) (λ c κs. search rules) (λ c κs. search rules) (λ c κs. search rules) (λ c κs. search rules) (λ c. search rules) returns)

@@ -6,23 +6,23 @@ use Rattle.capi_filters.proofs.Handed.{handed_by}
 use Rattle.capi_filters.proofs.blocks_of.mittenload_dither.Statement.{statement}
 use Rattle.capi_filters.proofs.blocks_of.mittenload_dither.Tie as tie
 
-abbrev called : tie.After-dither-out → tie.After-block
+abbrev called : tie.After-dither_out → tie.After-block-block
 called p = search
 
-abbrev begun : tie.After-block → tie.After-dither-in
+abbrev begun : tie.After-block-block → tie.After-dither_in-state
 begun p = search
 
-abbrev taken : tie.After-dither-in → tie.After-word-in
+abbrev taken : tie.After-dither_in-state → tie.After-word_in-coeff
 taken p = search
 
 returns : tie.Need-returns
 returns c =
-    let p : tie.After-dither-out = search in
-    let d : tie.After-block = called p in
-    let g : tie.After-dither-in = begun d in
-    let f : tie.After-word-in = taken g in
-    handed_by (fraction_number 1) dither_out dither_next _ f.word_in.result _ g.dither-in.result _ d.block.result.state _ _ _ d.block.result.verdict _
-    f.word_in.ensures g.dither-in.ensures d.block.ensures p.dither-out.ensures c.number.ensures
+    let p : tie.After-dither_out = search in
+    let d : tie.After-block-block = called p in
+    let g : tie.After-dither_in-state = begun d in
+    let f : tie.After-word_in-coeff = taken g in
+    handed_by (fraction_number 1) dither_out dither_next _ f.word_in-coeff.result _ g.dither_in-state.result _ d.block-block.result.state _ _ _ d.block-block.result.verdict _
+    f.word_in-coeff.ensures g.dither_in-state.ensures d.block-block.ensures p.dither_out.ensures c.number.ensures
 
-pub mittenload-dither-spec : {M : Type 1} → statement M
-mittenload-dither-spec = tie.close (tie.spec (λ c κs. search rules) (λ c κs. search rules) (λ c κs. search rules) (λ c κs. search rules) (λ c κs. search rules) (λ c. search rules) returns)
+pub mittenload_dither_spec : {M : Type 1} → statement M
+mittenload_dither_spec = tie.close (tie.spec (λ c κs. search rules) (λ c κs. search rules) (λ c κs. search rules) (λ c κs. search rules) (λ c κs. search rules) (λ c. search rules) returns)

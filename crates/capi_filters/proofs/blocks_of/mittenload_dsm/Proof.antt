@@ -6,10 +6,10 @@ use Rattle.capi_filters.proofs.blocks_of.mittenload_dsm.Tie as tie
 
 returns : tie.Need-returns
 returns c =
-    let g : tie.After-dsm-in = search in
-    let d : tie.After-block = search in
-    let p : tie.After-dsm-out = search in
-    modulated _ _ _ _ _ d.block.result _ (rw g.dsm-in.ensures at d.block.ensures) p.dsm-out.ensures c.number.ensures
+    let g : tie.After-dsm_in-state = search in
+    let d : tie.After-block-block = search in
+    let p : tie.After-dsm_out = search in
+    modulated _ _ _ _ _ d.block-block.result _ (rw g.dsm_in-state.ensures at d.block-block.ensures) p.dsm_out.ensures c.number.ensures
 
-pub mittenload-dsm-spec : {M : Type 1} → statement M
-mittenload-dsm-spec = tie.close (tie.spec (λ c κs. search rules) (λ c κs. search rules) (λ c κs. search rules) (λ c κs. search rules) (λ c. search rules) returns)
+pub mittenload_dsm_spec : {M : Type 1} → statement M
+mittenload_dsm_spec = tie.close (tie.spec (λ c κs. search rules) (λ c κs. search rules) (λ c κs. search rules) (λ c κs. search rules) (λ c. search rules) returns)

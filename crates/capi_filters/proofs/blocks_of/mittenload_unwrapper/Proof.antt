@@ -6,10 +6,10 @@ use Rattle.capi_filters.proofs.blocks_of.mittenload_unwrapper.Tie as tie
 
 returns : tie.Need-returns
 returns c =
-    let g : tie.After-unwrapper-in = search in
-    let d : tie.After-block = search in
-    let p : tie.After-unwrapper-out = search in
-    handed _ _ _ _ _ d.block.result.state _ _ _ d.block.result.verdict _ (rw g.unwrapper-in.ensures at d.block.ensures) p.unwrapper-out.ensures c.number.ensures
+    let g : tie.After-unwrapper_in-state = search in
+    let d : tie.After-block-block = search in
+    let p : tie.After-unwrapper_out = search in
+    handed _ _ _ _ _ d.block-block.result.state _ _ _ d.block-block.result.verdict _ (rw g.unwrapper_in-state.ensures at d.block-block.ensures) p.unwrapper_out.ensures c.number.ensures
 
-pub mittenload-unwrapper-spec : {M : Type 1} → statement M
-mittenload-unwrapper-spec = tie.close (tie.spec (λ c κs. search rules) (λ c κs. search rules) (λ c κs. search rules) (λ c κs. search rules) (λ c. search rules) returns)
+pub mittenload_unwrapper_spec : {M : Type 1} → statement M
+mittenload_unwrapper_spec = tie.close (tie.spec (λ c κs. search rules) (λ c κs. search rules) (λ c κs. search rules) (λ c κs. search rules) (λ c. search rules) returns)

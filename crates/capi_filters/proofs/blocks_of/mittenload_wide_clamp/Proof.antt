@@ -6,23 +6,23 @@ use Rattle.capi_filters.proofs.Handed.{handed_by}
 use Rattle.capi_filters.proofs.blocks_of.mittenload_wide_clamp.Statement.{statement}
 use Rattle.capi_filters.proofs.blocks_of.mittenload_wide_clamp.Tie as tie
 
-abbrev called : tie.After-wide-out → tie.After-block-clamp
+abbrev called : tie.After-wide_out → tie.After-block_clamp-block
 called p = search
 
-abbrev begun : tie.After-block-clamp → tie.After-wide-in
+abbrev begun : tie.After-block_clamp-block → tie.After-wide_in-state
 begun p = search
 
-abbrev taken : tie.After-wide-in → tie.After-word-clamp-in
+abbrev taken : tie.After-wide_in-state → tie.After-word_clamp_in-coeff
 taken p = search
 
 returns : tie.Need-returns
 returns c =
-    let p : tie.After-wide-out = search in
-    let d : tie.After-block-clamp = called p in
-    let g : tie.After-wide-in = begun d in
-    let f : tie.After-word-clamp-in = taken g in
-    handed_by (clamp_number 0) wide_held wide_onward _ f.word-clamp-in.result _ g.wide-in.result _ d.block-clamp.result.state _ _ _ d.block-clamp.result.verdict _
-    f.word-clamp-in.ensures g.wide-in.ensures d.block-clamp.ensures p.wide-out.ensures c.number.ensures
+    let p : tie.After-wide_out = search in
+    let d : tie.After-block_clamp-block = called p in
+    let g : tie.After-wide_in-state = begun d in
+    let f : tie.After-word_clamp_in-coeff = taken g in
+    handed_by (clamp_number 0) wide_held wide_onward _ f.word_clamp_in-coeff.result _ g.wide_in-state.result _ d.block_clamp-block.result.state _ _ _ d.block_clamp-block.result.verdict _
+    f.word_clamp_in-coeff.ensures g.wide_in-state.ensures d.block_clamp-block.ensures p.wide_out.ensures c.number.ensures
 
-pub mittenload-wide-clamp-spec : {M : Type 1} → statement M
-mittenload-wide-clamp-spec = tie.close (tie.spec (λ c κs. search rules) (λ c κs. search rules) (λ c κs. search rules) (λ c κs. search rules) (λ c κs. search rules) (λ c. search rules) returns)
+pub mittenload_wide_clamp_spec : {M : Type 1} → statement M
+mittenload_wide_clamp_spec = tie.close (tie.spec (λ c κs. search rules) (λ c κs. search rules) (λ c κs. search rules) (λ c κs. search rules) (λ c κs. search rules) (λ c. search rules) returns)

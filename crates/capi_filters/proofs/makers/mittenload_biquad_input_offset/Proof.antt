@@ -6,11 +6,11 @@ use Rattle.capi_filters.proofs.makers.mittenload_biquad_input_offset.Tie as tie
 
 returns : tie.Need-returns
 returns c =
-    let g : tie.After-float-clamp-in = search in
-    let d : tie.After-input-offset = search in
-    let n : tie.After-offset-or = search in
-    offsets _ g.float-clamp-in.result _ _ d.input-offset.result _ g.float-clamp-in.ensures d.input-offset.ensures n.offset-or.ensures
-    c.offset-number.ensures
+    let g : tie.After-float_clamp_in-c = search in
+    let d : tie.After-input_offset-offset = search in
+    let n : tie.After-offset_or-new = search in
+    offsets _ g.float_clamp_in-c.result _ _ d.input_offset-offset.result _ g.float_clamp_in-c.ensures d.input_offset-offset.ensures n.offset_or-new.ensures
+    c.offset_number.ensures
 
-pub mittenload-biquad-input-offset-spec : {M : Type 1} → statement M
-mittenload-biquad-input-offset-spec = tie.close (tie.spec (λ c κs. search rules) (λ c κs. search rules) (λ c κs. search rules) (λ c κs. search rules) returns)
+pub mittenload_biquad_input_offset_spec : {M : Type 1} → statement M
+mittenload_biquad_input_offset_spec = tie.close (tie.spec (λ c κs. search rules) (λ c κs. search rules) (λ c κs. search rules) (λ c κs. search rules) returns)

@@ -6,8 +6,8 @@ use Rattle.capi_filters.proofs.makers.mittenload_biquad_set_input_offset.Tie as 
 
 returns : tie.Need-returns
 returns c =
-    let g : tie.After-float-clamp-in = search in
-    offset_set _ g.float-clamp-in.result c.set-input-offset.result _ g.float-clamp-in.ensures c.set-input-offset.ensures
+    let g : tie.After-float_clamp_in-c = search in
+    offset_set _ g.float_clamp_in-c.result c.set_input_offset-set.result _ g.float_clamp_in-c.ensures c.set_input_offset-set.ensures
 
-pub mittenload-biquad-set-input-offset-spec : {M : Type 1} → statement M
-mittenload-biquad-set-input-offset-spec = tie.close (tie.spec (λ c κs. search rules) (λ c κs. search rules) returns)
+pub mittenload_biquad_set_input_offset_spec : {M : Type 1} → statement M
+mittenload_biquad_set_input_offset_spec = tie.close (tie.spec (λ c κs. search rules) (λ c κs. search rules) returns)

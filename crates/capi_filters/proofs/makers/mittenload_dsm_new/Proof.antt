@@ -4,18 +4,18 @@ use Rattle.capi_filters.proofs.Handed.{makes_dsm_not, makes_dsm}
 use Rattle.capi_filters.proofs.makers.mittenload_dsm_new.Statement.{statement}
 use Rattle.capi_filters.proofs.makers.mittenload_dsm_new.Tie as tie
 
-returns : tie.Need-returns
+returns : tie.Need-returns-then-refused-ne0
 returns c =
-    let d : tie.After-new = search in
-    let n : tie.After-number = search in
-    makes_dsm_not _ _ d.new.result _ d.new.ensures n.number.ensures c.if1.true
+    let d : tie.After-new-made = search in
+    let n : tie.After-number-refused = search in
+    makes_dsm_not _ _ d.new-made.result _ d.new-made.ensures n.number-refused.ensures c.if-refused-ne0.true
 
-returns-2 : tie.Need-returns-2
+returns-2 : tie.Need-returns
 returns-2 c =
-    let d : tie.After-new = search in
-    let n : tie.After-number = search in
-    let e : tie.Else1 = search in
-    makes_dsm _ _ d.new.result n.number.result d.new.ensures n.number.ensures e.if1.left _ c.dsm-out.ensures
+    let d : tie.After-new-made = search in
+    let n : tie.After-number-refused = search in
+    let e : tie.Else-refused-ne0 = search in
+    makes_dsm _ _ d.new-made.result n.number-refused.result d.new-made.ensures n.number-refused.ensures e.if-refused-ne0.false _ c.dsm_out.ensures
 
-pub mittenload-dsm-new-spec : {M : Type 1} → statement M
-mittenload-dsm-new-spec = tie.close (tie.spec (λ c κs. search rules) (λ c κs. search rules) returns (λ c κs. search rules) returns-2)
+pub mittenload_dsm_new_spec : {M : Type 1} → statement M
+mittenload_dsm_new_spec = tie.close (tie.spec (λ c κs. search rules) (λ c κs. search rules) returns (λ c κs. search rules) returns-2)

@@ -4,18 +4,18 @@ use Rattle.capi_filters.proofs.Handed.{makes_wdf_not, makes_wdf}
 use Rattle.capi_filters.proofs.makers.mittenload_wdf_from_form1.Statement.{statement}
 use Rattle.capi_filters.proofs.makers.mittenload_wdf_from_form1.Tie as tie
 
-returns : tie.Need-returns
+returns : tie.Need-returns-then-refused-ne0
 returns c =
-    let d : tie.After-from-form1 = search in
-    let n : tie.After-number = search in
-    makes_wdf_not _ _ d.from-form1.result _ d.from-form1.ensures n.number.ensures c.if1.true
+    let d : tie.After-from_form1-made = search in
+    let n : tie.After-number-refused = search in
+    makes_wdf_not _ _ d.from_form1-made.result _ d.from_form1-made.ensures n.number-refused.ensures c.if-refused-ne0.true
 
-returns-2 : tie.Need-returns-2
+returns-2 : tie.Need-returns
 returns-2 c =
-    let d : tie.After-from-form1 = search in
-    let n : tie.After-number = search in
-    let e : tie.Else1 = search in
-    makes_wdf _ _ d.from-form1.result n.number.result d.from-form1.ensures n.number.ensures e.if1.left _ c.wdf-out.ensures
+    let d : tie.After-from_form1-made = search in
+    let n : tie.After-number-refused = search in
+    let e : tie.Else-refused-ne0 = search in
+    makes_wdf _ _ d.from_form1-made.result n.number-refused.result d.from_form1-made.ensures n.number-refused.ensures e.if-refused-ne0.false _ c.wdf_out.ensures
 
-pub mittenload-wdf-from-form1-spec : {M : Type 1} → statement M
-mittenload-wdf-from-form1-spec = tie.close (tie.spec (λ c κs. search rules) (λ c κs. search rules) returns (λ c κs. search rules) returns-2)
+pub mittenload_wdf_from_form1_spec : {M : Type 1} → statement M
+mittenload_wdf_from_form1_spec = tie.close (tie.spec (λ c κs. search rules) (λ c κs. search rules) returns (λ c κs. search rules) returns-2)

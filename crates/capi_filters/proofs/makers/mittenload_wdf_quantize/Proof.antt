@@ -9,13 +9,13 @@ use Rattle.capi_filters.proofs.makers.mittenload_wdf_quantize.Tie as tie
 returns : tie.Need-returns
 returns c =
     let b : tie.Start = search in
-    let a : tie.After-from = search in
-    let d : tie.After-quantize = search in
-    let o : tie.After-old = search in
-    let n : tie.After-bits-or = search in
-    rw (read w32 n.bits-or.result n.bits-or.ok)
-    (quantizes _ a.from.result _ _ _ d.quantize.result _ a.from.ensures d.quantize.ensures
-    (rw (read w32 b.args.bits.now o.old.given) at n.bits-or.ensures) c.quantized-number.ensures)
+    let a : tie.After-from-adapter = search in
+    let d : tie.After-quantize-quantized = search in
+    let o : tie.After-old-1 = search in
+    let n : tie.After-bits_or-new = search in
+    rw (read w32 n.bits_or-new.result n.bits_or-new.type_inv)
+    (quantizes _ a.from-adapter.result _ _ _ d.quantize-quantized.result _ a.from-adapter.ensures d.quantize-quantized.ensures
+    (rw (read w32 b.args.bits.now o.old-1.given) at n.bits_or-new.ensures) c.quantized_number.ensures)
 
-pub mittenload-wdf-quantize-spec : {M : Type 1} → statement M
-mittenload-wdf-quantize-spec = tie.close (tie.spec (λ c κs. search rules) (λ c κs. search rules) (λ c κs. search rules) (λ c κs. search rules) returns)
+pub mittenload_wdf_quantize_spec : {M : Type 1} → statement M
+mittenload_wdf_quantize_spec = tie.close (tie.spec (λ c κs. search rules) (λ c κs. search rules) (λ c κs. search rules) (λ c κs. search rules) returns)

@@ -7,23 +7,23 @@ use Rattle.capi_loops.proofs.Handed.{clamps_not, clamps}
 use Rattle.capi_loops.proofs.loops.mittenload_clamp_wrap.Statement.{statement}
 use Rattle.capi_loops.proofs.loops.mittenload_clamp_wrap.Tie as tie
 
-returns : tie.Need-returns
+returns : tie.Need-returns-then-refused-ne0
 returns c =
-    let g : tie.After-clamp-in = search in
-    let d : tie.After-block = search in
-    let n : tie.After-number = search in
-    clamps_not _ _ _ _ _ g.clamp-in.result _ _ _ g.clamp-in.ensures d.block.ensures n.number.ensures c.if1.true
+    let g : tie.After-clamp_in-state = search in
+    let d : tie.After-block-block = search in
+    let n : tie.After-number-refused = search in
+    clamps_not _ _ _ _ _ g.clamp_in-state.result _ _ _ g.clamp_in-state.ensures d.block-block.ensures n.number-refused.ensures c.if-refused-ne0.true
 
-returns-2 : tie.Need-returns-2
+returns-2 : tie.Need-returns
 returns-2 c =
-    let g : tie.After-clamp-in = search in
-    let d : tie.After-block = search in
-    let n : tie.After-number = search in
-    let e : tie.Else1 = search in
-    let x0 = d.block.result.state.x0 in
+    let g : tie.After-clamp_in-state = search in
+    let d : tie.After-block-block = search in
+    let n : tie.After-number-refused = search in
+    let e : tie.Else-refused-ne0 = search in
+    let x0 = d.block-block.result.state.x0 in
     let q : to_z w32 (of_z w32 x0) ≡ x0 = search rules in
-    clamps _ _ _ _ _ g.clamp-in.result d.block.result.state _ _ g.clamp-in.ensures d.block.ensures n.number.ensures e.if1.left _ _ q
-    c.wrap-number.ensures
+    clamps _ _ _ _ _ g.clamp_in-state.result d.block-block.result.state _ _ g.clamp_in-state.ensures d.block-block.ensures n.number-refused.ensures e.if-refused-ne0.false _ _ q
+    c.wrap_number.ensures
 
-pub mittenload-clamp-wrap-spec : {M : Type 1} → statement M
-mittenload-clamp-wrap-spec = tie.close (tie.spec (λ c κs. search rules) (λ c κs. search rules) (λ c κs. search rules) (λ c. search rules) returns (λ c κs. search rules) (λ c. search rules) returns-2)
+pub mittenload_clamp_wrap_spec : {M : Type 1} → statement M
+mittenload_clamp_wrap_spec = tie.close (tie.spec (λ c κs. search rules) (λ c κs. search rules) (λ c κs. search rules) (λ c. search rules) returns (λ c κs. search rules) (λ c. search rules) returns-2)

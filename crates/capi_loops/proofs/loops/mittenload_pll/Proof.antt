@@ -4,36 +4,36 @@ use Rattle.capi_loops.proofs.Handed.{tracks_not, tracks}
 use Rattle.capi_loops.proofs.loops.mittenload_pll.Statement.{statement}
 use Rattle.capi_loops.proofs.loops.mittenload_pll.Tie as tie
 
-abbrev left_at : tie.After-pll-out → tie.Else1
+abbrev left_at : tie.After-pll_out → tie.Else-refused-ne0
 left_at p = search
 
-abbrev called : tie.After-number → tie.After-block
+abbrev called : tie.After-number-refused → tie.After-block-block
 called p = search
 
-abbrev begun : tie.After-block → tie.After-pll-in
+abbrev begun : tie.After-block-block → tie.After-pll_in-state
 begun p = search
 
-abbrev taken : tie.After-pll-in → tie.After-loop-in
+abbrev taken : tie.After-pll_in-state → tie.After-loop_in-coeff
 taken p = search
 
-returns : tie.Need-returns
+returns : tie.Need-returns-then-refused-ne0
 returns c =
-    let n : tie.After-number = search in
-    let d : tie.After-block = called n in
-    let g : tie.After-pll-in = begun d in
-    let l : tie.After-loop-in = taken g in
-    tracks_not _ l.loop-in.result _ _ _ _ g.pll-in.result _ _ _ l.loop-in.ensures g.pll-in.ensures d.block.ensures n.number.ensures
-    c.if1.true
+    let n : tie.After-number-refused = search in
+    let d : tie.After-block-block = called n in
+    let g : tie.After-pll_in-state = begun d in
+    let l : tie.After-loop_in-coeff = taken g in
+    tracks_not _ l.loop_in-coeff.result _ _ _ _ g.pll_in-state.result _ _ _ l.loop_in-coeff.ensures g.pll_in-state.ensures d.block-block.ensures n.number-refused.ensures
+    c.if-refused-ne0.true
 
-returns-2 : tie.Need-returns-2
+returns-2 : tie.Need-returns
 returns-2 c =
-    let e : tie.Else1 = left_at c in
-    let n : tie.After-number = e.before in
-    let d : tie.After-block = called n in
-    let g : tie.After-pll-in = begun d in
-    let l : tie.After-loop-in = taken g in
-    tracks _ l.loop-in.result _ _ _ _ g.pll-in.result d.block.result.state _ _ l.loop-in.ensures g.pll-in.ensures d.block.ensures
-    n.number.ensures e.if1.left _ c.pll-out.ensures
+    let e : tie.Else-refused-ne0 = left_at c in
+    let n : tie.After-number-refused = e.before in
+    let d : tie.After-block-block = called n in
+    let g : tie.After-pll_in-state = begun d in
+    let l : tie.After-loop_in-coeff = taken g in
+    tracks _ l.loop_in-coeff.result _ _ _ _ g.pll_in-state.result d.block-block.result.state _ _ l.loop_in-coeff.ensures g.pll_in-state.ensures d.block-block.ensures
+    n.number-refused.ensures e.if-refused-ne0.false _ c.pll_out.ensures
 
-pub mittenload-pll-spec : {M : Type 1} → statement M
-mittenload-pll-spec = tie.close (tie.spec (λ c κs. search rules) (λ c κs. search rules) (λ c κs. search rules) (λ c κs. search rules) (λ c. search rules) returns (λ c κs. search rules) (λ c. search rules) returns-2)
+pub mittenload_pll_spec : {M : Type 1} → statement M
+mittenload_pll_spec = tie.close (tie.spec (λ c κs. search rules) (λ c κs. search rules) (λ c κs. search rules) (λ c κs. search rules) (λ c. search rules) returns (λ c κs. search rules) (λ c. search rules) returns-2)

@@ -6,31 +6,31 @@ use Rattle.capi_loops.proofs.Handed.{locks}
 use Rattle.capi_loops.proofs.loops.mittenload_rpll_missing.Statement.{statement}
 use Rattle.capi_loops.proofs.loops.mittenload_rpll_missing.Tie as tie
 
-abbrev called : tie.After-rpll-out → tie.After-process
+abbrev called : tie.After-rpll_out → tie.After-process-step
 called p = search
 
-abbrev begun : tie.After-process → tie.After-rpll-in
+abbrev begun : tie.After-process-step → tie.After-rpll_in-state
 begun p = search
 
-abbrev taken : tie.After-rpll-in → tie.After-config-in
+abbrev taken : tie.After-rpll_in-state → tie.After-config_in-config
 taken p = search
 
 returns : tie.Need-returns
 returns c =
-    let n : tie.After-frequency-or = search in
-    let m : tie.After-old-frequency = search in
-    let v : tie.After-phase-or = search in
-    let u : tie.After-old-phase = search in
-    let p : tie.After-rpll-out = search in
-    let d : tie.After-process = called p in
-    let g : tie.After-rpll-in = begun d in
-    let l : tie.After-config-in = taken g in
+    let n : tie.After-frequency_or-new_frequency = search in
+    let m : tie.After-old_frequency-1 = search in
+    let v : tie.After-phase_or-new_phase = search in
+    let u : tie.After-old_phase-1 = search in
+    let p : tie.After-rpll_out = search in
+    let d : tie.After-process-step = called p in
+    let g : tie.After-rpll_in-state = begun d in
+    let l : tie.After-config_in-config = taken g in
     let b : tie.Start = l.before in
-    rw (read w32 v.phase-or.result v.phase-or.ok, read w32 n.frequency-or.result n.frequency-or.ok)
-    (locks _ l.config-in.result _ g.rpll-in.result _ _ _ _ _ _ d.process.result _ l.config-in.ensures g.rpll-in.ensures
-    d.process.ensures p.rpll-out.ensures
-    (rw (read w32 b.args.phase.now u.old-phase.given) at v.phase-or.ensures)
-    (rw (read w32 b.args.frequency.now m.old-frequency.given) at n.frequency-or.ensures) c.estimate-number.ensures)
+    rw (read w32 v.phase_or-new_phase.result v.phase_or-new_phase.type_inv, read w32 n.frequency_or-new_frequency.result n.frequency_or-new_frequency.type_inv)
+    (locks _ l.config_in-config.result _ g.rpll_in-state.result _ _ _ _ _ _ d.process-step.result _ l.config_in-config.ensures g.rpll_in-state.ensures
+    d.process-step.ensures p.rpll_out.ensures
+    (rw (read w32 b.args.phase.now u.old_phase-1.given) at v.phase_or-new_phase.ensures)
+    (rw (read w32 b.args.frequency.now m.old_frequency-1.given) at n.frequency_or-new_frequency.ensures) c.estimate_number.ensures)
 
-pub mittenload-rpll-missing-spec : {M : Type 1} → statement M
-mittenload-rpll-missing-spec = tie.close (tie.spec (λ c κs. search rules) (λ c κs. search rules) (λ c κs. search rules) (λ c κs. search rules) (λ c κs. search rules) (λ c κs. search rules) (λ c κs. search rules) returns)
+pub mittenload_rpll_missing_spec : {M : Type 1} → statement M
+mittenload_rpll_missing_spec = tie.close (tie.spec (λ c κs. search rules) (λ c κs. search rules) (λ c κs. search rules) (λ c κs. search rules) (λ c κs. search rules) (λ c κs. search rules) (λ c κs. search rules) returns)

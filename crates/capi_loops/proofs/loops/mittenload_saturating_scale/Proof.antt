@@ -10,13 +10,13 @@ use Rattle.capi_loops.proofs.loops.mittenload_saturating_scale.Tie as tie
 returns : tie.Need-returns
 returns c =
     let b : tie.Start = search in
-    let d : tie.After-saturating-scale = search in
-    let o : tie.After-old = search in
-    let n : tie.After-scaled-or = search in
-    rw (read w32 n.scaled-or.result n.scaled-or.ok)
-    (scales _ _ _ _ _ d.saturating-scale.result _
-    (rw (to_z-of_z w32 b.args.lo b.fits.lo, to_z-of_z w32 b.args.hi b.fits.hi) at d.saturating-scale.ensures)
-    (rw (read w32 b.args.value.now o.old.given) at n.scaled-or.ensures) c.scaled-number.ensures)
+    let d : tie.After-saturating_scale-scaled = search in
+    let o : tie.After-old-1 = search in
+    let n : tie.After-scaled_or-new = search in
+    rw (read w32 n.scaled_or-new.result n.scaled_or-new.type_inv)
+    (scales _ _ _ _ _ d.saturating_scale-scaled.result _
+    (rw (to_z-of_z w32 b.args.lo b.ranges.lo, to_z-of_z w32 b.args.hi b.ranges.hi) at d.saturating_scale-scaled.ensures)
+    (rw (read w32 b.args.value.now o.old-1.given) at n.scaled_or-new.ensures) c.scaled_number.ensures)
 
-pub mittenload-saturating-scale-spec : {M : Type 1} → statement M
-mittenload-saturating-scale-spec = tie.close (tie.spec (λ c κs. search rules) (λ c κs. search rules) (λ c κs. search rules) returns)
+pub mittenload_saturating_scale_spec : {M : Type 1} → statement M
+mittenload_saturating_scale_spec = tie.close (tie.spec (λ c κs. search rules) (λ c κs. search rules) (λ c κs. search rules) returns)

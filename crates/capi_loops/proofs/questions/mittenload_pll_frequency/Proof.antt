@@ -7,8 +7,8 @@ use Rattle.capi_loops.proofs.questions.mittenload_pll_frequency.Tie as tie
 
 returns : tie.Need-returns
 returns c =
-    let g : tie.After-pll-in = search in
-    rw (read w32 c.frequency.result c.frequency.type-inv) (rw g.pll-in.ensures at c.frequency.ensures)
+    let g : tie.After-pll_in-state = search in
+    rw (read w32 c.frequency.result c.frequency.type_inv) (rw g.pll_in-state.ensures at c.frequency.ensures)
 
-pub mittenload-pll-frequency-spec : {M : Type 1} → statement M
-mittenload-pll-frequency-spec = tie.close (tie.spec (λ c κs. search rules) (λ c κs. search rules) returns)
+pub mittenload_pll_frequency_spec : {M : Type 1} → statement M
+mittenload_pll_frequency_spec = tie.close (tie.spec (λ c κs. search rules) (λ c κs. search rules) returns)

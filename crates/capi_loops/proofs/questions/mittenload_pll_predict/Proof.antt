@@ -9,11 +9,11 @@ use Rattle.capi_loops.proofs.questions.mittenload_pll_predict.Tie as tie
 
 returns : tie.Need-returns
 returns c =
-    let g : tie.After-pll-in = search in
-    let d : tie.After-predict = search in
-    let e = rw g.pll-in.ensures at d.predict.ensures in
-    let q : to_z w32 (of_z w32 d.predict.result.y) ≡ d.predict.result.y = search rules in
+    let g : tie.After-pll_in-state = search in
+    let d : tie.After-predict-ahead = search in
+    let e = rw g.pll_in-state.ensures at d.predict-ahead.ensures in
+    let q : to_z w32 (of_z w32 d.predict-ahead.result.y) ≡ d.predict-ahead.result.y = search rules in
     record { answer = q ∙ ap (λ (m : Tracked). m.y) e; phase = q ∙ ap (λ (m : Tracked). m.y) e }
 
-pub mittenload-pll-predict-spec : {M : Type 1} → statement M
-mittenload-pll-predict-spec = tie.close (tie.spec (λ c κs. search rules) (λ c κs. search rules) returns)
+pub mittenload_pll_predict_spec : {M : Type 1} → statement M
+mittenload_pll_predict_spec = tie.close (tie.spec (λ c κs. search rules) (λ c κs. search rules) returns)

@@ -9,7 +9,7 @@ use Rattle.capi_loops.proofs.questions.mittenload_unwrapper_phase.Tie as tie
 returns : tie.Need-returns
 returns c =
     let b : tie.Start = search in
-    rw (read w32 c.phase.result c.phase.type-inv) (rw (to_z-of_z w64 b.args.y b.fits.y) at c.phase.ensures)
+    rw (read w32 c.phase.result c.phase.type_inv) (rw (to_z-of_z w64 b.args.y b.ranges.y) at c.phase.ensures)
 
-pub mittenload-unwrapper-phase-spec : {M : Type 1} → statement M
-mittenload-unwrapper-phase-spec = tie.close (tie.spec (λ c κs. search rules) returns)
+pub mittenload_unwrapper_phase_spec : {M : Type 1} → statement M
+mittenload_unwrapper_phase_spec = tie.close (tie.spec (λ c κs. search rules) returns)

@@ -9,7 +9,7 @@ use Rattle.capi_loops.proofs.questions.mittenload_unwrapper_wraps.Tie as tie
 returns : tie.Need-returns
 returns c =
     let b : tie.Start = search in
-    rw (read w32 c.wraps.result c.wraps.type-inv) (rw (to_z-of_z w64 b.args.y b.fits.y) at c.wraps.ensures)
+    rw (read w32 c.wraps.result c.wraps.type_inv) (rw (to_z-of_z w64 b.args.y b.ranges.y) at c.wraps.ensures)
 
-pub mittenload-unwrapper-wraps-spec : {M : Type 1} → statement M
-mittenload-unwrapper-wraps-spec = tie.close (tie.spec (λ c κs. search rules) returns)
+pub mittenload_unwrapper_wraps_spec : {M : Type 1} → statement M
+mittenload_unwrapper_wraps_spec = tie.close (tie.spec (λ c κs. search rules) returns)

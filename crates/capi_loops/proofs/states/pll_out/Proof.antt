@@ -28,7 +28,7 @@ module _ (p : tie.Start) where
 returns : tie.Need-returns
 returns c =
     let p : tie.Start = search in
-    rw (x0-read p, z0-read p, y0-read p, f0-read p, f-read p, y-read p, c.wrap-number.ensures)
+    rw (x0-read p, z0-read p, y0-read p, f0-read p, f-read p, y-read p, c.wrap_number.ensures)
 
-pub pll-out-spec : {M : Type 1} → statement M
-pll-out-spec = tie.close (tie.spec (λ c κs. search rules) returns)
+pub pll_out_spec : {M : Type 1} → statement M
+pll_out_spec = tie.close (tie.spec (λ c κs. search rules) returns)

@@ -6,9 +6,9 @@ use Rattle.capi_settings.proofs.calls.mittenload_settings_back.Tie as tie
 
 returns : tie.Need-returns
 returns c =
-    let d : tie.After-move-back = search in
-    let n : tie.After-move-or = search in
-    sends _ _ _ d.move-back.result _ _ _ d.move-back.ensures n.move-or.ensures c.move-number.ensures
+    let d : tie.After-move_back-moved = search in
+    let n : tie.After-move_or-n = search in
+    sends _ _ _ d.move_back-moved.result _ _ _ d.move_back-moved.ensures n.move_or-n.ensures c.move_number.ensures
 
-pub mittenload-settings-back-spec : {M : Type 1} → statement M
-mittenload-settings-back-spec = tie.close (tie.spec (λ c κs. search rules) (λ c κs. search rules) (λ c κs. search rules) (λ c. search rules) returns)
+pub mittenload_settings_back_spec : {M : Type 1} → statement M
+mittenload_settings_back_spec = tie.close (tie.spec (λ c κs. search rules) (λ c κs. search rules) (λ c κs. search rules) (λ c. search rules) returns)

@@ -6,7 +6,7 @@ use Rattle.capi_settings.proofs.calls.mittenload_settings_form.Statement.{statem
 use Rattle.capi_settings.proofs.calls.mittenload_settings_form.Tie as tie
 
 returns : tie.Need-returns
-returns c = let d : tie.After-form-of = search in c.form-number.ensures ∙ ap form_number d.form_of.ensures
+returns c = let d : tie.After-form_of = search in c.form_number.ensures ∙ ap form_number d.form_of.ensures
 
-pub mittenload-settings-form-spec : {M : Type 1} → statement M
-mittenload-settings-form-spec = tie.close (tie.spec (λ c κs. search rules) (λ c κs. search rules) returns)
+pub mittenload_settings_form_spec : {M : Type 1} → statement M
+mittenload_settings_form_spec = tie.close (tie.spec (λ c κs. search rules) (λ c κs. search rules) returns)

@@ -8,8 +8,8 @@ use Rattle.capi_settings.proofs.calls.mittenload_settings_line.Tie as tie
 
 returns : tie.Need-returns
 returns c =
-    let v : tie.After-version-at = search in
-    ap (λ (q : Read). q.line) (is_read _ _ v.version-at.result _ v.version-at.ensures c.read-store.ensures)
+    let v : tie.After-version_at-version = search in
+    ap (λ (q : Read). q.line) (is_read _ _ v.version_at-version.result _ v.version_at-version.ensures c.read_store-read.ensures)
 
-pub mittenload-settings-line-spec : {M : Type 1} → statement M
-mittenload-settings-line-spec = tie.close (tie.spec (λ c κs. search rules) (λ c κs. search rules) returns)
+pub mittenload_settings_line_spec : {M : Type 1} → statement M
+mittenload_settings_line_spec = tie.close (tie.spec (λ c κs. search rules) (λ c κs. search rules) returns)

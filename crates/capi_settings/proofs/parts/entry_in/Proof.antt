@@ -4,7 +4,7 @@ use Rattle.capi_settings.proofs.parts.entry_in.Statement.{statement}
 use Rattle.capi_settings.proofs.parts.entry_in.Tie as tie
 
 returns : tie.Need-returns
-returns c = let k : tie.After-kind-at = search in rw k.kind_at.ensures
+returns c = let k : tie.After-kind_at-which = search in rw k.kind_at-which.ensures
 
-pub entry-in-spec : {M : Type 1} → statement M
-entry-in-spec = tie.close (tie.spec (λ c κs. search rules) returns)
+pub entry_in_spec : {M : Type 1} → statement M
+entry_in_spec = tie.close (tie.spec (λ c κs. search rules) returns)

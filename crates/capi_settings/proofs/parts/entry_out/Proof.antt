@@ -4,7 +4,7 @@ use Rattle.capi_settings.proofs.parts.entry_out.Statement.{statement}
 use Rattle.capi_settings.proofs.parts.entry_out.Tie as tie
 
 returns : tie.Need-returns
-returns c = let k : tie.After-numbers-of = search in rw k.Numbers-of.ensures
+returns c = let k : tie.After-numbers_of-n = search in rw k.numbers_of-n.ensures
 
-pub entry-out-spec : {M : Type 1} → statement M
-entry-out-spec = tie.close (tie.spec (λ c κs. search rules) returns)
+pub entry_out_spec : {M : Type 1} → statement M
+entry_out_spec = tie.close (tie.spec (λ c κs. search rules) returns)

@@ -4,14 +4,8 @@ use mathlib.Core.Path.{◌≡◌, sym}
 use Prim.Native.Nat.{◌≤◌}
 use lib.ListN.{length}
 use lib.Seq.{length-take-le}
-use borrow.Author.Tests.{le-leb, lt-leb}
 use borrow.Author.Rules.{rules}
-use Rattle.entries.specs.Entries.{number_for}
 use Rattle.entries.proofs.numbers.number_of.Goals as goal
-
-pub returns-then-k-ge64 : goal.returns-then-k-ge64
-unfolding number_for
-returns-then-k-ge64 c = sym (rw (le-leb _ _ c.if-k-ge64.true))
 
 pub slice_bounds-xs-end : goal.slice_bounds-xs-end
 slice_bounds-xs-end c =
@@ -38,22 +32,3 @@ slice_bounds-comes_before-end-2 c =
     let s = c.held-n.ensures.0 in
     let h : c.held-n.result ≤ length c.args.name.bytes = omega arith in
     sym (length-take-le _ _ h)
-
-pub returns-then-not-comes_before : goal.returns-then-not-comes_before
-unfolding number_for
-returns-then-not-comes_before c =
-    let w = c.if-not-comes_before.true in
-    sym (rw (lt-leb _ _ c.if-k-ge64.false, ← c.held-m.ensures.1, ← c.held-n.ensures.1, ← c.comes_before.ensures, w))
-
-pub returns : goal.returns
-unfolding number_for
-returns c =
-    let w = c.if-not-comes_before.false in
-    sym (rw (
-      lt-leb _ _ c.if-k-ge64.false,
-      ← c.held-m.ensures.1,
-      ← c.held-n.ensures.1,
-      ← c.comes_before.ensures,
-      w,
-      c.kind_number.ensures,
-    ))

@@ -1,4 +1,4 @@
--- By whether the countdown is over.
+-- By whether the countdown is over. No step is named by the test, so that a wrong one is refused by the fact.
 use mathlib.Core.Path.{◌≡◌}
 use Prim.Native.Nat.{◌-◌}
 use native.Mathlib.Omega.{arith}
@@ -8,15 +8,6 @@ use borrow.Author.Rules.{rules}
 use Rattle.text.proofs.Spelling.{spelt-most}
 use Rattle.playback.proofs.samples.put_next.Statement.{statement}
 use Rattle.playback.proofs.samples.put_next.Tie as tie
-
-returns : tie.Need-returns-then-told-i
-returns c =
-    let then1 : tie.Then-told-i = search in
-    let begin : tie.Start = search in
-    let a = begin.args in
-    let z : a.told - a.i ≡ 0 = omega (arith, then1.if-told-i.true) in
-    let p = rw (to_z-of_z w64 a.value begin.ranges.value) at c.before.before.put_settled.ensures in
-    rw z (p.0, omega (arith, p.1))
 
 put-output-requires : tie.Need-put_output-requires
 put-output-requires c κs =
@@ -33,5 +24,12 @@ returns-2 c =
 
 pub put_next_spec : {M : Type 1} → statement M
 put_next_spec =
-    tie.close (tie.spec (λ c κs. search rules) (λ c. search rules) returns (λ c. search rules) put-output-requires
+    tie.close (tie.spec (λ c κs. search rules) (λ c. search rules)
+    (λ c.
+    let begin : tie.Start = search in
+    let a = begin.args in
+    let z : a.told - a.i ≡ 0 = omega arith in
+    let p = rw (to_z-of_z w64 a.value begin.ranges.value) at c.before.before.put_settled.ensures in
+    rw z (p.0, omega (arith, p.1)))
+    (λ c. search rules) put-output-requires
     (λ c. search rules) returns-2)

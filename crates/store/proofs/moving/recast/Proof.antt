@@ -5,8 +5,8 @@ use Rattle.store.proofs.moving.recast.Tie as tie
 
 returns : tie.Need-returns
 returns c =
-    let called : tie.After-recast-kind = search in
-    rw called.recast-kind.ensures
+    let called : tie.After-recast_kind-kind = search in
+    rw called.recast_kind-kind.ensures
 
-pub recast-spec : {M : Type 1} → statement M
-recast-spec = tie.close (tie.spec (λ c κs. search rules) returns)
+pub recast_spec : {M : Type 1} → statement M
+recast_spec = tie.close (tie.spec (λ c κs. search rules) returns)

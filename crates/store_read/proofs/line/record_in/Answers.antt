@@ -6,16 +6,12 @@ use lib.ListN.{length, take, drop}
 use lib.Seq.{length-take-le}
 use Rattle.text.proofs.Parting.{end_high}
 use Rattle.settings_text.proofs.Names.{name-short}
-use Rattle.store_read.proofs.Ends.{is_cic, is_dither_law, is_wdf, name-kept, no_kind, no_name, one_field, too_long}
+use Rattle.store_read.proofs.Ends.{is_cic, is_dither_law, is_wdf, name-kept, no_kind, no_name, one_field}
 use Rattle.store_read.proofs.line.record_in.Goals as goal
-
-pub returns-then-line-gt160 : goal.returns-then-line-gt160
-returns-then-line-gt160 c =
-    c.nothing.ensures ∙ too_long c.args.version c.args.line.now c.if-line-gt160.true
 
 pub returns-then-line-e : goal.returns-then-line-e
 returns-then-line-e c =
-    c.nothing-then-line-e.ensures ∙ one_field c.args.version c.args.line.now c.if-line-gt160.false c.part_end-e.result
+    c.nothing-then-line-e.ensures ∙ one_field c.args.version c.args.line.now (omega arith) c.part_end-e.result
     c.part_end-e.ensures c.if-line-e.true
 
 pub overflow_add-f1 : goal.overflow_add-f1
@@ -23,7 +19,7 @@ overflow_add-f1 c =
     let i : c.part_end-e.result + 1 ≤ length c.args.line.now = omega arith in
     let t = end_high 9 c.args.line.now (c.part_end-e.result + 1) i in
     let e = c.part_end-f.ensures in
-    let s = c.if-line-gt160.false in
+    let s : length c.args.line.now ≤ 160 = omega arith in
     record { fits = omega arith }
 
 pub slice_bounds-is_name-end : goal.slice_bounds-is_name-end
@@ -35,7 +31,7 @@ slice_bounds-is_name-end c =
 
 pub returns-then-not-is_name : goal.returns-then-not-is_name
 returns-then-not-is_name c =
-    c.nothing-then-not-is_name.ensures ∙ no_name c.args.version c.args.line.now c.if-line-gt160.false c.part_end-e.result
+    c.nothing-then-not-is_name.ensures ∙ no_name c.args.version c.args.line.now (omega arith) c.part_end-e.result
     c.part_end-e.ensures c.if-line-e.false c.part_end-f.result c.part_end-f.ensures
     (sym c.is_name.ensures ∙ c.if-not-is_name.true)
 
@@ -64,12 +60,12 @@ cic-requires c =
           (take (c.part_end-f.result - (c.part_end-e.result + 1))
           (drop (c.part_end-e.result + 1) c.args.line.now)) c.name_of-name.ensures,
       omega arith,
-      c.if-line-gt160.false,
+      (omega arith),
     )
 
 pub returns-then-same_bytes : goal.returns-then-same_bytes
 returns-then-same_bytes c =
-    is_cic c.args.version c.args.line.now c.if-line-gt160.false c.part_end-e.result c.part_end-e.ensures
+    is_cic c.args.version c.args.line.now (omega arith) c.part_end-e.result c.part_end-e.ensures
     c.if-line-e.false c.part_end-f.result c.part_end-f.ensures
     (sym c.is_name.ensures ∙ c.if-not-is_name.false) c.name_of-name.result
     c.name_of-name.ensures _ c.cic.ensures (sym c.same_bytes.ensures ∙ c.if-same_bytes.true)
@@ -88,12 +84,12 @@ wdf-requires c =
           (take (c.part_end-f.result - (c.part_end-e.result + 1))
           (drop (c.part_end-e.result + 1) c.args.line.now)) c.name_of-name.ensures,
       omega arith,
-      c.if-line-gt160.false,
+      (omega arith),
     )
 
 pub returns-then-same_bytes-2 : goal.returns-then-same_bytes-2
 returns-then-same_bytes-2 c =
-    is_wdf c.args.version c.args.line.now c.if-line-gt160.false c.part_end-e.result c.part_end-e.ensures
+    is_wdf c.args.version c.args.line.now (omega arith) c.part_end-e.result c.part_end-e.ensures
     c.if-line-e.false c.part_end-f.result c.part_end-f.ensures
     (sym c.is_name.ensures ∙ c.if-not-is_name.false) c.name_of-name.result
     c.name_of-name.ensures (sym c.same_bytes.ensures ∙ c.if-same_bytes.false) _ c.wdf.ensures
@@ -108,12 +104,12 @@ dither-requires c =
           (take (c.part_end-f.result - (c.part_end-e.result + 1))
           (drop (c.part_end-e.result + 1) c.args.line.now)) c.name_of-name.ensures,
       omega arith,
-      c.if-line-gt160.false,
+      (omega arith),
     )
 
 pub returns-then-same_bytes-3 : goal.returns-then-same_bytes-3
 returns-then-same_bytes-3 c =
-    is_dither_law c.args.version c.args.line.now c.if-line-gt160.false c.part_end-e.result c.part_end-e.ensures
+    is_dither_law c.args.version c.args.line.now (omega arith) c.part_end-e.result c.part_end-e.ensures
     c.if-line-e.false c.part_end-f.result c.part_end-f.ensures
     (sym c.is_name.ensures ∙ c.if-not-is_name.false) c.name_of-name.result
     c.name_of-name.ensures (sym c.same_bytes.ensures ∙ c.if-same_bytes.false)
@@ -122,7 +118,7 @@ returns-then-same_bytes-3 c =
 
 pub returns : goal.returns
 returns c =
-    c.nothing-2.ensures ∙ no_kind c.args.version c.args.line.now c.if-line-gt160.false c.part_end-e.result
+    c.nothing-2.ensures ∙ no_kind c.args.version c.args.line.now (omega arith) c.part_end-e.result
     c.part_end-e.ensures c.if-line-e.false c.part_end-f.result c.part_end-f.ensures
     (sym c.is_name.ensures ∙ c.if-not-is_name.false) c.name_of-name.result
     c.name_of-name.ensures (sym c.same_bytes.ensures ∙ c.if-same_bytes.false)
