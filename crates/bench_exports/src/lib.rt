@@ -5,5 +5,5 @@
 
 pub mod decimators;
 pub mod decimators64;
-pub mod sections;
+pub mod filters;
 pub mod words_and_loops;

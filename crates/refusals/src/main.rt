@@ -5,12 +5,12 @@
 
 mod counts;
 mod figures;
+mod filters;
 mod fractions;
 mod limits;
 mod lines;
 mod modulator;
 mod print;
-mod sections;
 mod states;
 mod waves;
 mod wide;
@@ -25,8 +25,8 @@ fn main(rt: HostRuntime) -> io::Result<()> {
     modulator::print_all(&rt)?;
     fractions::print_all(&rt)?;
     limits::print_all(&rt)?;
-    sections::print_all(&rt)?;
-    sections::print_block(&rt)?;
+    filters::print_all(&rt)?;
+    filters::print_block(&rt)?;
     lines::print_all(&rt)?;
     waves::print_all(&rt)
 }

@@ -5,8 +5,8 @@ use Rattle.biquad_fixed.specs.Forms.{dither_held, dither_onward}
 use Rattle.biquad_fixed.specs.Answers.{clamp_number}
 use Rattle.bench_exports.specs.Fresh.{zero_dither}
 use Rattle.bench_exports.proofs.Handing.{handed, biquad_sent, clamp_sent}
-use Rattle.bench_exports.proofs.sections.bench_dither_clamp.Statement.{statement}
-use Rattle.bench_exports.proofs.sections.bench_dither_clamp.Tie as tie
+use Rattle.bench_exports.proofs.filters.bench_dither_clamp.Statement.{statement}
+use Rattle.bench_exports.proofs.filters.bench_dither_clamp.Tie as tie
 
 returns : tie.Need-returns
 returns c =

@@ -1,7 +1,7 @@
 -- The call's promise, with the fresh filter that was made.
 use borrow.Author.Rules.{rules}
-use Rattle.bench_exports.proofs.sections.bench_dsm.Statement.{statement}
-use Rattle.bench_exports.proofs.sections.bench_dsm.Tie as tie
+use Rattle.bench_exports.proofs.filters.bench_dsm.Statement.{statement}
+use Rattle.bench_exports.proofs.filters.bench_dsm.Tie as tie
 
 returns : tie.Need-returns
 returns c =

@@ -5,8 +5,8 @@ use Rattle.biquad_fixed.specs.Forms.{wide_held, wide_onward}
 use Rattle.biquad_fixed.specs.Answers.{clamp_number}
 use Rattle.bench_exports.specs.Fresh.{zero_wide}
 use Rattle.bench_exports.proofs.Handing.{handed, biquad_sent, clamp_sent}
-use Rattle.bench_exports.proofs.sections.bench_wide_clamp.Statement.{statement}
-use Rattle.bench_exports.proofs.sections.bench_wide_clamp.Tie as tie
+use Rattle.bench_exports.proofs.filters.bench_wide_clamp.Statement.{statement}
+use Rattle.bench_exports.proofs.filters.bench_wide_clamp.Tie as tie
 
 returns : tie.Need-returns
 returns c =

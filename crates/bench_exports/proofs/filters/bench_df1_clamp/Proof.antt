@@ -1,7 +1,7 @@
 -- The call's promise, with the state of zeros.
 use borrow.Author.Rules.{rules}
-use Rattle.bench_exports.proofs.sections.bench_df1_clamp.Statement.{statement}
-use Rattle.bench_exports.proofs.sections.bench_df1_clamp.Tie as tie
+use Rattle.bench_exports.proofs.filters.bench_df1_clamp.Statement.{statement}
+use Rattle.bench_exports.proofs.filters.bench_df1_clamp.Tie as tie
 
 returns : tie.Need-returns
 returns c =

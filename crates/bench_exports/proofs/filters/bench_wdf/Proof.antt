@@ -2,8 +2,8 @@
 use mir.Syntax.{w32}
 use mir.ValLaws.{to_z-of_z}
 use borrow.Author.Rules.{rules}
-use Rattle.bench_exports.proofs.sections.bench_wdf.Statement.{statement}
-use Rattle.bench_exports.proofs.sections.bench_wdf.Tie as tie
+use Rattle.bench_exports.proofs.filters.bench_wdf.Statement.{statement}
+use Rattle.bench_exports.proofs.filters.bench_wdf.Tie as tie
 
 returns : tie.Need-returns
 returns c =
