@@ -137,7 +137,7 @@ def failing(program):
     with open("/dev/full", "wb") as full:
         run = subprocess.Popen(program, stdin=subprocess.PIPE, stdout=full, bufsize=0)
         run.stdin.write(b"cic\t0\t1\t0\nx\t5\n")
-        assert run.wait(timeout=60) == 0
+        assert run.wait(timeout=60) == 1
         run.stdin.close()
     data = b"cic\t0\t1\t0\n" + b"x\t5\n" * 20000
     into, out_of = os.pipe2(os.O_NONBLOCK)
