@@ -53,7 +53,7 @@ class Failed(Exception):
 def needed():
     """The project's crates that the program stands on, itself among them."""
     with open(os.path.join(ROOT, "crates.txt")) as lines:
-        uses = dict(re.fullmatch(r"(\w+):(.*)", line.split("#")[0].strip()).groups() for line in lines if ":" in line.split("#")[0])
+        uses = dict(re.fullmatch(r"(\w+)[^:]*:(.*)", line.split("#")[0].strip()).groups() for line in lines if ":" in line.split("#")[0])
     found, left = set(), ["replay"]
     while left:
         name = left.pop()
