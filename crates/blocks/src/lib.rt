@@ -4,6 +4,12 @@
 
 #![tactic(auto)]
 
+mod filter;
+mod refusal;
+
+pub use filter::{Filter, block, run};
+pub use refusal::Refusal;
+
 // Whether a call was done, or the number of its refusal.
 #[derive(Clone, Copy)]
 pub enum Verdict {

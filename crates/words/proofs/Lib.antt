@@ -4,3 +4,4 @@ pub mod Sums
 pub mod Sizes
 pub mod Products
 pub mod Floors
+pub mod Std
