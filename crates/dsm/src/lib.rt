@@ -119,6 +119,13 @@ fn order_fits(order: usize) -> Result<(), Refusal>
 }
 
 impl Dsm {
+    // Order 0, which gives zeros.
+    pub const IDLE: Dsm = Dsm {
+        order: 0,
+        accumulators: [0; 8],
+        retained: [0; 8],
+    };
+
     // A modulator of zeros. 30 where the order is above 8.
     pub fn new(order: usize) -> Result<Dsm, Refusal>
         ensures { result ≡ modulator_of order }
