@@ -97,10 +97,9 @@ fn in_range(j: usize, cell: i16) -> bool
 
 // Whether each of the K - 1 used cells lies in its range.
 fn cells_in_range(c: &[i16; 8], order: usize) -> bool
-    requires { order ≤ 8 }
     ensures { result ≡ inside_from 0 (take (order - 1) c.now) }
 {
-    for i in 0..order.saturating_sub(1) {
+    for i in 0..order.saturating_sub(1).min(8) {
         if !in_range(i, c[i]) {
             return false;
         }
@@ -140,7 +139,6 @@ impl Dsm {
 
     // 32 where a used retained cell is out of range.
     fn cells_fit(&self) -> Result<(), Refusal>
-        requires { self.now.order ≤ 8 }
         ensures { result ≡ answer (cells_number self.now) tt }
     {
         if cells_in_range(&self.retained, self.order) {
