@@ -9,7 +9,7 @@ ghost use Rattle.std.specs.Prelude.{◌≡◌, true, ◌+◌, ◌-◌, ◌/◌, 
 ghost use Rattle.std.specs.Int.Signed.{mag};
 ghost use Rattle.blocks.specs.Refusals.{answer};
 ghost use Rattle.dsm.specs.Modulator.{inside, inside_from};
-ghost use Rattle.dsm.specs.Calls.{order_number, cells_number, state_number, modulator_of, range_of, Steps, Runs};
+ghost use Rattle.dsm.specs.Calls.{order_number, cells_number, state_number, zeros_of, modulator_of, range_of, Steps, Runs};
 ghost use Rattle.dsm.specs.Cells.{Accumulates, Combines, Turns, Modulates};
 
 use blocks::Refusal;
@@ -239,4 +239,11 @@ impl Dsm {
             greatest: high,
         })
     }
+}
+
+// Nothing calls it: its promise says what the constant `IDLE` is.
+fn idle() -> Dsm
+    ensures { result ≡ zeros_of 0 }
+{
+    Dsm::IDLE
 }
