@@ -1,7 +1,7 @@
 -- What an accepted call knows: its fraction bits lie in range, and a clamped output within its limits.
 use mathlib.Core.Path.{◌≡◌, refl}
 use mathlib.Core.Bool.{Bool, true, false, ◌||◌, cond}
-use Prim.Native.Nat.{ℕ, zero, suc, ◌≤◌}
+use Prim.Native.Nat.{ℕ, ◌≤◌}
 use native.Mathlib.Omega.{arith}
 use borrow.Author.Tests.{ltb-false, le-ltb}
 use lib.Dec.{ltb}

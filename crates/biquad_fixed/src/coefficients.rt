@@ -8,7 +8,7 @@ ghost use Rattle.biquad_fixed.specs.Answers.{fraction_number, clamp_number};
 
 use crate::form::Coefficients;
 use blocks::Refusal;
-use words::signed::{add_i32, add_i64, product};
+use words::signed::product;
 
 // The bits of coefficients with f fraction bits. a1 and a2 have the sign in which the recurrence adds them.
 #[derive(Clone, Copy)]
@@ -48,10 +48,9 @@ impl Biquad {
     pub fn inputs(self, x0: i32, x1: i32, x2: i32) -> i64
         ensures { result ≡ wrap w64 (forward self x0 x1 x2) }
     {
-        add_i64(
-            add_i64(product(self.b0, x0), product(self.b1, x1)),
-            product(self.b2, x2),
-        )
+        product(self.b0, x0)
+            .wrapping_add(product(self.b1, x1))
+            .wrapping_add(product(self.b2, x2))
     }
 }
 
@@ -68,10 +67,11 @@ impl BiquadClamp {
     }
 
     // The output y with the offset added, modulo 2^32, and held to the limits.
+    #[tactic(auto, using(words::proofs::Std::signed))]
     pub fn limit(self, y: i32) -> i32
         ensures { result ≡ limited self y }
     {
-        clamp(add_i32(y, self.u), self.min, self.max)
+        clamp(y.wrapping_add(self.u), self.min, self.max)
     }
 }
 

@@ -7,9 +7,8 @@ ghost use Rattle.biquad_fixed.specs.Answers.{fraction_number, clamp_number, dith
 use crate::coefficients::{Biquad, BiquadClamp};
 use crate::form::{Form, block, step};
 use blocks::Refusal;
-use words::casts::{i64_as_u32, i64_high, u32_as_i64};
-use words::shifts::{shl_i64, shr_u32};
-use words::signed::{add_i64, product};
+use words::casts::{i64_as_u32, i64_high};
+use words::signed::product;
 
 // x1 and y1 are the latest, x2 and y2 those before; e is the error that is fed back.
 #[derive(Clone, Copy)]
@@ -62,14 +61,16 @@ impl DirectForm1Dither {
         ensures { result ≡ dither_sum c self x0 }
     {
         let inputs = c.inputs(x0, self.x1, self.x2);
-        let outputs = add_i64(product(c.a1, self.y1), product(c.a2, self.y2));
-        add_i64(u32_as_i64(self.e), add_i64(inputs, outputs))
+        let outputs = product(c.a1, self.y1).wrapping_add(product(c.a2, self.y2));
+        i64::from(self.e).wrapping_add(inputs.wrapping_add(outputs))
     }
 }
 
 impl Form<Biquad> for DirectForm1Dither {
     ghost number = { fraction_number 1 };
+
     ghost gives = { dither_out };
+
     ghost after = { dither_next };
 
     fn accepts(c: Biquad) -> Result<(), Refusal> {
@@ -78,8 +79,8 @@ impl Form<Biquad> for DirectForm1Dither {
 
     fn turn(&mut self, c: Biquad, x0: i32) -> i32 {
         let f = c.f;
-        let acc = shl_i64(self.sum(c, x0), 32 - f);
-        let e = shr_u32(i64_as_u32(acc), 32 - f);
+        let acc = self.sum(c, x0) << (32 - f);
+        let e = i64_as_u32(acc) >> (32 - f);
         let y = i64_high(acc);
         *self = DirectForm1Dither {
             x1: x0,
@@ -94,7 +95,9 @@ impl Form<Biquad> for DirectForm1Dither {
 
 impl Form<BiquadClamp> for DirectForm1Dither {
     ghost number = { clamp_number 1 };
+
     ghost gives = { dither_held };
+
     ghost after = { dither_onward };
 
     fn accepts(c: BiquadClamp) -> Result<(), Refusal> {

@@ -22,7 +22,9 @@ pub(crate) trait Coefficients: Copy {
 // A form's state, and how it goes on by coefficients C.
 pub(crate) trait Form<C>: Copy {
     ghost number: { C → ℕ };
+
     ghost gives: { C → Self → ℤ → ℤ };
+
     ghost after: { C → Self → ℤ → Self };
 
     fn accepts(c: C) -> Result<(), Refusal>
@@ -44,9 +46,11 @@ struct Accepted<C, S: Form<C>> {
 
 impl<C: Copy, S: Form<C>> Filter for Accepted<C, S> {
     type Input = i32;
+
     type Output = i32;
 
     ghost gives = { λ a x. S.gives a.c a.state x };
+
     ghost after = { λ a x. record a { state = S.after a.c a.state x } };
 
     fn process(&mut self, x: i32) -> i32 {

@@ -9,9 +9,8 @@ ghost use Rattle.biquad_fixed.specs.Answers.{fraction_number, clamp_number, wide
 use crate::coefficients::{Biquad, BiquadClamp};
 use crate::form::{Form, block, step};
 use blocks::Refusal;
-use words::casts::{i32_as_i64, i64_as_u32, i64_high, u32_as_i64};
-use words::shifts::{shl_i64, shr_i64};
-use words::signed::{add_i64, product};
+use words::casts::{i64_as_u32, i64_high};
+use words::signed::product;
 
 // x1 and y1 are the latest, x2 and y2 those before. An output's high word is what was given out.
 #[derive(Clone, Copy)]
@@ -26,32 +25,32 @@ pub struct DirectForm1Wide {
 fn low_of(y: i64) -> i64
     ensures { result ≡ pos (word w32 y) }
 {
-    u32_as_i64(i64_as_u32(y))
+    i64::from(i64_as_u32(y))
 }
 
 // The low word times a coefficient: 64 bits always hold it.
 fn low_product(y: i64, a: i32) -> i64
     ensures { result ≡ pos (word w32 y) *ℤ a }
 {
-    low_of(y) * i32_as_i64(a)
+    low_of(y) * i64::from(a)
 }
 
 // acc grown by the wide output y times a, divided by 2^32 and rounded down: by its low word, then by its high word.
 fn fed(acc: i64, y: i64, a: i32) -> i64
     ensures { result ≡ wrap w64 (acc +ℤ floor_div (y *ℤ a) (2 ^ 32)) }
 {
-    let low = shr_i64(low_product(y, a), 32);
+    let low = low_product(y, a) >> 32;
     let high = product(i64_high(y), a);
-    add_i64(add_i64(acc, low), high)
+    acc.wrapping_add(low).wrapping_add(high)
 }
 
 // y over the high word of acc, whose low word stays.
 fn overwrite(acc: i64, y: i32) -> i64
     ensures { result ≡ overwritten acc y }
 {
-    let high = i32_as_i64(y);
+    let high = i64::from(y);
     let low = low_of(acc);
-    add_i64(shl_i64(high, 32), low)
+    (high << 32).wrapping_add(low)
 }
 
 impl DirectForm1Wide {
@@ -102,7 +101,9 @@ impl DirectForm1Wide {
 
 impl Form<Biquad> for DirectForm1Wide {
     ghost number = { fraction_number 0 };
+
     ghost gives = { wide_out };
+
     ghost after = { wide_next };
 
     fn accepts(c: Biquad) -> Result<(), Refusal> {
@@ -111,7 +112,7 @@ impl Form<Biquad> for DirectForm1Wide {
 
     fn turn(&mut self, c: Biquad, x0: i32) -> i32 {
         let f = c.f;
-        let acc = shl_i64(self.sum(c, x0), 32 - f);
+        let acc = self.sum(c, x0) << (32 - f);
         let y = i64_high(acc);
         *self = DirectForm1Wide {
             x1: x0,
@@ -125,7 +126,9 @@ impl Form<Biquad> for DirectForm1Wide {
 
 impl Form<BiquadClamp> for DirectForm1Wide {
     ghost number = { clamp_number 0 };
+
     ghost gives = { wide_held };
+
     ghost after = { wide_onward };
 
     fn accepts(c: BiquadClamp) -> Result<(), Refusal> {

@@ -1,9 +1,7 @@
 -- The fraction bits' number, else the test of the limits.
-use Rattle.std.proofs.Common.{◌≡◌, refl, ap, ◌∙◌, ℕ, cond}
-use Rattle.std.specs.Prelude.{Result}
+use Rattle.std.proofs.Common.{refl, ap, ◌∙◌, ℕ, cond}
 use Rattle.std.proofs.lemmas.Result.{err_from_is_err_and}
 use lib.Signed.{lt_z}
-use Rattle.blocks.specs.declared.refusal.Refusal.{Refusal}
 use Rattle.blocks.specs.Refusals as R
 use Rattle.blocks.specs.Refusals.{answer}
 use Rattle.blocks.proofs.Refusals.{taken_number}
