@@ -32,6 +32,7 @@ pub struct BiquadClamp {
 
 impl Biquad {
     // The refusal of the fraction bits: FractionBits (40) where they are below `least` or above 31.
+    #[tactic(auto, unfolding(blocks::specs::Refusals::answer, blocks::specs::Refusals::refusal_at))]
     pub fn fraction(self, least: u32) -> Result<(), Refusal>
         ensures { result ≡ answer (fraction_number least self) tt }
     {
