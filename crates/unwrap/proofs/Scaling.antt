@@ -1,13 +1,14 @@
 -- saturating_scale in whole numbers: 2 ^ shift divides what hi adds, so the code's two shifts add up to the quotient of the
 -- whole, which fits 64 bits.
 use mathlib.Core.Path.{◌≡◌, refl, sym, ap, ◌∙◌}
-use mathlib.Core.Bool.{false}
+use mathlib.Core.Bool.{Bool, true, false, cond}
+use lib.Dec.{ltb}
 use Prim.Native.Nat.{ℕ, zero, suc, ◌+◌, ◌-◌, ◌*◌, ◌/◌, ◌%◌, ◌^◌, ◌<◌, ◌≤◌}
 use native.Mathlib.Nat.{mod-eq_of_lt, mul_assoc, div-lt_iff_lt-mul, mul-le-mul_left, zero-mul}
 use native.Mathlib.Omega.{arith}
 use lib.Pow.{pow_pos, pow-add, pow_mono}
 use lib.IntN.{ℤ, pos, negsuc, neg_ℤ, ◌+ℤ◌, ◌*ℤ◌}
-use lib.Signed.{mag, lt_z}
+use lib.Signed.{mag}
 use borrow.Author.Tests.{ltb-false}
 use mir.Syntax.{w32, w64}
 use mir.Val.{SFits}
@@ -16,7 +17,9 @@ use Rattle.words.proofs.Reading.{wrap_is}
 use Rattle.words.proofs.Sums.{equal, wrapped, same_add, wrap-same}
 use Rattle.words.proofs.Sizes.{mag_add}
 use Rattle.words.proofs.Floors.{floor_turns}
-use Rattle.unwrap.specs.Scales.{wide_value}
+use Rattle.std.specs.Int.{int_max, int_min}
+use Rattle.unwrap.specs.Phases.{least_word, greatest_word}
+use Rattle.unwrap.specs.Scales.{wide_value, clamped}
 
 -- ---- the quotient fits 64 bits, though the whole may not
 
@@ -70,8 +73,26 @@ divided_is lo hi s h k fl fh =
     ∙ ap (wrap w64) sum
     ∙ wrap_is w64 (floor_div (wide_value lo hi) m) (divided_fits lo hi s h fl fh))
 
--- ---- what the clamp leaves fits a word
+-- ---- the clamp of std is the definition's, and what it leaves fits a word
 
-pub inside : (v : ℤ) → lt_z v (negsuc 2147483647) ≡ false → lt_z (pos 2147483647) v ≡ false → SFits w32 v
-inside (pos n) e f = let h = ltb-false 2147483647 n f in record { sfits = omega arith }
-inside (negsuc n) e f = let h = ltb-false 2147483647 n e in record { sfits = omega arith }
+pub held : (v : ℤ) → int_max least_word (int_min v greatest_word) ≡ clamped v
+unfolding clamped
+held (pos n) = pick (ltb 2147483647 n)
+  where
+    pick : (b : Bool) → int_max least_word (cond b (pos 2147483647) (pos n)) ≡ cond b (pos 2147483647) (pos n)
+    pick true = refl
+    pick false = refl
+held (negsuc n) = refl
+
+pub clamped_fits : (v : ℤ) → SFits w32 (clamped v)
+unfolding clamped
+clamped_fits (pos n) = pick (ltb 2147483647 n) refl
+  where
+    pick : (b : Bool) → ltb 2147483647 n ≡ b → SFits w32 (cond b (pos 2147483647) (pos n))
+    pick true e = record { sfits = omega arith }
+    pick false e = let h = ltb-false 2147483647 n e in record { sfits = omega arith }
+clamped_fits (negsuc n) = pick (ltb 2147483647 n) refl
+  where
+    pick : (b : Bool) → ltb 2147483647 n ≡ b → SFits w32 (cond b (negsuc 2147483647) (negsuc n))
+    pick true e = record { sfits = omega arith }
+    pick false e = let h = ltb-false 2147483647 n e in record { sfits = omega arith }
