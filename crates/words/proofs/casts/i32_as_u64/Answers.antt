@@ -1,5 +1,5 @@
 -- Widening keeps the number, so its bits are those of the number.
-use Rattle.std.proofs.Common.{w32, w64, rules}
+use Rattle.std.proofs.Common.{w32, w64}
 use mir.ValLaws.{to_z-of_z}
 use Rattle.words.proofs.Reading.{read}
 use Rattle.words.proofs.casts.i32_as_u64.Goals as goal

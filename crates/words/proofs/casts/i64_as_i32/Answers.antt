@@ -1,5 +1,5 @@
 -- Reading the low word as signed wraps the number (wrap-word).
-use Rattle.std.proofs.Common.{w32, w64, rules}
+use Rattle.std.proofs.Common.{w32, w64}
 use mir.ValLaws.{to_z-of_z}
 use Rattle.words.proofs.Reading.{read, wrap-word}
 use Rattle.words.proofs.casts.i64_as_i32.Goals as goal

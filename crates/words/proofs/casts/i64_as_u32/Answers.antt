@@ -1,5 +1,5 @@
 -- A word of a wider word is a word (word-narrow).
-use Rattle.std.proofs.Common.{refl, w32, w64, rules}
+use Rattle.std.proofs.Common.{refl, w32, w64}
 use mir.ValLaws.{to_z-of_z}
 use Rattle.words.proofs.Reading.{word_narrow}
 use Rattle.words.proofs.casts.i64_as_u32.Goals as goal

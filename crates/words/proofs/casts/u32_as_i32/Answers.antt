@@ -1,5 +1,5 @@
 -- The bits in the upper half are the complement of a small number, and twice the complement is itself.
-use Rattle.std.proofs.Common.{◌≡◌, ◌-◌, arith, w32, rules}
+use Rattle.std.proofs.Common.{◌≡◌, ◌-◌, arith, w32}
 use Rattle.words.proofs.Reading.{wrap-bits}
 use Rattle.words.proofs.casts.u32_as_i32.Goals as goal
 

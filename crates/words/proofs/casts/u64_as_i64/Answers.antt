@@ -1,5 +1,5 @@
 -- The bits in the upper half are the complement of a small number, and twice the complement is itself.
-use Rattle.std.proofs.Common.{◌≡◌, ◌-◌, arith, w64, rules}
+use Rattle.std.proofs.Common.{◌≡◌, ◌-◌, arith, w64}
 use Rattle.words.proofs.Reading.{wrap-bits}
 use Rattle.words.proofs.casts.u64_as_i64.Goals as goal
 

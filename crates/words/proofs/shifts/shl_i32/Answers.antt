@@ -1,5 +1,5 @@
 -- The bits of a product are the product of the bits (bits-shl).
-use Rattle.std.proofs.Common.{◌%◌, w32, rules}
+use Rattle.std.proofs.Common.{◌%◌, w32}
 use Rattle.words.proofs.Sums.{bits_shl}
 use Rattle.words.proofs.shifts.shl_i32.Goals as goal
 

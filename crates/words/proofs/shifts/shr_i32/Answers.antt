@@ -1,5 +1,5 @@
 -- A shift to the right makes no number larger, so the quotient is its own reading.
-use Rattle.std.proofs.Common.{◌%◌, ◌^◌, w32, rules}
+use Rattle.std.proofs.Common.{◌%◌, ◌^◌, w32}
 use lib.Signed.{shr_z, mag_shr}
 use mir.ValLaws.{to_z-of_z, sfits_le}
 use Rattle.words.proofs.shifts.shr_i32.Goals as goal

@@ -1,5 +1,5 @@
 -- The bits of the sum are the sum of the bits (bits-add).
-use Rattle.std.proofs.Common.{ap, ◌∙◌, w32, rules}
+use Rattle.std.proofs.Common.{ap, ◌∙◌, w32}
 use mir.ValLaws.{to_z-of_z}
 use Rattle.words.specs.Words.{word}
 use Rattle.words.proofs.Reading.{read}

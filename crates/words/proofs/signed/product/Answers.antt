@@ -1,5 +1,5 @@
 -- Two numbers of 32 bits have a product that fits 64 (product-fits).
-use Rattle.std.proofs.Common.{◌*ℤ◌, w32, w64, rules}
+use Rattle.std.proofs.Common.{◌*ℤ◌, w32, w64}
 use mir.ValLaws.{to_z-of_z}
 use Rattle.words.proofs.Reading.{read}
 use Rattle.words.proofs.Sizes.{product_fits}

@@ -1,5 +1,5 @@
 -- The bits of the difference are the difference of the bits (bits-sub).
-use Rattle.std.proofs.Common.{ap, ◌∙◌, w64, rules}
+use Rattle.std.proofs.Common.{ap, ◌∙◌, w64}
 use mir.ValLaws.{to_z-of_z}
 use Rattle.words.specs.Words.{word}
 use Rattle.words.proofs.Reading.{read}

@@ -1,5 +1,4 @@
 -- The machine's sum is the word by definition.
-use Rattle.std.proofs.Common.{rules}
 use Rattle.words.specs.Words.{word}
 use Rattle.words.proofs.unsigned.add_u64.Goals as goal
 

@@ -1,5 +1,5 @@
 -- By halves: the high product falls out of the word, and remainders of the parts make that of the whole.
-use Rattle.std.proofs.Common.{◌≡◌, ℕ, ◌+◌, ◌*◌, ◌/◌, ◌%◌, ◌^◌, refl, ap₂, div-add-mod', arith, rules}
+use Rattle.std.proofs.Common.{◌≡◌, ℕ, ◌+◌, ◌*◌, ◌/◌, ◌%◌, ◌^◌, refl, ap₂, div-add-mod', arith}
 use native.Mathlib.Nat.{mod-mod}
 use Rattle.words.specs.Words.{word}
 use Rattle.words.proofs.Remainders.{is, ◌then◌, plus, times}

@@ -1,5 +1,5 @@
 -- The sum with 2^32 stays above zero, and its remainder is the difference's word (word-minus).
-use Rattle.std.proofs.Common.{◌+◌, ◌-◌, ◌%◌, arith, w32, rules}
+use Rattle.std.proofs.Common.{◌+◌, ◌-◌, ◌%◌, arith, w32}
 use Rattle.words.proofs.Sums.{word-minus}
 use Rattle.words.proofs.unsigned.sub_u32.Goals as goal
 

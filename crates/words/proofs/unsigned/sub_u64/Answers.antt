@@ -1,5 +1,5 @@
 -- The machine's difference plus b is a modulo 2^64 (word-minus).
-use Rattle.std.proofs.Common.{sym, ◌∙◌, mod-eq_of_lt, w64, rules}
+use Rattle.std.proofs.Common.{sym, ◌∙◌, mod-eq_of_lt, w64}
 use Rattle.words.proofs.Sums.{word-minus}
 use Rattle.words.proofs.unsigned.sub_u64.Goals as goal
 

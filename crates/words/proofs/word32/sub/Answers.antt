@@ -1,5 +1,5 @@
 -- The call's promise, read back from the bits.
-use Rattle.std.proofs.Common.{◌∙◌, w32, rules}
+use Rattle.std.proofs.Common.{◌∙◌, w32}
 use mir.ValLaws.{to_z-of_z}
 use Rattle.words.proofs.Reading.{read}
 use Rattle.words.proofs.word32.sub.Goals as goal
