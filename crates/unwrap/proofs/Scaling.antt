@@ -3,8 +3,8 @@
 use mathlib.Core.Path.{◌≡◌, refl, sym, ap, ◌∙◌}
 use mathlib.Core.Bool.{Bool, true, false, cond}
 use lib.Dec.{ltb}
-use Prim.Native.Nat.{ℕ, zero, suc, ◌+◌, ◌-◌, ◌*◌, ◌/◌, ◌%◌, ◌^◌, ◌<◌, ◌≤◌}
-use native.Mathlib.Nat.{mod-eq_of_lt, mul_assoc, div-lt_iff_lt-mul, mul-le-mul_left, zero-mul}
+use Prim.Native.Nat.{ℕ, zero, suc, ◌+◌, ◌-◌, ◌*◌, ◌/◌, ◌^◌, ◌<◌, ◌≤◌}
+use native.Mathlib.Nat.{mul_assoc, div-lt_iff_lt-mul, mul-le-mul_left, zero-mul}
 use native.Mathlib.Omega.{arith}
 use lib.Pow.{pow_pos, pow-add, pow_mono}
 use lib.IntN.{ℤ, pos, negsuc, neg_ℤ, ◌+ℤ◌, ◌*ℤ◌}
@@ -58,20 +58,17 @@ times-times (negsuc n) a b = neg_times (suc n * a) b ∙ ap (λ (m : ℕ). neg_�
     neg_times (suc m) b = refl
 
 pub divided_is : (lo hi : ℤ) (s : ℕ) → 1 ≤ s → s ≤ 32 → SFits w32 lo → SFits w32 hi
-    → wrap w64 (wrap w64 (hi *ℤ pos (2 ^ ((32 - s) % 64))) +ℤ floor_div lo (2 ^ (s % 64))) ≡ floor_div (wide_value lo hi) (2 ^ s)
+    → wrap w64 (wrap w64 (hi *ℤ pos (2 ^ (32 - s))) +ℤ floor_div lo (2 ^ s)) ≡ floor_div (wide_value lo hi) (2 ^ s)
 divided_is lo hi s h k fl fh =
     let q = 2 ^ (32 - s) in let m = 2 ^ s in
-    let u : (32 - s) % 64 ≡ 32 - s = mod-eq_of_lt (omega arith) in
-    let v : s % 64 ≡ s = mod-eq_of_lt (omega arith) in
     let t : 32 - s + s ≡ 32 = omega arith in
     let p : q * m ≡ 2 ^ 32 = sym (pow-add 2 (32 - s) s) ∙ ap (λ (n : ℕ). 2 ^ n) t in
     let whole : hi *ℤ pos q *ℤ pos m ≡ hi *ℤ pos (2 ^ 32) = times-times hi q m ∙ ap (λ (n : ℕ). hi *ℤ pos n) p in
     let sum : hi *ℤ pos q +ℤ floor_div lo m ≡ floor_div (wide_value lo hi) m =
     sym (floor_turns (hi *ℤ pos q) lo m (pow_pos s)) ∙ ap (λ (z : ℤ). floor_div (z +ℤ lo) m) whole in
-    rw (u, v)
-    (wrap-same (same_add (wrapped w64 (hi *ℤ pos q)) (equal {a = floor_div lo m} refl))
+    wrap-same (same_add (wrapped w64 (hi *ℤ pos q)) (equal {a = floor_div lo m} refl))
     ∙ ap (wrap w64) sum
-    ∙ wrap_is w64 (floor_div (wide_value lo hi) m) (divided_fits lo hi s h fl fh))
+    ∙ wrap_is w64 (floor_div (wide_value lo hi) m) (divided_fits lo hi s h fl fh)
 
 -- ---- the clamp of std is the definition's, and what it leaves fits a word
 

@@ -26,9 +26,11 @@ fn held_to(clamp: Wrap, x: i32) -> i32
 
 impl Filter for ClampWrap {
     type Input = i32;
+
     type Output = i32;
 
     ghost gives = { clamp_out };
+
     ghost after = { clamp_next };
 
     // Takes the input x: the wrap since the last input joins the clamp, which picks the output.

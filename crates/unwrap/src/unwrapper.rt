@@ -4,7 +4,7 @@ ghost use Rattle.blocks.specs.Blocks.{Blocked};
 ghost use Rattle.unwrap.specs.Phases.{step_of, grown, turns_of, phase_of};
 
 use blocks::{Filter, Refusal};
-use words::casts::{i64_as_i32, i64_high};
+use words::casts::i64_as_i32;
 
 #[derive(Clone, Copy, Debug, PartialEq, Eq)]
 pub struct Unwrapper {
@@ -14,12 +14,15 @@ pub struct Unwrapper {
 
 impl Filter for Unwrapper {
     type Input = i32;
+
     type Output = i32;
 
     ghost gives = { step_of };
+
     ghost after = { grown };
 
     // Feeds the sample x: gives the wrapped difference to the last one, and grows by it.
+    #[tactic(auto, using(words::proofs::Std::signed))]
     fn process(&mut self, x: i32) -> i32 {
         let dx = x.wrapping_sub(self.phase());
         self.y = self.y.wrapping_add(i64::from(dx));
@@ -29,10 +32,11 @@ impl Filter for Unwrapper {
 
 impl Unwrapper {
     // The current number of turns, modulo 2^32.
+    #[tactic(auto, using(words::proofs::Std::signed, crate::proofs::Counting::one_more_law, crate::proofs::Counting::as_it_is))]
     pub fn wraps(self) -> i32
         ensures { result ≡ turns_of self.y }
     {
-        let high = i64_high(self.y);
+        let high = (self.y >> 32) as i32;
         if self.phase() < 0 {
             return high.wrapping_add(1);
         }

@@ -31,6 +31,7 @@ pub struct Difference {
 }
 
 // y - x modulo 2^32, and the sign of what the wrap added.
+#[tactic(auto, using(crate::proofs::Turning::classified))]
 pub fn overflowing_sub(y: i32, x: i32) -> Difference
     ensures { result ≡ difference_of y x }
 {
