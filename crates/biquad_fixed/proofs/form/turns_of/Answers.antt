@@ -1,7 +1,7 @@
 -- The steps of the state beside its coefficients are the state's.
 use Rattle.std.proofs.Common.{refl, ◌∙◌, ℤ}
 use Rattle.biquad_fixed.specs.declared.form.Accepted.{Accepted}
-use Rattle.biquad_fixed.proofs.Carried.{carried_ends, carried_scan}
+use Rattle.blocks.proofs.Carried.{carried_ends, carried_scan}
 use Rattle.biquad_fixed.proofs.form.turns_of.Goals as goal
 
 pub returns : goal.returns
