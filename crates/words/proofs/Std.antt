@@ -1,7 +1,7 @@
 -- What the standard library's methods give, in the words of specs/Words. A caller names one of the rulesets below, and mostly
 -- needs no proof file: `#[tactic(auto, using(words::proofs::Std::signed))]` for `wrapping_add`, `wrapping_sub`, `wrapping_mul` and `<<`
 -- at i32 and i64, `unsigned` for these at u32 and u64, `casts` for `cast_signed` and `cast_unsigned`.
-use Rattle.std.proofs.Common.{◌≡◌, ℕ, ◌+◌, ◌-◌, ◌*◌, ◌%◌, ◌^◌, ℤ, pos, ◌+ℤ◌, ◌-ℤ◌, ◌*ℤ◌, Fits, SFits, to_z, of_z, refl, ap, sym, ◌∙◌}
+use Rattle.std.proofs.Common.{◌≡◌, ℕ, ◌+◌, ◌-◌, ◌*◌, ◌%◌, ◌^◌, ℤ, pos, ◌+ℤ◌, ◌-ℤ◌, ◌*ℤ◌, Fits, SFits, to_z, of_z, refl, ap, sym, arith, ◌∙◌}
 use Rattle.std.specs.Int.{Width, w32, w64, cast_unsigned}
 use mir.Val.{bits}
 use mir.ValLaws.{to_z-of_z, of_z-to_z, to_z-Fits}
@@ -46,6 +46,12 @@ add_both w m n h k = ap (λ (p : ℕ). to_z w ((p + n) % 2 ^ bits w)) (sym (of_z
 pub sub_both : (w : Width) (m n : ℕ) → Fits w m → Fits w n → to_z w ((m + (2 ^ bits w - n)) % 2 ^ bits w) ≡ wrap w (to_z w m -ℤ to_z w n)
 sub_both w m n h k = ap (λ (p : ℕ). to_z w ((p + (2 ^ bits w - n)) % 2 ^ bits w)) (sym (of_z-to_z w m h)) ∙ sub_from w (to_z w m) n (to_z-Fits w m h) k
 
+pub rest_fits_32 : (n : ℕ) → Fits w32 (n % 4294967296)
+rest_fits_32 n = record { fits = omega arith }
+
+pub rest_fits_64 : (n : ℕ) → Fits w64 (n % 18446744073709551616)
+rest_fits_64 n = record { fits = omega arith }
+
 -- a shift to the left, by a number or by a numeral
 pub shl_bits : (w : Width) (a : ℤ) (n : ℕ) → SFits w a → to_z w (of_z w a * n % 2 ^ bits w) ≡ wrap w (a *ℤ pos n)
 unfolding wrap word
@@ -86,4 +92,4 @@ pub ruleset unsigned = (word_of_32, word_of_64, sub_word_32, sub_word_64, low_wo
 
 pub ruleset casts = (cast_unsigned_word, wrap_pos, to_z-of_z, wrap_is, word_is, low_word, wrap_low, word_of_32, word_of_64)
 
-pub ruleset signed = (to_z-of_z, add_bits, sub_bits, mul_bits, add_onto, add_from, sub_onto, sub_from, add_both, sub_both, shl_bits, wrap_left, wrap_right, wrap-add, wrap-sub)
+pub ruleset signed = (to_z-of_z, add_bits, sub_bits, mul_bits, add_onto, add_from, sub_onto, sub_from, add_both, sub_both, rest_fits_32, rest_fits_64, shl_bits, wrap_left, wrap_right, wrap-add, wrap-sub)
