@@ -25,7 +25,7 @@ pub kept : {A : Type 0} (k : ℕ) (a b : A) → (k ≡ 0 → ⊥) → a ≡ unle
 kept k a b h = rw (ne_eqb k 0 h)
 
 -- what is refused has a number
-never : {V : Type 0} (k : ℕ) (v : V) (r : Refusal) → ◌≡◌ {A = Result V Refusal} (Err r) (answer k v) → k ≡ 0 → ⊥
+pub never : {V : Type 0} (k : ℕ) (v : V) (r : Refusal) → ◌≡◌ {A = Result V Refusal} (Err r) (answer k v) → k ≡ 0 → ⊥
 unfolding answer
 never k v r e z = search (rules, e, z)
 
