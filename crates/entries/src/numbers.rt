@@ -38,8 +38,8 @@ fn wdf_number(version: Version, sections: usize, architecture: u32) -> u32
     ensures { result ≡ wdf_number version sections architecture }
 {
     match version {
-        Version::One => refusal(sections, architecture),
-        Version::Two => new_refusal(sections, architecture),
+        Version::One => number_of(refusal(sections, architecture)),
+        Version::Two => number_of(new_refusal(sections, architecture)),
     }
 }
 
