@@ -1,13 +1,11 @@
 -- What a header's bytes tell, and the ways in which a header call ends: each test that fails makes `is_header` false.
 use native.Mathlib.Omega.{arith}
-use native.Mathlib.Nat.{add-zero}
 use mathlib.Core.Path.{◌≡◌, refl, sym, ap, ◌∙◌}
 use mathlib.Core.Bool.{Bool, true, false, not, cond, ◌&&◌}
 use mathlib.Core.List.{List, [], ◌∷◌, ◌++◌}
-use Prim.Native.Nat.{ℕ, suc, ◌+◌, ◌-◌, ◌*◌, ◌%◌, ◌≤◌, ◌<◌}
+use Prim.Native.Nat.{ℕ, ◌+◌, ◌-◌, ◌*◌, ◌%◌, ◌≤◌, ◌<◌}
 use lib.Dec.{leb, eqb}
-use lib.ListN.{length, take, drop, get_or, length-take}
-use lib.Seq.{drop-cons}
+use lib.ListN.{length, take, drop, length-take}
 use lib.Pointwise.{pointwise}
 use Rattle.std.specs.Array.{IsFirstChunk}
 use Rattle.std.proofs.lemmas.List.{drop-take, take-take}
@@ -33,16 +31,6 @@ fours e f g h i = cc
 -- a number's bytes as the library's method gives them
 pub le_bytes : (n : ℕ) → to_le_bytes w32 n ≡ little 4 n
 le_bytes n = fours refl refl (omega arith) (omega arith) refl
-
-pub four_at : (s : List ℕ) (at : ℕ) → at + 4 ≤ length s
-    → little_in (take 4 (drop at s)) ≡ get_or s at 0 + 256 * (get_or s (at + 1) 0 + 256 * (get_or s (at + 2) 0 + 256 * get_or s (at + 3) 0))
-four_at s at h =
-    let a : at + 1 ≡ suc at = omega arith in
-    let b : at + 2 ≡ suc (suc at) = omega arith in
-    let c : at + 3 ≡ suc (suc (suc at)) = omega arith in
-    let on : (k : ℕ) → k < length s → drop k s ≡ get_or s k 0 ∷ drop (suc k) s = λ k. drop-cons s k 0 in
-    let d = on (suc (suc (suc at))) (omega arith) in
-    rw (a, b, c, on at (omega arith), on (suc at) (omega arith), on (suc (suc at)) (omega arith), d, add-zero)
 
 -- four bytes of a file's first 44, where they are looked for in these alone
 pub four_in : (h bs : List ℕ) (at : ℕ) → IsFirstChunk bs h 44 → at + 4 ≤ 44 → take 4 (drop at h) ≡ take 4 (drop at bs)
