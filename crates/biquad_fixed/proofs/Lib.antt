@@ -4,4 +4,3 @@ pub mod Numbers
 pub mod Shifts
 pub mod Opening
 pub mod Figures
-pub mod Carried

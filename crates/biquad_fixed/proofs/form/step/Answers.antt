@@ -5,7 +5,7 @@ use mir.ValLaws.{to_z-of_z}
 use Rattle.words.proofs.Reading.{read}
 use Rattle.blocks.proofs.Refusals.{accepted, refused_too, taken_number}
 use Rattle.blocks.proofs.Ways.{kept}
-use Rattle.biquad_fixed.proofs.Carried.{numbered}
+use Rattle.blocks.proofs.Ways.{never}
 use Rattle.biquad_fixed.proofs.form.step.Goals as goal
 
 pub returns-in_err-accepts-clause-answers : goal.returns-in_err-accepts-clause-answers
@@ -14,7 +14,7 @@ returns-in_err-accepts-clause-answers g c =
     rw (p.1, p.2) (refused_too (g.S.Form.number c.args.c) tt _ _ c.in_err-accepts.ensures)
 
 pub returns-in_err-accepts-clause-leaves : goal.returns-in_err-accepts-clause-leaves
-returns-in_err-accepts-clause-leaves g c = kept (g.S.Form.number c.args.c) _ _ (numbered _ tt _ c.in_err-accepts.ensures)
+returns-in_err-accepts-clause-leaves g c = kept (g.S.Form.number c.args.c) _ _ (never _ tt _ c.in_err-accepts.ensures)
 
 pub turn-requires : goal.turn-requires
 turn-requires g c = taken_number (g.S.Form.number c.args.c) tt _ c.in_ok-accepts.ensures

@@ -7,7 +7,7 @@ use Rattle.blocks.specs.Refusals.{answer}
 use Rattle.blocks.proofs.Refusals.{taken_number}
 use Rattle.blocks.proofs.Ways.{kept}
 use Rattle.biquad_fixed.specs.Answers.{fraction_number}
-use Rattle.biquad_fixed.proofs.Carried.{numbered}
+use Rattle.blocks.proofs.Ways.{never}
 use Rattle.biquad_fixed.proofs.Wraps.{tested_lt}
 use Rattle.biquad_fixed.proofs.coefficients.BiquadClamp.refusal.Goals as goal
 
@@ -15,7 +15,7 @@ pub returns-in_err-fraction : goal.returns-in_err-fraction
 returns-in_err-fraction c =
     let p = err_from_is_err_and c.from_residual.result c.from_residual.ensures.1 in
     let a = c.args in let n = fraction_number a.least a.self.coeff in let e = c.in_err-fraction.ensures in
-    rw (p.1, p.2) (e ∙ ap (λ (k : ℕ). answer k tt) (kept n n (cond (lt_z a.self.max a.self.min) 41 0) (numbered n tt _ e)))
+    rw (p.1, p.2) (e ∙ ap (λ (k : ℕ). answer k tt) (kept n n (cond (lt_z a.self.max a.self.min) 41 0) (never n tt _ e)))
 
 pub returns-then-self : goal.returns-then-self
 unfolding R.answer R.refusal_at
