@@ -1,5 +1,5 @@
 -- The fresh filters that the exports start from, and the steps that they take one by one.
-use Rattle.std.specs.Prelude.{Bool, List, ℕ, ℤ, pos, replicate, Float}
+use Rattle.std.specs.Prelude.{Bool, List, ℕ, ℤ, pos, replicate, Float, Result}
 use Rattle.blocks.specs.Scan.{scan}
 use Rattle.blocks.specs.Blocks.{lengths_number, unless}
 use Rattle.sums.specs.Counted.{new_counted}
@@ -22,7 +22,8 @@ use Rattle.biquad_fixed.specs.declared.dither.DirectForm1Dither.{DirectForm1Dith
 use Rattle.unwrap.specs.declared.clamp_wrap.ClampWrap.{ClampWrap}
 use Rattle.unwrap.specs.declared.unwrapper.Unwrapper.{Unwrapper}
 use Rattle.unwrap.specs.declared.wrapping.Wrap.TheVariants as Wrap
-use Rattle.unwrap.specs.declared.scale.Scaled.{Scaled}
+use Rattle.std.specs.Result.{result_unwrap_or}
+use Rattle.blocks.specs.declared.refusal.Refusal.{Refusal}
 use Rattle.unwrap.specs.Scales.{scaled_of}
 use Rattle.pll.specs.declared.PLL.{PLL}
 use Rattle.pll.specs.declared.PLLState.{PLLState}
@@ -86,9 +87,8 @@ zero_clamp = record { x0 = pos 0; clamp = Wrap.None }
 abbrev pub zero_unwrapper : Unwrapper
 zero_unwrapper = record { y = pos 0 }
 
-unfoldable pub value_in : Scaled → ℤ
-value_in (Scaled.Value y) = y
-value_in (Scaled.Refused k) = pos 0
+abbrev pub value_in : Result ℤ Refusal → ℤ
+value_in r = result_unwrap_or r (pos 0)
 
 abbrev pub scale_out : ℕ → ℤ → ℤ → ℤ
 scale_out shift hi lo = value_in (scaled_of lo hi shift)

@@ -1,17 +1,14 @@
 // Numbers 50 to 65, and 31 of a loop: wave digital sections and coefficients, the reciprocal loop, and the scale.
-use crate::print::{refusal, row};
-use rpll::{Estimate, RPLL, RPLLConfig, Timestamp};
+use crate::print::{refusal, refused, row};
+use rpll::{RPLL, RPLLConfig};
 use std::io;
-use unwrap::scale::{Scaled, saturating_scale};
+use unwrap::scale::saturating_scale;
 use wdf::filter::Wdf;
 use wdf::quantize::Quantized;
 use wdf::tpa::Tpa;
 
 fn scale(shift: u32) -> u32 {
-    match saturating_scale(0, 1, shift) {
-        Scaled::Value(_) => 0,
-        Scaled::Refused(n) => n,
-    }
+    refused(saturating_scale(0, 1, shift))
 }
 
 fn sections(count: usize, architecture: u32) -> u32 {
@@ -33,24 +30,22 @@ fn coefficient(code: Tpa, g: f64) -> u32 {
     }
 }
 
+fn zero() -> RPLL {
+    RPLL {
+        x: 0,
+        ff: 0,
+        f: 0,
+        y: 0,
+    }
+}
+
 fn loops(dt2: u8, shift_frequency: u8, shift_phase: u8) -> u32 {
     let config = RPLLConfig {
         dt2,
         shift_frequency,
         shift_phase,
     };
-    let state = RPLL {
-        x: 0,
-        ff: 0,
-        f: 0,
-        y: 0,
-    };
-    let done = config.process(state, Timestamp::Missing);
-    let estimate = done.estimate;
-    match estimate {
-        Estimate::Given(_, _) => 0,
-        Estimate::Refused(n) => n,
-    }
+    refused(config.process(&mut zero(), None))
 }
 
 fn loop_block(there: &[bool], xs: &[i32], ys: &mut [i32], fs: &mut [i32]) -> u32 {
@@ -59,15 +54,7 @@ fn loop_block(there: &[bool], xs: &[i32], ys: &mut [i32], fs: &mut [i32]) -> u32
         shift_frequency: 9,
         shift_phase: 8,
     };
-    let state = RPLL {
-        x: 0,
-        ff: 0,
-        f: 0,
-        y: 0,
-    };
-    let done = config.block(state, there, xs, ys, fs);
-    let verdict = done.verdict;
-    refusal(verdict)
+    refused(config.block(&mut zero(), there, xs, ys, fs))
 }
 
 pub(crate) fn print_block(rt: &impl Print) -> io::Result<()> {
