@@ -3,21 +3,15 @@ use mathlib.Core.Path.{◌≡◌}
 use mathlib.Core.List.{List}
 use Prim.Native.Nat.{ℕ}
 use lib.IntN.{ℤ}
-use borrow.Author.Rules.{rules}
 use Rattle.std.specs.Prelude.{Result, Ok, Err}
 use Rattle.blocks.specs.declared.refusal.Refusal.{Refusal}
 use Rattle.blocks.specs.Refusals.{answer}
 use Rattle.blocks.proofs.Refusals.{refused_too}
-use Rattle.blocks.proofs.Ways.{kept}
+use Rattle.blocks.proofs.Ways.{kept, never}
 use Rattle.dsm.specs.declared.Dsm.{Dsm}
 use Rattle.dsm.specs.Calls.{state_number, run_number, Steps, Runs}
 use Rattle.dsm.specs.Cells.{Turns, Modulates}
 use Rattle.dsm.proofs.Running.{keeps_same}
-
--- what is refused has a number
-pub never : {V : Type 0} (k : ℕ) (v : V) (r : Refusal) → ◌≡◌ {A = Result V Refusal} (Err r) (answer k v) → k ≡ 0 → ⊥
-unfolding answer
-never k v r e z = search (rules, e, z)
 
 module _ {V : Type 0} (k : ℕ) (v : V) (r : Refusal) (e : ◌≡◌ {A = Result V Refusal} (Err r) (answer k v)) where
   pub step-refused : (s : Dsm) (x : ℕ) → state_number s ≡ k → Steps s x s (Err r)

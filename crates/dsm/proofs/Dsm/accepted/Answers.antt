@@ -2,7 +2,7 @@ use Rattle.std.proofs.lemmas.Result.{err_from_is_err_and}
 use Rattle.blocks.proofs.Refusals.{taken_number}
 use Rattle.dsm.specs.Calls.{order_number}
 use Rattle.dsm.proofs.Refusals.{order-none, order_first, then_cells}
-use Rattle.dsm.proofs.Ways.{never}
+use Rattle.blocks.proofs.Ways.{never}
 use Rattle.dsm.proofs.Dsm.accepted.Goals as goal
 
 pub returns-in_err-order_fits : goal.returns-in_err-order_fits

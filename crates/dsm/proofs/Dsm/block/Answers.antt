@@ -6,7 +6,8 @@ use Rattle.blocks.specs.Refusals.{answer, refusal_at}
 use Rattle.blocks.proofs.Refusals.{taken_number}
 use Rattle.dsm.specs.Calls.{order_number, cells_number}
 use Rattle.dsm.proofs.Refusals.{order-none, then_cells, block_order, block_unlike, block_cells}
-use Rattle.dsm.proofs.Ways.{never, block_refused, block_done}
+use Rattle.blocks.proofs.Ways.{never}
+use Rattle.dsm.proofs.Ways.{block_refused, block_done}
 use Rattle.dsm.proofs.Dsm.block.Goals as goal
 
 pub returns-in_err-order_fits : goal.returns-in_err-order_fits
