@@ -4,8 +4,7 @@ use Rattle.std.proofs.lemmas.Result.{err_from_is_err_and}
 use mir.ValLaws.{to_z-of_z}
 use Rattle.words.proofs.Reading.{read}
 use Rattle.blocks.proofs.Refusals.{accepted, refused_too, taken_number}
-use Rattle.blocks.proofs.Ways.{kept}
-use Rattle.blocks.proofs.Ways.{never}
+use Rattle.blocks.proofs.Ways.{kept, never}
 use Rattle.biquad_fixed.proofs.form.step.Goals as goal
 
 pub returns-in_err-accepts-clause-answers : goal.returns-in_err-accepts-clause-answers

@@ -5,9 +5,8 @@ use lib.Signed.{lt_z}
 use Rattle.blocks.specs.Refusals as R
 use Rattle.blocks.specs.Refusals.{answer}
 use Rattle.blocks.proofs.Refusals.{taken_number}
-use Rattle.blocks.proofs.Ways.{kept}
+use Rattle.blocks.proofs.Ways.{kept, never}
 use Rattle.biquad_fixed.specs.Answers.{fraction_number}
-use Rattle.blocks.proofs.Ways.{never}
 use Rattle.biquad_fixed.proofs.Wraps.{tested_lt}
 use Rattle.biquad_fixed.proofs.coefficients.BiquadClamp.refusal.Goals as goal
 
