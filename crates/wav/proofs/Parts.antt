@@ -6,7 +6,7 @@ use mathlib.Core.Bool.{Bool, true, false, ◌&&◌}
 use mathlib.Core.List.{List, [], ◌∷◌, ◌++◌}
 use Prim.Native.Nat.{ℕ, zero, suc, ◌+◌, ◌*◌, ◌/◌, ◌%◌, ◌≤◌, ◌<◌}
 use lib.IntN.{ℤ, pos, negsuc}
-use lib.ListN.{length, take, drop, get_or, set}
+use lib.ListN.{length, take, drop, get_or, set, length-append, length-drop}
 use lib.Seq.{take-suc, take_all, length-take-le, paste, paste-suc}
 use borrow.Author.Tests.{leb-true}
 use mir.Syntax.{w16}
@@ -15,6 +15,9 @@ use Rattle.std.specs.Simd.{first_chunks}
 use Rattle.words.specs.Words.{word}
 use Rattle.text.specs.Writing.{overlaid}
 use Rattle.text.proofs.Putting.{put-put, put_one, length-put}
+use Rattle.std.specs.Result.{result_unwrap_or}
+use Rattle.blocks.specs.Refusals.{answer}
+use Rattle.blocks.specs.Blocks.{unless}
 use Rattle.wav.specs.Bytes.{little}
 use Rattle.wav.proofs.Headers.{put_front}
 use Rattle.wav.specs.Samples.{data_of, sample_in, samples_of, in_i16, all_in_i16}
@@ -130,3 +133,11 @@ read_done o bs i h =
     let z : 0 + length bs / 2 ≡ length bs / 2 = omega arith in
     let t = take_all (length bs / 2) (samples_of bs) (omega (arith, samples-length bs)) in
     rw (h, z, t)
+
+-- a count is within the slice that was lent, since that keeps its length
+pub count_within : {A : Type 0} (k n : ℕ) (front old new : List A) → length front ≡ n → new ≡ unless k old (front ++ drop n old)
+    → length new ≡ length old → result_unwrap_or (answer k n) 0 ≤ length new
+unfolding answer
+count_within zero n front old new f e l =
+    omega (arith, f, l, simp (length-append, length-drop) at (ap length e))
+count_within (suc k) n front old new f e l = omega arith
