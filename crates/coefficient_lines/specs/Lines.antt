@@ -7,7 +7,8 @@ use Rattle.text.specs.Numbers.{decimal_of, signed_of}
 use Rattle.text.specs.Hex.{pattern_of}
 use Rattle.text.specs.Parts.{before}
 use Rattle.text.specs.Same.{same}
-use Rattle.text.specs.declared.hex.Pattern.{Pattern}
+use Rattle.std.specs.Prelude as std
+use Rattle.std.specs.Prelude.{Some, None}
 use Rattle.adapters.specs.Quantize.{quantized}
 use Rattle.adapters.specs.declared.tpa.Tpa.TheVariants.{Z, A, B, B1, X, C, C1, D}
 use Rattle.adapters.specs.declared.quantize.Quantized.{Quantized}
@@ -43,9 +44,9 @@ abbrev pub cut_number : ℕ
 cut_number = 77
 
 -- the bits for the adapter and the pole, where both can be read
-abbrev pub pole_bits : Adapter → Pattern → Quantized
-pole_bits (Named code) (Pattern.Bits g) = quantized code (of_bits binary64 g)
-pole_bits (Named code) Pattern.Wrong = Refused digits_number
+abbrev pub pole_bits : Adapter → std.Option ℕ → Quantized
+pole_bits (Named code) (Some g) = quantized code (of_bits binary64 g)
+pole_bits (Named code) None = Refused digits_number
 pole_bits Unknown digits = Refused name_number
 
 -- the name ends at the first tab, and the digits are all that follows it
