@@ -41,15 +41,15 @@ fn word_of(field: &[u8], least: u64, most: u64) -> Option<u32>
     ensures { result ≡ word_by (number_in (range least most) field.now) }
 {
     match parsed(field) {
-        Number::Plus(v) => { if v <= most { Some(v as u32) } else { None } }
-        Number::Minus(v) => {
+        Some(Number::Plus(v)) => { if v <= most { Some(v as u32) } else { None } }
+        Some(Number::Minus(v)) => {
             if v <= least {
                 Some((4294967296 - v) as u32)
             } else {
                 None
             }
         }
-        Number::Wrong => None,
+        None => None,
     }
 }
 
@@ -100,7 +100,10 @@ fn numbers_left(fields: Option<&[u8]>, least: u64, most: u64) -> Option<Numbers>
 fn nibble_of(b: u8) -> u32
     ensures { result ≡ hex_digit b }
 {
-    hex_digit(b) as u32
+    match hex_digit(b) {
+        Some(d) => d as u32,
+        None => 16,
+    }
 }
 
 // The word of k nibbles, the first one lowest.
