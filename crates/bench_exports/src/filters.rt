@@ -38,9 +38,8 @@ pub extern "C" fn bench_wdf(sections: usize, architecture: u32, a: i32, xs: &[i3
     ensures { ys.new ≡ block_left (number (alike_wdf sections architecture a)) answer next (alike_wdf sections architecture a)
         xs.now ys.old }
 {
-    let made = Wdf::from_form1(sections, architecture, [a; 8]);
-    let filter = made.state;
-    filter.block(xs, ys);
+    let mut filter = Wdf::from_form1(sections, architecture, [a; 8]).unwrap_or(Wdf::EMPTY);
+    let _ran = filter.block(xs, ys);
 }
 
 // Blocks of the biquads, from a state of zeros.
