@@ -14,7 +14,7 @@ use Rattle.cic64.specs.declared.state.Cic as Wide
 use Rattle.dsm.specs.declared.Dsm.{Dsm}
 use Rattle.dsm.specs.Calls.{order_number, zeros_of}
 use Rattle.wdf.specs.declared.filter.Wdf.{Wdf}
-use Rattle.wdf.specs.Calls.{made_form1}
+use Rattle.wdf.specs.Calls.{sections_number, none, filter}
 use Rattle.biquad.specs.declared.biquad.Biquad.{Biquad}
 use Rattle.biquad.specs.declared.biquad_clamp.BiquadClamp.{BiquadClamp}
 use Rattle.biquad_fixed.specs.declared.coefficients.Biquad as Fixed
@@ -66,7 +66,8 @@ fresh_dsm order = unless (order_number order) (zeros_of 0) (zeros_of order)
 
 -- Sections and biquads.
 abbrev pub alike_wdf : ℕ → ℕ → ℤ → Wdf
-alike_wdf sections architecture a = (made_form1 sections architecture (replicate 8 a)).state
+alike_wdf sections architecture a =
+    unless (sections_number sections architecture) none (filter sections architecture (replicate 8 a) (replicate 8 (pos 0)))
 
 abbrev pub float_biquad : Float → Float → Float → Float → Float → Biquad
 float_biquad b0 b1 b2 a1 a2 = record { b0 = b0; b1 = b1; b2 = b2; a1 = a1; a2 = a2 }

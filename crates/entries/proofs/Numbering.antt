@@ -4,7 +4,7 @@ use native.Mathlib.Nat.{pow-le-pow_right}
 use mathlib.Core.Path.{◌≡◌, refl, ap}
 use mathlib.Core.Bool.{Bool, true, false, cond, ◌&&◌, ◌||◌}
 use mathlib.Core.List.{List, [], ◌∷◌, map}
-use Prim.Native.Nat.{ℕ, zero, suc, ◌*◌, ◌/◌, ◌%◌, ◌^◌, ◌≤◌, ◌<◌}
+use Prim.Native.Nat.{ℕ, zero, suc, ◌*◌, ◌%◌, ◌^◌, ◌≤◌, ◌<◌}
 use lib.Dec.{ltb, eqb}
 use lib.IntN.{ℤ, pos, negsuc}
 use lib.ListN.{length, get_or}
@@ -98,7 +98,7 @@ pub number-kept : (v : Version) (k : ℕ) (last : List ℕ) (s : Setting) → fi
 unfolding number_for record_number form_of
 number-kept v k last s h g = rw (entry-name s, kind_kept v s h g)
 
--- the last of the numbers that refuse a new `cic`, and a `wdf`
+-- the last of the numbers that refuse a new `cic`
 pub rate_left : (n m r : ℕ) → (new_number n m r ≡ 0 → ⊥) → (new_number n m r ≡ 10 → ⊥) → (new_number n m r ≡ 11 → ⊥) → new_number n m r ≡ 12
 unfolding refusal_of
 rate_left n m r h i j = by (ltb 8 n) (eqb m 0 || ltb 8 m) (ltb 65535 r) (ltb (n * m) 0) refl h i j
@@ -111,30 +111,6 @@ rate_left n m r h i j = by (ltb 8 n) (eqb m 0 || ltb 8 m) (ltb 65535 r) (ltb (n 
     by false false true u f h i j = refl
     by false false false false f h i j = absurd (h refl)
     by false false false true f h i j = absurd (let z = ltb-true (n * m) 0 f in omega arith)
-
-module _ (k arch : ℕ) where
-  sections_left : (sections_number k arch ≡ 0 → ⊥) → (sections_number k arch ≡ 50 → ⊥) → (sections_number k arch ≡ 51 → ⊥) → ⊥
-  unfolding sections_number
-  sections_left h i j = by (ltb 8 k) (eqb (arch / 16 ^ k) 0) h i j
-    where
-      by : (a b : Bool) → (cond {A = ℕ} a 50 (cond b 0 51) ≡ 0 → ⊥) → (cond {A = ℕ} a 50 (cond b 0 51) ≡ 50 → ⊥)
-          → (cond {A = ℕ} a 50 (cond b 0 51) ≡ 51 → ⊥) → ⊥
-      by true b h i j = i refl
-      by false true h i j = h refl
-      by false false h i j = j refl
-
-  pub retired_left : (v : Version) → (wdf_number v k arch ≡ 0 → ⊥) → (wdf_number v k arch ≡ 50 → ⊥) → (wdf_number v k arch ≡ 51 → ⊥)
-      → wdf_number v k arch ≡ 53
-  unfolding wdf.new_number
-  retired_left One h i j = absurd (sections_left h i j)
-  retired_left Two h i j = by (eqb (sections_number k arch) 0) refl (holds_retired k arch) h i j
-    where
-      by : (t : Bool) → eqb (sections_number k arch) 0 ≡ t → (u : Bool) → (cond t (cond u 53 0) (sections_number k arch) ≡ 0 → ⊥)
-          → (cond t (cond u 53 0) (sections_number k arch) ≡ 50 → ⊥) → (cond t (cond u 53 0) (sections_number k arch) ≡ 51 → ⊥)
-          → cond t (cond u 53 0) (sections_number k arch) ≡ 53
-      by true e true h i j = refl
-      by true e false h i j = absurd (h refl)
-      by false e u h i j = absurd (sections_left h i j)
 
 -- an answer by the first number that isn't 0
 module _ (k j : ℕ) where

@@ -58,31 +58,14 @@ fn check_cic(version: Version, order: u32, delay: u32, rate: u32) -> Result<(), 
     }
 }
 
-fn wdf_number(version: Version, sections: usize, architecture: u32) -> u32
-    ensures { result ≡ wdf_number version sections architecture }
+// What `Wdf::from_form1` is refused with; in form 2 what `Wdf::new` is, with 53 for B1 and C1.
+fn check_wdf(version: Version, sections: usize, architecture: u32) -> Result<(), Refusal>
+    ensures { result ≡ answer (wdf_number version sections architecture) tt }
 {
     match version {
         Version::One => refusal(sections, architecture),
         Version::Two => new_refusal(sections, architecture),
     }
-}
-
-// What `Wdf::from_form1` is refused with; in form 2 what `Wdf::new` is, with 53 for B1 and C1.
-#[tactic(auto, using(crate::proofs::Numbering::retired_left), unfolding(blocks::specs::Refusals::answer, blocks::specs::Refusals::refusal_at))]
-fn check_wdf(version: Version, sections: usize, architecture: u32) -> Result<(), Refusal>
-    ensures { result ≡ answer (wdf_number version sections architecture) tt }
-{
-    let number = wdf_number(version, sections, architecture);
-    if number == 0 {
-        return Ok(());
-    }
-    if number == 50 {
-        return Err(Refusal::Sections);
-    }
-    if number == 51 {
-        return Err(Refusal::Adapters);
-    }
-    Err(Refusal::RetiredAdapter)
 }
 
 // Whether a `dither`'s lower limit is above its upper one.

@@ -1,10 +1,9 @@
 // Numbers 50 to 65, and 31 of a loop: wave digital sections and coefficients, the reciprocal loop, and the scale.
-use crate::print::{refusal, refused, row};
+use crate::print::{refused, row};
 use rpll::{RPLL, RPLLConfig};
 use std::io;
 use unwrap::scale::saturating_scale;
 use wdf::filter::Wdf;
-use wdf::quantize::Quantized;
 use wdf::tpa::Tpa;
 
 fn scale(shift: u32) -> u32 {
@@ -12,22 +11,15 @@ fn scale(shift: u32) -> u32 {
 }
 
 fn sections(count: usize, architecture: u32) -> u32 {
-    let made = Wdf::new(count, architecture, [0; 8]);
-    let verdict = made.verdict;
-    refusal(verdict)
+    refused(Wdf::new(count, architecture, [0; 8]))
 }
 
 fn sections_of_form1(count: usize, architecture: u32) -> u32 {
-    let made = Wdf::from_form1(count, architecture, [0; 8]);
-    let verdict = made.verdict;
-    refusal(verdict)
+    refused(Wdf::from_form1(count, architecture, [0; 8]))
 }
 
 fn coefficient(code: Tpa, g: f64) -> u32 {
-    match code.quantize(g) {
-        Quantized::Bits(_) => 0,
-        Quantized::Refused(n) => n,
-    }
+    refused(code.quantize(g))
 }
 
 fn zero() -> RPLL {

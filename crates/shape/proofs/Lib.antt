@@ -1,4 +1,3 @@
 pub mod Ways
-pub mod Taking
 pub mod Blocks
 pub mod Places
