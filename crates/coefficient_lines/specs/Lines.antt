@@ -7,8 +7,7 @@ use Rattle.text.specs.Numbers.{decimal_of, signed_of}
 use Rattle.text.specs.Hex.{pattern_of}
 use Rattle.text.specs.Parts.{before}
 use Rattle.text.specs.Same.{same}
-use Rattle.std.specs.Prelude as std
-use Rattle.std.specs.Prelude.{Some, None}
+use Rattle.std.specs.Prelude.{Option, Some, None}
 use Rattle.adapters.specs.Quantize.{quantized}
 use Rattle.adapters.specs.declared.tpa.Tpa.TheVariants.{Z, A, B, B1, X, C, C1, D}
 use Rattle.blocks.specs.declared.refusal.Refusal.{Refusal}

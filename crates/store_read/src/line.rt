@@ -40,16 +40,15 @@ fn word_of(field: &[u8], least: u64, most: u64) -> Option<u32>
     requires { (least ≤ 2147483648) × (most ≤ 4294967295) }
     ensures { result ≡ word_by (number_in (range least most) field.now) }
 {
-    match parsed(field) {
-        Some(Number::Plus(v)) => { if v <= most { Some(v as u32) } else { None } }
-        Some(Number::Minus(v)) => {
+    match parsed(field)? {
+        Number::Plus(v) => { if v <= most { Some(v as u32) } else { None } }
+        Number::Minus(v) => {
             if v <= least {
                 Some((4294967296 - v) as u32)
             } else {
                 None
             }
         }
-        None => None,
     }
 }
 
