@@ -61,6 +61,15 @@ module _ (w : Width) where
       rep_to (2 ^ bits w) full (neg_ℤ a) (2 ^ bits w - word w a)
       (rep_neg (2 ^ bits w) full a (word w a) (2 ^ bits w - word w a) (rep_mod (2 ^ bits w) full a) (is e then multiple (2 ^ bits w) 1 0))
 
+  pub word_sub : (a b : ℤ) → (word w a + (2 ^ bits w - word w b)) % 2 ^ bits w ≡ word w (a -ℤ b)
+  unfolding word
+  word_sub a b =
+      let h : word w b < 2 ^ bits w = (word_fits w b).fits in
+      let e : 2 ^ bits w - word w b + word w b ≡ 1 * 2 ^ bits w + 0 = omega arith in
+      rep_to (2 ^ bits w) full (a -ℤ b) (word w a + (2 ^ bits w - word w b))
+      (rep_add (2 ^ bits w) full a (neg_ℤ b) (word w a) (2 ^ bits w - word w b) (rep_mod (2 ^ bits w) full a)
+      (rep_neg (2 ^ bits w) full b (word w b) (2 ^ bits w - word w b) (rep_mod (2 ^ bits w) full b) (is e then multiple (2 ^ bits w) 1 0)))
+
   -- r is the word of a - b where b brings it to a
   pub word-minus : (a b r : ℕ) → r < 2 ^ bits w → (r + b) % 2 ^ bits w ≡ a % 2 ^ bits w → r ≡ word w (pos a -ℤ pos b)
   unfolding word

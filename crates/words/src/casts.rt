@@ -1,4 +1,6 @@
 // Rust's `as` between integers: the number modulo 2^w, read as the type that is asked for.
+#![tactic(auto, using(crate::proofs::Std::casts))]
+
 ghost use Rattle.std.specs.Prelude.{◌≡◌, ◌^◌, pos};
 ghost use Rattle.std.specs.Int.{w32, w64};
 ghost use Rattle.words.specs.Words.{word, wrap, floor_div};
@@ -7,57 +9,49 @@ ghost use Rattle.words.specs.Words.{word, wrap, floor_div};
 pub fn i32_as_u32(x: i32) -> u32
     ensures { result ≡ word w32 x }
 {
-    if x < 0 { !((!x) as u32) } else { x as u32 }
+    x.cast_unsigned()
 }
 
 // The bits of x.
 pub fn i64_as_u64(x: i64) -> u64
     ensures { result ≡ word w64 x }
 {
-    if x < 0 { !((!x) as u64) } else { x as u64 }
+    x.cast_unsigned()
 }
 
 // The bits u, read as signed.
 pub fn u32_as_i32(u: u32) -> i32
     ensures { result ≡ wrap w32 (pos u) }
 {
-    if u < 0x8000_0000 {
-        u as i32
-    } else {
-        !((!u) as i32)
-    }
+    u.cast_signed()
 }
 
 // The bits u, read as signed.
 pub fn u64_as_i64(u: u64) -> i64
     ensures { result ≡ wrap w64 (pos u) }
 {
-    if u < 0x8000_0000_0000_0000 {
-        u as i64
-    } else {
-        !((!u) as i64)
-    }
+    u.cast_signed()
 }
 
 // The same number, with room for more.
 pub fn i32_as_i64(x: i32) -> i64
     ensures { result ≡ x }
 {
-    x as i64
+    i64::from(x)
 }
 
 // The same number, with room for a sign.
 pub fn u32_as_i64(u: u32) -> i64
     ensures { result ≡ pos u }
 {
-    u as i64
+    i64::from(u)
 }
 
 // The bits of x, its sign copied into the upper half.
 pub fn i32_as_u64(x: i32) -> u64
     ensures { result ≡ word w64 x }
 {
-    i64_as_u64(i32_as_i64(x))
+    i64::from(x).cast_unsigned()
 }
 
 // The low word.
@@ -71,14 +65,14 @@ pub fn u64_as_u32(u: u64) -> u32
 pub fn i64_as_u32(x: i64) -> u32
     ensures { result ≡ word w32 x }
 {
-    u64_as_u32(i64_as_u64(x))
+    (x.cast_unsigned() % 0x1_0000_0000) as u32
 }
 
 // The low word, read as signed.
 pub fn i64_as_i32(x: i64) -> i32
     ensures { result ≡ wrap w32 x }
 {
-    u32_as_i32(i64_as_u32(x))
+    ((x.cast_unsigned() % 0x1_0000_0000) as u32).cast_signed()
 }
 
 // The high word, read as signed: `(x >> 32) as i32`.

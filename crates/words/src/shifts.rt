@@ -1,5 +1,7 @@
 // Shifts, by k modulo the width as the machine has it. To the right a number is divided and rounded down;
 // to the left it is multiplied modulo 2^w.
+#![tactic(auto, using(crate::proofs::Std::signed, crate::proofs::Std::unsigned))]
+
 ghost use Rattle.std.specs.Prelude.{◌≡◌, ◌/◌, ◌%◌, ◌^◌, pos, ◌*ℤ◌};
 ghost use Rattle.std.specs.Int.{w32, w64};
 ghost use Rattle.words.specs.Words.{word, wrap, floor_div};
