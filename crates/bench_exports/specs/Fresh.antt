@@ -11,6 +11,8 @@ use Rattle.lent.specs.declared.steps.Out.{Out}
 use Rattle.cic64.specs.Word as Word64
 use Rattle.cic64.specs.Reading as Reading64
 use Rattle.cic64.specs.declared.state.Cic as Wide
+use Rattle.dsm.specs.declared.Dsm.{Dsm}
+use Rattle.dsm.specs.Calls.{order_number, zeros_of}
 use Rattle.wdf.specs.declared.filter.Wdf.{Wdf}
 use Rattle.wdf.specs.Calls.{made_form1}
 use Rattle.biquad.specs.declared.biquad.Biquad.{Biquad}
@@ -56,6 +58,10 @@ step_out s x = given_in (stepped_of s x).out
 
 abbrev pub step_next : Cic → ℤ → Cic
 step_next s x = (stepped_of s x).state
+
+-- The modulator, which an order above 8 makes as 0 does.
+abbrev pub fresh_dsm : ℕ → Dsm
+fresh_dsm order = unless (order_number order) (zeros_of 0) (zeros_of order)
 
 -- Sections and biquads.
 abbrev pub alike_wdf : ℕ → ℕ → ℤ → Wdf
