@@ -1,3 +1,4 @@
 pub mod Ways
+pub mod Known
 pub mod Blocks
 pub mod Places

@@ -9,6 +9,9 @@ use crate::powers::{power, power_of_two, shift};
 use crate::runs::low_rate;
 use blocks::Refusal;
 
+// The greatest gain that is told, 2^63 - 1.
+const MOST: u64 = 9223372036854775807;
+
 // Whether there are words of this width.
 #[tactic(auto, unfolding(sums::specs::Calls::is_width))]
 fn is_width(width: u32) -> bool
@@ -30,7 +33,7 @@ impl Numbers {
         };
         settled.check()?;
         let gain = power(span(self.rate, self.delay as u32), self.order);
-        if 9223372036854775807 < gain {
+        if MOST < gain {
             return Err(Refusal::Gain);
         }
         self.check()?;

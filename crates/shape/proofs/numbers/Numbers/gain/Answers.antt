@@ -37,17 +37,17 @@ overflow_cast-self c = record { fits = omega (arith, (passing _ c.in_ok-check.en
 pub power-gain-requires : goal.power-gain-requires
 power-gain-requires c = let s = c.args.self in rw c.span.ensures (span_some s.rate s.delay (passing _ c.in_ok-check.ensures).some)
 
-pub returns-then-gain-gt9223372036854775807 : goal.returns-then-gain-gt9223372036854775807
+pub returns-then-gain-gt-MOST : goal.returns-then-gain-gt-MOST
 unfolding answer refusal_at
-returns-then-gain-gt9223372036854775807 c =
+returns-then-gain-gt-MOST c =
     rw (over c.args.self c.power-gain.result (taken_number _ tt tt c.in_ok-check.ensures) (rw c.span.ensures at c.power-gain.ensures)
-    c.if-gain-gt9223372036854775807.true)
+    c.if-gain-gt-MOST.true)
 
 pub returns-in_err-check-2 : goal.returns-in_err-check-2
 unfolding answer
 returns-in_err-check-2 c =
     rw (low c.args.self c.power-gain.result (taken_number _ tt tt c.in_ok-check.ensures) (rw c.span.ensures at c.power-gain.ensures)
-    c.if-gain-gt9223372036854775807.false) (search (rules, refused_too))
+    c.if-gain-gt-MOST.false) (search (rules, refused_too))
 
 pub returns : goal.returns
 unfolding gain_of
@@ -55,6 +55,6 @@ returns c =
     let s = c.args.self in
     let e = rw c.span.ensures at c.power-gain.ensures in
     let z = taken_number _ tt tt c.in_ok-check.ensures in
-    rw (low s c.power-gain.result z e c.if-gain-gt9223372036854775807.false)
-    (rw (capped_is _ c.power-gain.result power_cap (2 ^ 63 - 1) e (omega arith) c.if-gain-gt9223372036854775807.false)
+    rw (low s c.power-gain.result z e c.if-gain-gt-MOST.false)
+    (rw (capped_is _ c.power-gain.result power_cap (2 ^ 63 - 1) e (omega arith) c.if-gain-gt-MOST.false)
     (accepted _ _ (taken_number _ tt tt c.in_ok-check-2.ensures)))
