@@ -5,6 +5,7 @@ use Rattle.text.specs.Same.{same}
 use Rattle.text.specs.Numbers.{number_of, capped}
 use Rattle.text.specs.Parts.{count, end_of}
 use Rattle.text.specs.declared.numbers.Number.{Number}
+use Rattle.text.specs.declared.numbers.Number.TheVariants.{Plus, Minus}
 use Rattle.wav_lines.specs.declared.answers.Name.{Name}
 use Rattle.wav_lines.specs.declared.answers.Line.{Line}
 
@@ -16,21 +17,21 @@ abbrev pub next_from : List ℕ → ℕ → ℕ
 next_from l from = cond (ltb (end_of tab l from) (length l)) (end_of tab l from + 1) (length l)
 
 -- the number in it
-abbrev pub number_from : List ℕ → ℕ → Number
+abbrev pub number_from : List ℕ → ℕ → Option Number
 number_from l from = capped (number_of (field_from l from))
 
 -- from 0 to 2 ^ 63
-abbrev pub natural_in : Number → Option ℕ
-natural_in (Number.Plus v) = cond (leb v 9223372036854775808) (Some v) None
-natural_in (Number.Minus v) = None
-natural_in Number.Wrong = None
+abbrev pub natural_in : Option Number → Option ℕ
+natural_in (Some (Plus v)) = cond (leb v 9223372036854775808) (Some v) None
+natural_in (Some (Minus v)) = None
+natural_in None = None
 
 -- within i64; no number is minus 0
-abbrev pub integer_in : Number → Option ℤ
-integer_in (Number.Plus v) = cond (leb v 9223372036854775807) (Some (pos v)) None
-integer_in (Number.Minus v) =
+abbrev pub integer_in : Option Number → Option ℤ
+integer_in (Some (Plus v)) = cond (leb v 9223372036854775807) (Some (pos v)) None
+integer_in (Some (Minus v)) =
     cond (eqb v 0) None (cond (leb v 9223372036854775808) (Some (negsuc (v - 1))) None)
-integer_in Number.Wrong = None
+integer_in None = None
 
 abbrev pub given_natural : Option ℕ → (ℕ → Option Line) → Option Line
 given_natural (Some n) make = make n

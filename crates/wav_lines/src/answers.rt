@@ -66,7 +66,7 @@ fn natural(field: &[u8]) -> Option<u64>
     ensures { result ≡ natural_in (capped (number_of field.now)) }
 {
     match parsed(field) {
-        Number::Plus(v) if v <= 9223372036854775808 => Some(v),
+        Some(Number::Plus(v)) if v <= 9223372036854775808 => Some(v),
         _ => None,
     }
 }
@@ -76,8 +76,8 @@ fn integer(field: &[u8]) -> Option<i64>
     ensures { result ≡ integer_in (capped (number_of field.now)) }
 {
     match parsed(field) {
-        Number::Plus(v) => i64::try_from(v).ok(),
-        Number::Minus(v) if v != 0 => 0i64.checked_sub_unsigned(v),
+        Some(Number::Plus(v)) => i64::try_from(v).ok(),
+        Some(Number::Minus(v)) if v != 0 => 0i64.checked_sub_unsigned(v),
         _ => None,
     }
 }
