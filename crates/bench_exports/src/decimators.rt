@@ -6,7 +6,7 @@ ghost use Rattle.sums.specs.Counted.{block_out};
 ghost use Rattle.sums.specs.Signed.{signed_ops};
 ghost use Rattle.cic.specs.Reading.{state_of, counted_of};
 ghost use Rattle.fir.specs.Calls.{fresh, written_of};
-ghost use Rattle.bench_exports.specs.Fresh.{block_left, blank_cic, fresh_cic, given_in, step_out, step_next};
+ghost use Rattle.bench_exports.specs.Fresh.{block_left, fresh_cic, given_in, step_out, step_next};
 ghost use Rattle.bench_exports.specs.Steps.{step_of, after_step, lent_step_of, after_lent_step, lent_of};
 
 use blocks::{Filter, Refusal};
@@ -16,42 +16,11 @@ use cic::word::Word;
 use fir::Fir;
 use lent::state::LentCic;
 
-// What a filter runs as whose numbers are refused: order 0, each input an output.
-fn blank<W: Word>() -> Cic<W>
-    ensures { result ≡ blank_cic W.ops }
-{
-    Cic {
-        order: 0,
-        delay: 1,
-        rate: 0,
-        countdown: 0,
-        unsettled: 0,
-        inputs: 0,
-        hold: W::zero(),
-        integrators: [W::zero(); 8],
-        combs: [W::zero(); 64],
-    }
-}
-
-// A filter before its first input.
-fn fresh<W: Word>(order: usize, delay: usize, rate: u32) -> Cic<W>
+// A filter before its first input; where its numbers are refused, one that gives back its inputs.
+fn started<W: Word>(order: usize, delay: usize, rate: u32) -> Cic<W>
     ensures { result ≡ fresh_cic W.ops order delay rate }
 {
-    Cic::new(order, delay, rate).unwrap_or(blank())
-}
-
-fn decimate<W: Word>(order: usize, delay: usize, rate: u32, xs: &[W], ys: &mut [W])
-    ensures { ys.new ≡ block_out W.ops (counted_of (fresh_cic W.ops order delay rate)) xs.now ys.old }
-{
-    let mut filter = fresh::<W>(order, delay, rate);
-    let _wrote = filter.decimate_block(xs, ys);
-}
-
-fn interpolate<W: Word>(order: usize, delay: usize, rate: u32, xs: &[W], ys: &mut [W])
-    ensures { ys.new ≡ fill_out W.ops (state_of (fresh_cic W.ops order delay rate)) xs.now ys.old }
-{
-    let mut filter = fresh::<W>(order, delay, rate);
-    let _read = filter.interpolate_block(xs, ys);
+    Cic::new(order, delay, rate).unwrap_or(Cic::blank())
 }
 
 // A decimator's block.
@@ -59,7 +28,8 @@ fn interpolate<W: Word>(order: usize, delay: usize, rate: u32, xs: &[W], ys: &mu
 pub extern "C" fn bench_decimate(order: usize, delay: usize, rate: u32, xs: &[i32], ys: &mut [i32])
     ensures { ys.new ≡ block_out (signed_ops w32) (counted_of (fresh_cic (signed_ops w32) order delay rate)) xs.now ys.old }
 {
-    decimate(order, delay, rate, xs, ys);
+    let mut filter = started::<i32>(order, delay, rate);
+    let _wrote = filter.decimate_block(xs, ys);
 }
 
 #[unsafe(no_mangle)]
@@ -72,7 +42,8 @@ pub extern "C" fn bench_decimate64(
 )
     ensures { ys.new ≡ block_out (signed_ops w64) (counted_of (fresh_cic (signed_ops w64) order delay rate)) xs.now ys.old }
 {
-    decimate(order, delay, rate, xs, ys);
+    let mut filter = started::<i64>(order, delay, rate);
+    let _wrote = filter.decimate_block(xs, ys);
 }
 
 // An interpolator's block.
@@ -86,7 +57,8 @@ pub extern "C" fn bench_interpolate(
 )
     ensures { ys.new ≡ fill_out (signed_ops w32) (state_of (fresh_cic (signed_ops w32) order delay rate)) xs.now ys.old }
 {
-    interpolate(order, delay, rate, xs, ys);
+    let mut filter = started::<i32>(order, delay, rate);
+    let _read = filter.interpolate_block(xs, ys);
 }
 
 #[unsafe(no_mangle)]
@@ -99,7 +71,8 @@ pub extern "C" fn bench_interpolate64(
 )
     ensures { ys.new ≡ fill_out (signed_ops w64) (state_of (fresh_cic (signed_ops w64) order delay rate)) xs.now ys.old }
 {
-    interpolate(order, delay, rate, xs, ys);
+    let mut filter = started::<i64>(order, delay, rate);
+    let _read = filter.interpolate_block(xs, ys);
 }
 
 // The plain engine's block.
@@ -160,7 +133,9 @@ impl Filter for LentSteps {
     ghost after = { after_lent_step };
 
     fn process(&mut self, x: i32) -> i32 {
-        let out = self.numbers.decimate(&mut self.integrators, &mut self.combs, x);
+        let out = self
+            .numbers
+            .decimate(&mut self.integrators, &mut self.combs, x);
         given(out)
     }
 }
@@ -168,6 +143,8 @@ impl Filter for LentSteps {
 fn lent(s: Cic<i32>) -> LentSteps
     ensures { result ≡ lent_of s }
 {
+    let integrators = s.integrators;
+    let combs = s.combs;
     LentSteps {
         numbers: LentCic {
             order: s.order,
@@ -178,8 +155,8 @@ fn lent(s: Cic<i32>) -> LentSteps
             inputs: s.inputs,
             hold: s.hold,
         },
-        integrators: s.integrators,
-        combs: s.combs,
+        integrators,
+        combs,
     }
 }
 
@@ -189,7 +166,7 @@ pub extern "C" fn bench_steps(order: usize, delay: usize, rate: u32, xs: &[i32],
     ensures { ys.new ≡ block_left 0 step_out step_next (fresh_cic (signed_ops w32) order delay rate) xs.now ys.old }
 {
     let mut steps = Steps {
-        filter: fresh(order, delay, rate),
+        filter: started(order, delay, rate),
     };
     let _ran = blocks::block(&mut steps, xs, ys);
 }
@@ -205,6 +182,6 @@ pub extern "C" fn bench_lent_steps(
 )
     ensures { ys.new ≡ block_left 0 step_out step_next (fresh_cic (signed_ops w32) order delay rate) xs.now ys.old }
 {
-    let mut steps = lent(fresh(order, delay, rate));
+    let mut steps = lent(started(order, delay, rate));
     let _ran = blocks::block(&mut steps, xs, ys);
 }
