@@ -1,13 +1,15 @@
 // Decimator and interpolator on words of 32 and of 64 bits, the plain engine, and the decimator's steps one by one.
-ghost use Rattle.std.specs.Prelude.{◌≡◌};
+ghost use Rattle.std.specs.Prelude.{◌≡◌, length};
+ghost use Rattle.blocks.specs.Scan.{scan};
 ghost use Rattle.std.specs.Int.{w32, w64};
 ghost use Rattle.sums.specs.Runs.{fill_out};
 ghost use Rattle.sums.specs.Counted.{block_out};
 ghost use Rattle.sums.specs.Signed.{signed_ops};
-ghost use Rattle.cic.specs.Reading.{state_of, counted_of};
+ghost use Rattle.lent.specs.Reading.{counted};
+ghost use Rattle.cic.specs.Reading.{state_of, counted_of, cic_of, numbers_of};
 ghost use Rattle.fir.specs.Calls.{fresh, written_of};
 ghost use Rattle.bench_exports.specs.Fresh.{block_left, fresh_cic, given_in, step_out, step_next};
-ghost use Rattle.bench_exports.specs.Steps.{step_of, after_step, lent_step_of, after_lent_step, lent_of};
+ghost use Rattle.bench_exports.specs.Steps.{step_of, after_step};
 
 use blocks::{Filter, Refusal};
 use cic::state::Cic;
@@ -115,48 +117,37 @@ impl Filter for Steps {
     }
 }
 
-// The same on arrays that stand beside its numbers.
-#[derive(Clone, Copy)]
-struct LentSteps {
-    numbers: LentCic<i32>,
-    integrators: [i32; 8],
-    combs: [i32; 64],
-}
-
-impl Filter for LentSteps {
-    type Input = i32;
-
-    type Output = i32;
-
-    ghost gives = { lent_step_of };
-
-    ghost after = { after_lent_step };
-
-    fn process(&mut self, x: i32) -> i32 {
-        let out = self
-            .numbers
-            .decimate(&mut self.integrators, &mut self.combs, x);
-        given(out)
+// All of a filter but its arrays.
+fn numbers(s: Cic<i32>) -> LentCic<i32>
+    ensures { result ≡ numbers_of s }
+{
+    LentCic {
+        order: s.order,
+        delay: s.delay,
+        rate: s.rate,
+        countdown: s.countdown,
+        unsettled: s.unsettled,
+        inputs: s.inputs,
+        hold: s.hold,
     }
 }
 
-fn lent(s: Cic<i32>) -> LentSteps
-    ensures { result ≡ lent_of s }
+// The steps on lent arrays.
+// Kept: a loop of its own. With the arrays beside the numbers in a Filter a step costs 45 instructions and not 38.
+fn lent_all(
+    mut numbers: LentCic<i32>,
+    integrators: &mut [i32; 8],
+    combs: &mut [i32; 64],
+    xs: &[i32],
+    ys: &mut [i32],
+)
+    requires { length xs.now ≡ length ys.old }
+    ensures { ys.new
+        ≡ scan step_out step_next (cic_of (counted numbers integrators.old combs.old)) xs.now }
 {
-    let integrators = s.integrators;
-    let combs = s.combs;
-    LentSteps {
-        numbers: LentCic {
-            order: s.order,
-            delay: s.delay,
-            rate: s.rate,
-            countdown: s.countdown,
-            unsettled: s.unsettled,
-            inputs: s.inputs,
-            hold: s.hold,
-        },
-        integrators,
-        combs,
+    for (i, &x) in xs.iter().enumerate() {
+        let out = numbers.decimate(integrators, combs, x);
+        ys[i] = given(out);
     }
 }
 
@@ -171,7 +162,7 @@ pub extern "C" fn bench_steps(order: usize, delay: usize, rate: u32, xs: &[i32],
     let _ran = blocks::block(&mut steps, xs, ys);
 }
 
-// The steps on lent arrays.
+// The same on lent arrays.
 #[unsafe(no_mangle)]
 pub extern "C" fn bench_lent_steps(
     order: usize,
@@ -182,6 +173,11 @@ pub extern "C" fn bench_lent_steps(
 )
     ensures { ys.new ≡ block_left 0 step_out step_next (fresh_cic (signed_ops w32) order delay rate) xs.now ys.old }
 {
-    let mut steps = lent(started(order, delay, rate));
-    let _ran = blocks::block(&mut steps, xs, ys);
+    if xs.len() != ys.len() {
+        return;
+    }
+    let filter = started::<i32>(order, delay, rate);
+    let mut integrators = filter.integrators;
+    let mut combs = filter.combs;
+    lent_all(numbers(filter), &mut integrators, &mut combs, xs, ys);
 }
