@@ -1,7 +1,6 @@
 // Lines of the table.
-use blocks::{Refusal, Verdict};
+use blocks::Refusal;
 use std::io;
-use words::casts::i32_as_u32;
 
 pub(crate) fn text(rt: &impl Print, s: &[u8]) -> io::Result<()> {
     rt.write_all(s)
@@ -12,20 +11,7 @@ pub(crate) fn number(rt: &impl Print, n: u64) -> io::Result<()> {
 }
 
 pub(crate) fn signed(rt: &impl Print, v: i32) -> io::Result<()> {
-    let bits = i32_as_u32(v) as u64;
-    if bits < 2147483648 {
-        return number(rt, bits);
-    }
-    text(rt, b"-")?;
-    number(rt, 4294967296 - bits)
-}
-
-// The number of a verdict, 0 for none.
-pub(crate) fn refusal(v: Verdict) -> u32 {
-    match v {
-        Verdict::Done => 0,
-        Verdict::Refused(n) => n,
-    }
+    rt.print(v)
 }
 
 // The number of a call's refusal, 0 for none.

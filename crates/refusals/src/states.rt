@@ -1,102 +1,67 @@
 // Numbers 10 to 17: what a decimator's or interpolator's state may be, and what may be asked of it.
-use crate::print::{refusal, row};
-use cic::questions::{Fitting, Told};
-use cic::runs::Wrote;
+use crate::print::{refused, row};
 use cic::state::Cic;
-use cic::steps::Out;
 use std::io;
 
 fn new(order: usize, delay: usize, rate: u32) -> u32 {
-    let made = Cic::new(order, delay, rate);
-    let verdict = made.verdict;
-    refusal(verdict)
+    refused(Cic::<i32>::new(order, delay, rate))
+}
+
+fn made(order: usize, delay: usize, rate: u32) -> Cic<i32> {
+    Cic::new(order, delay, rate).unwrap_or(Cic::blank())
 }
 
 fn resume(countdown: u32) -> u32 {
-    let made = Cic::resume(3, 1, 3, [7; 8], [5; 64], 1, countdown, 0);
-    let verdict = made.verdict;
-    refusal(verdict)
+    refused(Cic::<i32>::resume(3, 1, 3, [7; 8], [5; 64], 1, countdown, 0))
 }
 
 fn gain(order: usize) -> u32 {
-    let made = Cic::new(order, 8, 65535);
-    let filter = made.state;
-    match filter.gain() {
-        Told::Number(_) => 0,
-        Told::Refused(n) => n,
-    }
+    refused(made(order, 8, 65535).gain())
 }
 
-// A step of a filter of order 3 and delay 1 whose unsettled count was written by hand.
-fn step(unsettled: usize) -> u32 {
-    let made = Cic::new(3, 1, 3);
-    let mut filter = made.state;
-    filter.unsettled = unsettled;
-    let stepped = filter.decimate(1);
-    let out = stepped.out;
-    match out {
-        Out::Given(_) => 0,
-        Out::Nothing => 0,
-        Out::Refused(n) => n,
-    }
+// A filter of order 3 and delay 1 whose unsettled count was written by hand.
+fn unsettled(count: usize) -> Cic<i32> {
+    let mut filter = made(3, 1, 3);
+    filter.unsettled = count;
+    filter
 }
 
-// The filter after so many inputs, at a countdown: no output falls on its next input.
-fn after(inputs: u64) -> Cic {
-    let made = Cic::resume(3, 1, 3, [7; 8], [5; 64], 1, 2, inputs);
-    made.state
-}
-
-fn step_after(inputs: u64) -> u32 {
-    let stepped = after(inputs).decimate(1);
-    let out = stepped.out;
-    match out {
-        Out::Given(_) => 0,
-        Out::Nothing => 0,
-        Out::Refused(n) => n,
-    }
-}
-
-fn block_after(inputs: u64, input: &[i32], out: &mut [i32]) -> u32 {
-    let done = after(inputs).decimate_block(input, out);
-    let wrote = done.wrote;
-    match wrote {
-        Wrote::Outputs(_) => 0,
-        Wrote::Refused(n) => n,
-    }
+fn step(count: usize) -> u32 {
+    refused(unsettled(count).decimate(1))
 }
 
 // What the same filter answers to the question for its number.
-fn asked(unsettled: usize) -> u32 {
-    let made = Cic::new(3, 1, 3);
-    let mut filter = made.state;
-    filter.unsettled = unsettled;
-    filter.refusal()
+fn asked(count: usize) -> u32 {
+    refused(unsettled(count).check())
+}
+
+// The filter after so many inputs, at a countdown: no output falls on its next input.
+fn after(inputs: u64) -> Cic<i32> {
+    Cic::resume(3, 1, 3, [7; 8], [5; 64], 1, 2, inputs).unwrap_or(Cic::blank())
+}
+
+fn step_after(inputs: u64) -> u32 {
+    refused(after(inputs).decimate(1))
+}
+
+fn block_after(inputs: u64, input: &[i32], out: &mut [i32]) -> u32 {
+    refused(after(inputs).decimate_block(input, out))
 }
 
 // The question for the outputs of 28 inputs, at a rate that was written by hand.
 fn length(rate: u32) -> u32 {
-    let made = Cic::new(3, 1, 3);
-    let mut filter = made.state;
+    let mut filter = made(3, 1, 3);
     filter.rate = rate;
-    match filter.low_rate_length(28) {
-        Told::Number(_) => 0,
-        Told::Refused(n) => n,
-    }
+    refused(filter.low_rate_length(28))
 }
 
 fn fit(width: u32, b: u32) -> u32 {
-    let made = Cic::new(0, 1, 0);
-    let filter = made.state;
-    match filter.fit(width, b) {
-        Fitting::Fits(_) => 0,
-        Fitting::Refused(n) => n,
-    }
+    refused(made(0, 1, 0).fit(width, b))
 }
 
 // Input number 2^64 - 1 is the last.
 fn print_inputs(rt: &impl Print) -> io::Result<()> {
-    let most: u64 = 18446744073709551615;
+    let most = u64::MAX;
     let three = [1i32; 3];
     let mut none = [0i32; 0];
     let mut one = [0i32; 1];
