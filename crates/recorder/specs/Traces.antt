@@ -1,18 +1,15 @@
 -- What comes out of a recorder, in a customer's words: the statements of the real calls, proved in proofs/Traces. Each cites demand 3, or 2,
--- on i64 (demands64). R is rate + 1.
-use Rattle.std.specs.Prelude.{◌≡◌, List, [], ◌++◌, ℕ, suc, ◌+◌, ◌*◌, eqb, leb, ℤ, pos}
+-- on i64 (demands). R is rate + 1.
+use Rattle.std.specs.Prelude.{◌≡◌, List, [], ◌++◌, ℕ, suc, ◌+◌, ◌*◌, eqb, leb, ℤ, pos, Ok}
+use Rattle.std.specs.Int.{w64}
 use Rattle.std.proofs.Math.Option.{some}
 use Rattle.std.proofs.Math.ListN.{get_elem?}
-use Rattle.blocks.specs.declared.Verdict.TheVariants as Verdict
 use Rattle.unwrap.specs.declared.unwrapper.Unwrapper.{Unwrapper}
 use Rattle.sums.specs.Counted.{Numbered}
 use Rattle.sums.specs.Demands.{Contents, Decimates}
-use Rattle.cic64.specs.Word.{width}
-use Rattle.demands64.specs.Demands.{took_block, gave_block}
+use Rattle.demands.specs.Demands.{took_block, gave_block}
 use Rattle.recorder.specs.declared.recorder.Recorder.{Recorder}
-use Rattle.recorder.specs.declared.recorder.Ready.{Ready}
-use Rattle.recorder.specs.declared.recorder.Took.{Took}
-use Rattle.recorder.specs.Calls.{turns_from, opened_of, pushed_of, rated_of, took_of, out_left}
+use Rattle.recorder.specs.Calls.{Ready, Took, turns_from, opened_of, pushed_of, rated_of, took_of, out_left}
 
 -- Calls of `take`, each answered as its promise says: from the recorder s they took the words ws, gave ys and left t. A refused one takes
 -- nothing and gives nothing.
@@ -26,7 +23,7 @@ pub data Recording : Recorder → List ℤ → List (Numbered ℤ) → Recorder 
 -- believed and n words were taken before.
 pub record Trace (N M rate c u n : ℕ) (xs : List ℤ) (ys : List (Numbered ℤ)) : Type 0 where
   -- They fall, are numbered and tell as documents 01 and 02 say, and where they are told 0 they are the moving sum of those turns alone.
-  pub decimates : Decimates width N M rate c u n xs ys
+  pub decimates : Decimates w64 N M rate c u n xs ys
   -- Which one is the first to be believed is known beforehand: told 0 are exactly those with the number n + c + u · R + 1 or a greater one.
   pub known : (k : ℕ) (y : Numbered ℤ) → get_elem? ys k ≡ some y → eqb y.told 0 ≡ leb (n + (c + u * suc rate + 1)) y.number
 
@@ -37,20 +34,20 @@ Traces N M rate c u n turns s =
 -- From the start every output is to be believed.
 abbrev pub AfterOpen : Type 0
 AfterOpen =
-    (N M rate : ℕ) (r : Ready) → r ≡ opened_of N M rate → r.verdict ≡ Verdict.Done
+    (N M rate : ℕ) (r : Ready) → r ≡ opened_of N M rate → r.verdict ≡ Ok tt
     → Traces N M rate 0 0 0 (record { y = pos 0 }) r.recorder
 
 -- After the plug is pushed back, whatever the filter then holds, N · M outputs are not.
 abbrev pub AfterPush : Type 0
 AfterPush =
-    (s : Recorder) (r : Ready) → r ≡ pushed_of s → r.verdict ≡ Verdict.Done → Contents s.filter.integrators s.filter.combs
+    (s : Recorder) (r : Ready) → r ≡ pushed_of s → r.verdict ≡ Ok tt → Contents s.filter.integrators s.filter.combs
     → let f = s.filter in
     Traces f.order f.delay f.rate f.countdown (f.order * f.delay) f.inputs s.turns r.recorder
 
 -- The same after a change of rate.
 abbrev pub AfterRate : Type 0
 AfterRate =
-    (s : Recorder) (rate : ℕ) (r : Ready) → r ≡ rated_of s rate → r.verdict ≡ Verdict.Done
+    (s : Recorder) (rate : ℕ) (r : Ready) → r ≡ rated_of s rate → r.verdict ≡ Ok tt
     → Contents s.filter.integrators s.filter.combs
     → let f = s.filter in
     Traces f.order f.delay rate f.countdown (f.order * f.delay) f.inputs s.turns r.recorder
