@@ -6,7 +6,7 @@ use Rattle.blocks.proofs.Refusals.{taken_number, taken_value, accepted, refused_
 use Rattle.blocks.proofs.Ways.{never, kept}
 use Rattle.cic.specs.declared.state.Cic.{Cic}
 use Rattle.recorder.specs.declared.recorder.Recorder.{Recorder}
-use Rattle.recorder.specs.Calls.{pushed_of}
+use Rattle.recorder.specs.Calls.{resumed_number, pushed_of}
 use Rattle.recorder.proofs.recorder.Recorder.push.Goals as goal
 
 pub returns-in_err-self : goal.returns-in_err-self
@@ -21,4 +21,4 @@ returns c =
     let e = taken_number _ _ _ c.in_ok-self.ensures in
     let s = c.args.self.now in
     let over : Cic ℤ → Recorder = λ f. record { plugged = true; turns = s.turns; filter = f } in
-    (rw (eq-eqb _ _ e) (ap over (taken_value _ _ _ c.in_ok-self.ensures)), accepted _ _ e)
+    (rw (eq-eqb (resumed_number s.filter) 0 e) (ap over (taken_value _ _ _ c.in_ok-self.ensures)), accepted _ _ e)
