@@ -1,10 +1,11 @@
 // A recorder's state, and its calls.
 ghost use Rattle.std.specs.Prelude.{◌≡◌, length};
-ghost use Rattle.blocks.specs.Blocks.{Ran};
 ghost use Rattle.blocks.specs.Refusals.{answer};
-ghost use Rattle.sums.specs.Calls.{new_number};
+ghost use Rattle.blocks.specs.Blocks.{Ran};
 ghost use Rattle.unwrap.specs.Phases.{grown};
-ghost use Rattle.recorder.specs.Calls.{opened_of, pulled_of, pushed_of, rated_of, turn_out, took_of, turns_left, out_left};
+ghost use Rattle.sums.specs.Calls.{rate_number};
+ghost use Rattle.cic.specs.Reading.{state_of};
+ghost use Rattle.recorder.specs.Calls.{opened_of, pulled_of, push_number, pushed_of, rated_of, turn_out, took_of, took_answer, turns_left, out_left};
 
 use blocks::{Filter, Refusal};
 use cic::runs::Written;
@@ -20,20 +21,20 @@ pub struct Recorder {
 }
 
 // The words' turns, one for each.
-fn unwrap_words(turns: &mut Unwrapper, words: &[i32], out: &mut [i64])
-    requires { length words.now ≡ length out.old }
-    ensures { Ran turn_out grown turns.old words.now turns.new out.new }
+fn unwrap_words(unwrapper: &mut Unwrapper, words: &[i32], turns: &mut [i64])
+    requires { length words.now ≡ length turns.old }
+    ensures { Ran turn_out grown unwrapper.old words.now unwrapper.new turns.new }
 {
-    for (i, &word) in words.iter().enumerate() {
-        turns.process(word);
-        out[i] = turns.y;
+    for (i, &x) in words.iter().enumerate() {
+        unwrapper.process(x);
+        turns[i] = unwrapper.y;
     }
 }
 
 impl Recorder {
     // A recorder at turn 0 with the plug in, its decimator new. Refused as `Cic::new` is.
     pub fn open(order: usize, delay: usize, rate: u32) -> Result<Recorder, Refusal>
-        ensures { result ≡ answer (new_number order delay rate) (opened_of order delay rate).recorder }
+        ensures { result ≡ opened_of order delay rate }
     {
         let filter = Cic::new(order, delay, rate)?;
         Ok(Recorder {
@@ -50,13 +51,13 @@ impl Recorder {
         self.plugged = false;
     }
 
-    // The plug is pushed back: the decimator is resumed from what it holds, and tells N·M outputs as unsettled. The turns go
+    // The plug is pushed back: the decimator is resumed from what it holds, and tells N.M outputs as unsettled. The turns go
     // on from where they were. Refused as `Cic::resume` is; it is then as it was.
     pub fn push(&mut self) -> Result<(), Refusal>
-        ensures { (self.new ≡ (pushed_of self.old).recorder) × (result ≡ (pushed_of self.old).verdict) }
+        ensures { (self.new ≡ pushed_of self.old) × (result ≡ answer (push_number self.old) tt) }
     {
         let f = self.filter;
-        self.filter = Cic::resume(
+        let filter = Cic::resume(
             f.order,
             f.delay,
             f.rate,
@@ -66,13 +67,14 @@ impl Recorder {
             f.countdown,
             f.inputs,
         )?;
+        self.filter = filter;
         self.plugged = true;
         Ok(())
     }
 
-    // The decimator at another rate; turns and plug stay. Refused as `Cic::set_rate` is.
+    // The decimator at another rate; turns and plug stay. Refused as `Cic::set_rate` is; it is then as it was.
     pub fn set_rate(&mut self, rate: u32) -> Result<(), Refusal>
-        ensures { (self.new ≡ (rated_of self.old rate).recorder) × (result ≡ (rated_of self.old rate).verdict) }
+        ensures { (self.new ≡ rated_of self.old rate) × (result ≡ answer (rate_number (state_of self.old.filter) rate) tt) }
     {
         self.filter.set_rate(rate)
     }
@@ -86,8 +88,8 @@ impl Recorder {
         turns: &mut [i64],
         out: &mut [i64],
     ) -> Result<Written, Refusal>
-        ensures { (self.new ≡ (took_of self.old words.now turns.old out.old).recorder)
-            × (result ≡ (took_of self.old words.now turns.old out.old).wrote)
+        ensures { (self.new ≡ took_of self.old words.now turns.old out.old)
+            × (result ≡ took_answer self.old words.now turns.old out.old)
             × (turns.new ≡ turns_left self.old words.now turns.old)
             × (out.new ≡ out_left self.old words.now turns.old out.old) }
     {
@@ -95,8 +97,7 @@ impl Recorder {
         if turns.len() < n {
             return Err(Refusal::ShortOutput);
         }
-        let plugged = self.plugged;
-        if !plugged {
+        if !self.plugged {
             return Err(Refusal::PlugOut);
         }
         let mut after = self.turns;

@@ -1,24 +1,23 @@
 -- The resume's answer by its number.
-use Rattle.std.proofs.Common.{ap, true, ℤ}
-use Rattle.std.proofs.lemmas.Result.{err_from_is_err_and}
-use borrow.Author.Tests.{eq-eqb}
-use Rattle.blocks.proofs.Refusals.{taken_number, taken_value, accepted, refused_too}
-use Rattle.blocks.proofs.Ways.{never, kept}
-use Rattle.cic.specs.declared.state.Cic.{Cic}
-use Rattle.recorder.specs.declared.recorder.Recorder.{Recorder}
-use Rattle.recorder.specs.Calls.{resumed_number, pushed_of}
+use Rattle.std.proofs.Common.{rules, ◌≡◌, ℕ, ne_eqb, eq-eqb, w64, to_z, of_z}
+use Rattle.std.specs.Prelude.{Err}
+use Rattle.blocks.proofs.Refusals.{accepted, refused_too, taken_number, taken_value}
+use Rattle.shape.proofs.Ways.{never}
+use Rattle.recorder.specs.Calls.{push_number, pushed_of}
 use Rattle.recorder.proofs.recorder.Recorder.push.Goals as goal
 
-pub returns-in_err-self : goal.returns-in_err-self
+pub returns-in_err-filter : goal.returns-in_err-filter
 unfolding pushed_of
-returns-in_err-self c =
-    let p = err_from_is_err_and c.from_residual.result c.from_residual.ensures.1 in
-    (kept _ _ _ (never _ _ _ c.in_err-self.ensures), rw (p.1, p.2) (refused_too _ _ _ _ c.in_err-self.ensures))
+returns-in_err-filter c =
+    let r = c.in_err-filter in let e : c.from_residual.result ≡ Err r.field-0.0 = search rules in
+    let k : ℕ = push_number c.args.self.now in
+    (rw (ne_eqb k 0 (never k _ r.field-0.0 r.ensures)), rw e (refused_too k _ tt r.field-0.0 r.ensures))
 
 pub returns : goal.returns
 unfolding pushed_of
 returns c =
-    let e = taken_number _ _ _ c.in_ok-self.ensures in
-    let s = c.args.self.now in
-    let over : Cic ℤ → Recorder = λ f. record { plugged = true; turns = s.turns; filter = f } in
-    (rw (eq-eqb (resumed_number s.filter) 0 e) (ap over (taken_value _ _ _ c.in_ok-self.ensures)), accepted _ _ e)
+    let f = c.in_ok-filter in let k : ℕ = push_number c.args.self.now in
+    let held : to_z w64 (of_z w64 c.args.self.now.filter.hold) ≡ c.args.self.now.filter.hold = search rules in
+    let is = rw held at f.ensures in
+    let z : k ≡ 0 = taken_number k _ f.filter is in
+    (rw (taken_value k _ f.filter is, eq-eqb k 0 z), accepted k tt z)
