@@ -4,7 +4,6 @@ ghost use Rattle.std.specs.Prelude.{◌≡◌, cond, ◌+◌, ◌*◌, ◌%◌, 
 ghost use Rattle.rust_answers.specs.Lines.{nibble_of, byte_at, half_at, word_at, words_at, unlike_all};
 
 use std::io;
-use words::unsigned::add_u64;
 
 // The value of a hex digit; of any other byte 0.
 fn nibble(b: u8) -> u32
@@ -32,6 +31,7 @@ fn byte_at(text: &[u8], at: usize) -> u32
     nibble(text[at]) * 16 + nibble(text[at + 1])
 }
 
+#[tactic(auto, using(crate::proofs::Digits::byte_small))]
 fn half_at(text: &[u8], at: usize) -> u32
     requires { at + 4 ≤ length text.now }
     ensures { result ≡ half_at text.now at }
@@ -40,6 +40,7 @@ fn half_at(text: &[u8], at: usize) -> u32
 }
 
 // Word number i of the text, from 0; 0 past its end.
+#[tactic(auto, using(crate::proofs::Digits::half_small), unfolding(crate::specs::Lines::word_at))]
 pub fn word(text: &[u8], i: usize) -> u32
     ensures { result ≡ word_at text.now i }
 {
@@ -96,7 +97,7 @@ pub fn unlike(a: u32, b: u32) -> u64
 pub fn tally(n: u64, found: u32, said: u32) -> u64
     ensures { result ≡ (n + cond (eqb found said) 0 1) % 2 ^ 64 }
 {
-    add_u64(n, unlike(found, said))
+    n.wrapping_add(unlike(found, said))
 }
 
 // 0 where two slices have the same words, else 1.

@@ -2,9 +2,6 @@
 ghost use Rattle.std.specs.Prelude.{◌≡◌, take};
 ghost use Rattle.rust_answers.specs.Runs.{edge_of, drawn, spread_of, digest_of, digest_two, digest_all};
 
-use words::casts::u64_as_u32;
-use words::unsigned::{add_u64, mul_u64};
-
 const EDGES: [u32; 8] = [
     0,
     1,
@@ -24,24 +21,27 @@ pub struct Drawn {
 }
 
 // The next word.
+#[tactic(auto, unfolding(crate::specs::Runs::drawn))]
 pub fn draw(state: u64) -> Drawn
     ensures { result ≡ drawn state }
 {
-    let next = add_u64(mul_u64(state, 6364136223846793005), 1442695040888963407);
+    let next = state
+        .wrapping_mul(6364136223846793005)
+        .wrapping_add(1442695040888963407);
     Drawn {
         state: next,
-        value: u64_as_u32(next / 4294967296),
+        value: (next / 4294967296) as u32,
     }
 }
 
 fn edge(u: u32) -> u32
     ensures { result ≡ edge_of u }
 {
-    let at = ((u / 4) % 8) as usize;
-    EDGES[at]
+    EDGES[(u / 4 % 8) as usize]
 }
 
 // The next word, one time in four from the edges of the range.
+#[tactic(auto, unfolding(crate::specs::Runs::spread_of))]
 pub fn spread(state: u64) -> Drawn
     ensures { result ≡ spread_of state }
 {
@@ -58,17 +58,21 @@ pub fn spread(state: u64) -> Drawn
 }
 
 // The digest d grown by the word w.
+#[tactic(auto, unfolding(crate::specs::Runs::digest_of))]
 pub fn digest(d: u64, w: u32) -> u64
     ensures { result ≡ digest_of d w }
 {
-    add_u64(mul_u64(d, 6364136223846793005), w as u64 + 1)
+    d.wrapping_mul(6364136223846793005)
+        .wrapping_add(u64::from(w) + 1)
 }
 
 // The digest d grown by both words of v, the high one first.
+#[tactic(auto, unfolding(crate::specs::Runs::digest_two))]
 pub fn digest_double(d: u64, v: u64) -> u64
     ensures { result ≡ digest_two d v }
 {
-    digest(digest(d, u64_as_u32(v / 4294967296)), u64_as_u32(v))
+    let high = digest(d, (v / 4294967296) as u32);
+    digest(high, (v % 4294967296) as u32)
 }
 
 // The digest d grown by each word of a slice.
@@ -76,8 +80,8 @@ pub fn digest_words(d: u64, words: &[u32]) -> u64
     ensures { result ≡ digest_all d words.now }
 {
     let mut e = d;
-    for i in 0..words.len() {
-        e = digest(e, words[i]);
+    for &w in words {
+        e = digest(e, w);
     }
     e
 }
@@ -86,8 +90,5 @@ pub fn digest_words(d: u64, words: &[u32]) -> u64
 pub fn digest_first(d: u64, words: &[u32], n: usize) -> u64
     ensures { result ≡ digest_all d (take n words.now) }
 {
-    if words.len() <= n {
-        return digest_words(d, words);
-    }
-    digest_words(d, &words[..n])
+    digest_words(d, &words[..n.min(words.len())])
 }

@@ -1,0 +1,7 @@
+-- The words written so far are the first of the line.
+use Rattle.std.proofs.Common.{◌≡◌, length, take}
+use Rattle.rust_answers.specs.Lines.{words_at}
+use Rattle.rust_answers.proofs.lines.line.Given as goal
+
+abbrev pub invariant-loop-i : goal.invariant-loop-i
+invariant-loop-i l = record { long : length l.words ≡ 40; made : take l.i l.words ≡ words_at l.text l.first l.i }
