@@ -1,7 +1,7 @@
 -- A call handed on: the number of its refusal, and what it leaves in the lent fields. The numbers are those that the definitions
 -- of the filters' crates give.
-use Rattle.std.proofs.Common.{◌≡◌, refl, sym, ap, ◌∙◌, ℕ, zero, suc, ◌-◌, List, take, ℤ, Bool, true, false, cond, Float}
-use Rattle.std.specs.Prelude.{Result, Ok, Err, eqb, ltb, length, ◌||◌}
+use Rattle.std.proofs.Common.{◌≡◌, refl, sym, ap, ◌∙◌, ℕ, zero, suc, List, ℤ, Bool, true, false, cond}
+use Rattle.std.specs.Prelude.{Result, Ok, Err, eqb}
 use Rattle.blocks.specs.declared.refusal.Refusal.{Refusal}
 use Rattle.blocks.specs.Refusals.{answer, number_in, number_of, refusal_at}
 use Rattle.blocks.proofs.Refusals.{taken_number, taken_value}

@@ -101,10 +101,7 @@ pub(crate) fn df1_out(next: DirectForm1, x1: &mut f64, x2: &mut f64, y1: &mut f6
 pub(crate) fn df2t_in(s1: &f64, s2: &f64) -> DirectForm2Transposed
     ensures { result ≡ df2t_at s1.now s2.now }
 {
-    DirectForm2Transposed {
-        s1: *s1,
-        s2: *s2,
-    }
+    DirectForm2Transposed { s1: *s1, s2: *s2 }
 }
 
 pub(crate) fn df2t_out(next: DirectForm2Transposed, s1: &mut f64, s2: &mut f64)
