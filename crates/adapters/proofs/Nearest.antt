@@ -5,7 +5,8 @@ use lib.IntN.{sub_ℕ, neg_ℤ-neg_ℤ}
 use lib.Ieee.{Float, nan, inf, fin, up, le}
 use lib.Ieee.Fits.{and_r}
 use lib.Ieee.Positive.{num, den, den_pos}
-use Rattle.adapters.specs.declared.quantize.Quantized.TheVariants.{Bits, Refused}
+use Rattle.std.specs.Prelude.{Ok, Err}
+use Rattle.blocks.specs.declared.refusal.Refusal.{Refusal}
 use Rattle.adapters.specs.Quantize.{minus_half, plus_zero, coefficient_of, in_range, nearest_up, nearest_bits, quantized}
 use Rattle.adapters.specs.Nearest.{numerator, distance, Nearest, RoundsInRange}
 use Rattle.adapters.proofs.Halves.{at_most-none, nowhere, nowhere_nan}
@@ -133,7 +134,7 @@ rounds_in_range code g n h =
     let a = coefficient_of code g in
     record {
       bits = nearest_bits a;
-      answer = rw n (accepted (in_range a) (Bits (nearest_bits a)) (Refused 52) h);
+      answer = rw n (accepted (in_range a) (Ok (nearest_bits a)) (Err Refusal.Coefficient) h);
       nearest = bits-nearest a h;
       only = only-nearest a h;
     }

@@ -1,11 +1,10 @@
 -- 02, A10, what the bits are, said without a quotient: twice their distance is at most 1, halves go away from zero, and no other whole
 -- number has both.
-use Rattle.std.specs.Prelude.{◌≡◌, ℕ, ◌*◌, ◌^◌, ◌≤◌, true, false, T, ℤ, pos, ◌-ℤ◌, ◌*ℤ◌, neg_ℤ, unsigned_abs, Float}
+use Rattle.std.specs.Prelude.{◌≡◌, ℕ, ◌*◌, ◌^◌, ◌≤◌, true, false, T, ℤ, pos, ◌-ℤ◌, ◌*ℤ◌, neg_ℤ, unsigned_abs, Float, Ok}
 use Rattle.std.specs.Float.{nan, inf, fin}
 use Rattle.std.specs.Float.Ieee.{up}
 use Rattle.std.specs.Float.Ieee.Positive.{den}
 use Rattle.adapters.specs.declared.tpa.Tpa.{Tpa}
-use Rattle.adapters.specs.declared.quantize.Quantized.TheVariants.{Bits}
 use Rattle.adapters.specs.Adapters.{retired}
 use Rattle.adapters.specs.Quantize.{coefficient_of, in_range, quantized}
 
@@ -28,7 +27,7 @@ pub record Nearest (a : Float) (b : ℤ) : Type 0 where
 -- the bits that quantize answers are the nearest, and no other whole number is
 pub record Rounds (code : Tpa) (g : Float) : Type 0 where
   pub bits : ℤ
-  pub answer : quantized code g ≡ Bits bits
+  pub answer : quantized code g ≡ Ok bits
   pub nearest : Nearest (coefficient_of code g) bits
   pub only : (other : ℤ) → Nearest (coefficient_of code g) other → other ≡ bits
 

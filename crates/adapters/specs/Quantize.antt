@@ -1,13 +1,12 @@
 -- 02, A10: the bits of a coefficient from a pole.
-use Rattle.std.specs.Prelude.{ℕ, ◌+◌, ◌*◌, ◌/◌, ◌^◌, Bool, true, false, cond, ◌&&◌, ℤ, pos, negsuc, neg_ℤ, Float}
+use Rattle.std.specs.Prelude.{ℕ, ◌+◌, ◌*◌, ◌/◌, ◌^◌, Bool, true, false, cond, ◌&&◌, ℤ, pos, negsuc, neg_ℤ, Float, Result, Ok, Err}
 use Rattle.std.specs.Float.{fin, binary64}
 use Rattle.std.specs.Float.Ieee.{sub, neg, le}
 use Rattle.std.specs.Float.Ieee.Positive.{num, den}
 use Rattle.adapters.specs.declared.tpa.Tpa.{Tpa}
 use Rattle.adapters.specs.declared.tpa.Tpa.TheVariants.{Z, A, B, B1, X, C, C1, D}
 use Rattle.adapters.specs.Adapters.{retired}
-use Rattle.adapters.specs.declared.quantize.Quantized.{Quantized}
-use Rattle.adapters.specs.declared.quantize.Quantized.TheVariants.{Bits, Refused}
+use Rattle.blocks.specs.declared.refusal.Refusal.{Refusal}
 
 -- the doubles 0, 1, -1 and -0.5
 abbrev pub plus_zero : Float
@@ -46,7 +45,7 @@ unfoldable pub nearest_bits : Float → ℤ
 nearest_bits a = neg_ℤ (pos (nearest_up (num a * 2 ^ 32) (den a)))
 
 -- 02, A13: quantising for B1 or C1 is 53, before 52; 52 when that double isn't from -0.5 to 0
-unfoldable pub quantized : Tpa → Float → Quantized
+unfoldable pub quantized : Tpa → Float → Result ℤ Refusal
 quantized code g =
-    cond (retired code) (Refused 53)
-    (cond (in_range (coefficient_of code g)) (Bits (nearest_bits (coefficient_of code g))) (Refused 52))
+    cond (retired code) (Err Refusal.RetiredAdapter)
+    (cond (in_range (coefficient_of code g)) (Ok (nearest_bits (coefficient_of code g))) (Err Refusal.Coefficient))

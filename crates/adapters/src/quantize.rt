@@ -3,13 +3,7 @@ ghost use Rattle.std.specs.Prelude.{◌≡◌, T};
 ghost use Rattle.adapters.specs.Quantize.{coefficient_of, in_range, nearest_bits, quantized};
 
 use crate::tpa::Tpa;
-
-// A coefficient's bits, in units of 2^-32, or the number of the refusal.
-#[derive(Clone, Copy)]
-pub enum Quantized {
-    Bits(i32),
-    Refused(u32),
-}
+use blocks::Refusal;
 
 // The whole number nearest to a * 2^32, halves away from zero.
 fn nearest_bits(a: f64) -> i32
@@ -29,31 +23,28 @@ impl Tpa {
     {
         match self {
             Tpa::A => g - 1.0,
-            Tpa::B => -g,
-            Tpa::B1 => -g,
-            Tpa::C => g,
-            Tpa::C1 => g,
+            Tpa::B | Tpa::B1 => -g,
+            Tpa::C | Tpa::C1 => g,
             Tpa::D => -1.0 - g,
             Tpa::Z => 0.0,
             Tpa::X => 0.0,
         }
     }
 
-    // The bits of the coefficient for the pole g: the whole number nearest to its double times 2^32, halves away from zero.
-    // 53 for B1 and C1, then 52 where the double is not from -0.5 to 0, which a NaN is not and -0.0 is.
+    // The bits of the coefficient for the pole g, in units of 2^-32: the whole number nearest to its double times 2^32, halves away
+    // from zero. `RetiredAdapter` for B1 and C1, then `Coefficient` where the double is not from -0.5 to 0, which a NaN is not and
+    // -0.0 is.
     #[tactic(auto, unfolding(crate::specs::Quantize::quantized))]
-    pub fn quantize(self, g: f64) -> Quantized
+    pub fn quantize(self, g: f64) -> Result<i32, Refusal>
         ensures { result ≡ quantized self g }
     {
         if self.is_retired() {
-            return Quantized::Refused(53);
+            return Err(Refusal::RetiredAdapter);
         }
         let a = self.coefficient(g);
-        if a >= -0.5 {
-            if a <= 0.0 {
-                return Quantized::Bits(nearest_bits(a));
-            }
+        if a >= -0.5 && a <= 0.0 {
+            return Ok(nearest_bits(a));
         }
-        Quantized::Refused(52)
+        Err(Refusal::Coefficient)
     }
 }

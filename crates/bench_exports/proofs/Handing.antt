@@ -1,17 +1,22 @@
 -- A block that is handed on: what it leaves in the slice, told by the coefficients and the state that were asked for.
-use mathlib.Core.Path.{◌≡◌, sym}
+use mathlib.Core.Path.{◌≡◌, refl, sym}
 use mathlib.Core.List.{List}
-use Prim.Native.Nat.{ℕ}
+use Prim.Native.Nat.{ℕ, zero, suc}
+use borrow.Author.Rules.{rules}
+use borrow.Author.Tests.{ne_eqb}
 use lib.IntN.{ℤ}
 use mir.Syntax.{w32}
 use mir.Val.{to_z, of_z, SFits}
 use mir.ValLaws.{to_z-of_z}
-use Rattle.blocks.specs.declared.Verdict.{Verdict}
-use Rattle.blocks.specs.Blocks.{Blocked}
+use Rattle.std.specs.Prelude.{Result}
+use Rattle.std.specs.Result.{result_unwrap_or}
+use Rattle.blocks.specs.declared.refusal.Refusal.{Refusal}
+use Rattle.blocks.specs.Refusals.{answer}
+use Rattle.blocks.specs.Blocks.{Blocked, unless}
 use Rattle.bench_exports.specs.Fresh.{block_left_by, word_biquad, word_clamp}
 
 module _ {C S A B : Type 0} (k : C → ℕ) (out : C → S → A → B) (next : C → S → A → S) (xs : List A) (ys : List B) where
-  pub handed : (c d : C) (s : S) (t : S) (v : Verdict) (zs : List B) → c ≡ d → Blocked (k c) (out c) (next c) s xs ys t v zs
+  pub handed : (c d : C) (s : S) (t : S) (v : Result (Unit {0}) Refusal) (zs : List B) → c ≡ d → Blocked (k c) (out c) (next c) s xs ys t v zs
       → zs ≡ block_left_by k out next d s xs ys
   handed c d s t v zs e b = rw (sym e) b.written
 
@@ -27,3 +32,9 @@ biquad_sent {b0} {b1} {b2} {a1} {a2} f p q r s t =
 pub clamp_sent : {u min max : ℤ} → SFits w32 u → SFits w32 min → SFits w32 max → (c : _)
     → word_clamp c (sent u) (sent min) (sent max) ≡ word_clamp c u min max
 clamp_sent {u} {min} {max} p q r c = rw (to_z-of_z w32 u p, to_z-of_z w32 min q, to_z-of_z w32 max r)
+
+-- a refused maker's value is what stands in its place
+pub opened : {A : Type 0} (k : ℕ) (v stands : A) → result_unwrap_or (answer k v) stands ≡ unless k stands v
+unfolding answer
+opened zero v stands = refl
+opened (suc k) v stands = rw (ne_eqb (suc k) 0 (λ z. search rules))

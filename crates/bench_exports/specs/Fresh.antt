@@ -1,5 +1,5 @@
 -- The fresh filters that the exports start from, and the steps that they take one by one.
-use Rattle.std.specs.Prelude.{Bool, List, ℕ, ℤ, pos, replicate, Float}
+use Rattle.std.specs.Prelude.{Bool, List, ℕ, ℤ, pos, replicate, Float, Result}
 use Rattle.blocks.specs.Scan.{scan}
 use Rattle.blocks.specs.Blocks.{lengths_number, unless}
 use Rattle.sums.specs.Counted.{new_counted}
@@ -11,8 +11,10 @@ use Rattle.lent.specs.declared.steps.Out.{Out}
 use Rattle.cic64.specs.Word as Word64
 use Rattle.cic64.specs.Reading as Reading64
 use Rattle.cic64.specs.declared.state.Cic as Wide
+use Rattle.dsm.specs.declared.Dsm.{Dsm}
+use Rattle.dsm.specs.Calls.{order_number, zeros_of}
 use Rattle.wdf.specs.declared.filter.Wdf.{Wdf}
-use Rattle.wdf.specs.Calls.{made_form1}
+use Rattle.wdf.specs.Calls.{sections_number, none, filter}
 use Rattle.biquad.specs.declared.biquad.Biquad.{Biquad}
 use Rattle.biquad.specs.declared.biquad_clamp.BiquadClamp.{BiquadClamp}
 use Rattle.biquad_fixed.specs.declared.coefficients.Biquad as Fixed
@@ -22,7 +24,8 @@ use Rattle.biquad_fixed.specs.declared.dither.DirectForm1Dither.{DirectForm1Dith
 use Rattle.unwrap.specs.declared.clamp_wrap.ClampWrap.{ClampWrap}
 use Rattle.unwrap.specs.declared.unwrapper.Unwrapper.{Unwrapper}
 use Rattle.unwrap.specs.declared.wrapping.Wrap.TheVariants as Wrap
-use Rattle.unwrap.specs.declared.scale.Scaled.{Scaled}
+use Rattle.std.specs.Result.{result_unwrap_or}
+use Rattle.blocks.specs.declared.refusal.Refusal.{Refusal}
 use Rattle.unwrap.specs.Scales.{scaled_of}
 use Rattle.pll.specs.declared.PLL.{PLL}
 use Rattle.pll.specs.declared.PLLState.{PLLState}
@@ -57,9 +60,14 @@ step_out s x = given_in (stepped_of s x).out
 abbrev pub step_next : Cic → ℤ → Cic
 step_next s x = (stepped_of s x).state
 
+-- The modulator, which an order above 8 makes as 0 does.
+abbrev pub fresh_dsm : ℕ → Dsm
+fresh_dsm order = unless (order_number order) (zeros_of 0) (zeros_of order)
+
 -- Sections and biquads.
 abbrev pub alike_wdf : ℕ → ℕ → ℤ → Wdf
-alike_wdf sections architecture a = (made_form1 sections architecture (replicate 8 a)).state
+alike_wdf sections architecture a =
+    unless (sections_number sections architecture) none (filter sections architecture (replicate 8 a) (replicate 8 (pos 0)))
 
 abbrev pub float_biquad : Float → Float → Float → Float → Float → Biquad
 float_biquad b0 b1 b2 a1 a2 = record { b0 = b0; b1 = b1; b2 = b2; a1 = a1; a2 = a2 }
@@ -86,9 +94,8 @@ zero_clamp = record { x0 = pos 0; clamp = Wrap.None }
 abbrev pub zero_unwrapper : Unwrapper
 zero_unwrapper = record { y = pos 0 }
 
-unfoldable pub value_in : Scaled → ℤ
-value_in (Scaled.Value y) = y
-value_in (Scaled.Refused k) = pos 0
+abbrev pub value_in : Result ℤ Refusal → ℤ
+value_in r = result_unwrap_or r (pos 0)
 
 abbrev pub scale_out : ℕ → ℤ → ℤ → ℤ
 scale_out shift hi lo = value_in (scaled_of lo hi shift)

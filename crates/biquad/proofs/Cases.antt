@@ -2,12 +2,14 @@
 use mathlib.Core.Path.{◌≡◌, refl}
 use Prim.Native.Nat.{ℕ}
 use lib.Ieee.{Float, nan, binary64, of_bits, add, mul, neg, div, eq}
-use Rattle.biquad.specs.declared.biquad_clamp.Answer.TheVariants.{Value, Refused}
+use Rattle.std.specs.Prelude.{Ok, Err}
+use Rattle.blocks.specs.declared.refusal.Refusal.{Refusal}
+use Rattle.blocks.specs.Refusals.{refusal_at, answer}
 use Rattle.biquad.specs.declared.pair.Pair.TheVariants.{Real, Complex}
 use Rattle.biquad.specs.Rounded.{nought, one}
 use Rattle.biquad.specs.Coefficients.{zpk_of, identity_of, open_of, proportional_of}
 use Rattle.biquad.specs.Forms.{sum1, zero1}
-use Rattle.biquad.specs.Answers.{answer_of, offset_of}
+use Rattle.biquad.specs.Answers.{offset_of}
 
 abbrev double : ℕ → Float
 double bits = of_bits binary64 bits
@@ -38,15 +40,15 @@ unfolding sum1 of_bits add mul
 identity_minus = refl
 
 -- the forward gain 1 - 1, and the gain -0.0 of three such coefficients, are zero: 42
-pub no_gain : offset_of (open_of (record { b0 = one; b1 = double 0xbff0_0000_0000_0000; b2 = nought; a1 = nought; a2 = nought })) ≡ Refused 42
-unfolding answer_of of_bits add eq
+pub no_gain : offset_of (open_of (record { b0 = one; b1 = double 0xbff0_0000_0000_0000; b2 = nought; a1 = nought; a2 = nought })) ≡ Err Refusal.ForwardGain
+unfolding answer refusal_at of_bits add eq
 no_gain = refl
 
-pub minus-gain : offset_of (open_of (record { b0 = minus0; b1 = minus0; b2 = minus0; a1 = nought; a2 = nought })) ≡ Refused 42
-unfolding answer_of of_bits add eq
+pub minus-gain : offset_of (open_of (record { b0 = minus0; b1 = minus0; b2 = minus0; a1 = nought; a2 = nought })) ≡ Err Refusal.ForwardGain
+unfolding answer refusal_at of_bits add eq
 minus-gain = refl
 
 -- a NaN gain is no zero: the answer is a NaN
-pub nan_gain : offset_of (open_of (proportional_of nan)) ≡ Value nan
-unfolding answer_of of_bits add eq div
+pub nan_gain : offset_of (open_of (proportional_of nan)) ≡ Ok nan
+unfolding answer of_bits add eq div
 nan_gain = refl

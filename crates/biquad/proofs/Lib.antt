@@ -1,4 +1,3 @@
-pub mod Limits
 pub mod Exact
 pub mod Adding
 pub mod Constants

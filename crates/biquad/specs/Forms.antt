@@ -6,9 +6,7 @@ use Rattle.biquad.specs.Coefficients.{coeffs}
 use Rattle.biquad.specs.declared.biquad.Biquad.{Biquad}
 use Rattle.biquad.specs.declared.biquad_clamp.BiquadClamp.{BiquadClamp}
 use Rattle.biquad.specs.declared.direct_form1.DirectForm1.{DirectForm1}
-use Rattle.biquad.specs.declared.direct_form1.Stepped1.{Stepped1}
 use Rattle.biquad.specs.declared.direct_form2_transposed.DirectForm2Transposed.{DirectForm2Transposed}
-use Rattle.biquad.specs.declared.direct_form2_transposed.Stepped2.{Stepped2}
 
 -- the clamp compares below lower, then above upper; a NaN passes
 unfoldable pub clamp_to : Float → Float → Float → Float
@@ -39,10 +37,15 @@ next1 c s x = after1 s x (sum1 c s x)
 abbrev pub next2 : Biquad → DirectForm2Transposed → Float → DirectForm2Transposed
 next2 c s x = after2 c s x (sum2 c s x)
 
-abbrev pub stepped1 : Biquad → DirectForm1 → Float → Stepped1
+-- what a step leaves and gives
+pub record Stepped (S : Type 0) : Type 0 where
+  pub state : S
+  pub y : Float
+
+abbrev pub stepped1 : Biquad → DirectForm1 → Float → Stepped DirectForm1
 stepped1 c s x = record { state = next1 c s x; y = sum1 c s x }
 
-abbrev pub stepped2 : Biquad → DirectForm2Transposed → Float → Stepped2
+abbrev pub stepped2 : Biquad → DirectForm2Transposed → Float → Stepped DirectForm2Transposed
 stepped2 c s x = record { state = next2 c s x; y = sum2 c s x }
 
 -- with clamp the limited sum is the output, and it goes into the state

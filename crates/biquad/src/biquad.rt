@@ -2,7 +2,9 @@
 ghost use Rattle.std.specs.Prelude.{◌≡◌};
 ghost use Rattle.biquad.specs.Coefficients.{proportional_of, identity_of, hold_of, zpk_of, forward_gain};
 
+use crate::form::Coefficients;
 use crate::pair::Pair;
+use blocks::Refusal;
 
 // a1 and a2 have the sign in which the recurrence adds them.
 #[derive(Clone, Copy)]
@@ -66,6 +68,15 @@ impl Biquad {
         ensures { result ≡ forward_gain self }
     {
         self.b0 + self.b1 + self.b2
+    }
+}
+
+impl Coefficients for Biquad {
+    ghost number = { λ c. 0 };
+
+    // None is refused.
+    fn refusal(self) -> Result<(), Refusal> {
+        Ok(())
     }
 }
 

@@ -5,6 +5,8 @@ ghost use Rattle.biquad.specs.Forms.{clamp_to, limited_of};
 ghost use Rattle.biquad.specs.Answers.{limit_number, offset_of};
 
 use crate::biquad::Biquad;
+use crate::form::Coefficients;
+use blocks::Refusal;
 
 #[derive(Clone, Copy)]
 pub struct BiquadClamp {
@@ -20,18 +22,11 @@ pub struct BiquadClamp {
     pub max: f64,
 }
 
-// A value, or a refusal's number.
-#[derive(Clone, Copy)]
-pub enum Answer {
-    Value(f64),
-    Refused(u32),
-}
+impl From<Biquad> for BiquadClamp {
+    ghost from_gives = { λ coeff c. c ≡ open_of coeff };
 
-impl BiquadClamp {
     // The coefficients with no offset and no limits: 0, -inf and +inf.
-    pub fn from(coeff: Biquad) -> BiquadClamp
-        ensures { result ≡ open_of coeff }
-    {
+    fn from(coeff: Biquad) -> BiquadClamp {
         BiquadClamp {
             b0: coeff.b0,
             b1: coeff.b1,
@@ -43,7 +38,9 @@ impl BiquadClamp {
             max: 1.0 / 0.0,
         }
     }
+}
 
+impl BiquadClamp {
     // The coefficients alone.
     pub fn coeff(self) -> Biquad
         ensures { result ≡ coeffs self }
@@ -58,38 +55,21 @@ impl BiquadClamp {
     }
 
     // The offset referred to the input. 42 where the forward gain equals zero, of either sign.
-    pub fn input_offset(self) -> Answer
+    pub fn input_offset(self) -> Result<f64, Refusal>
         ensures { result ≡ offset_of self }
     {
         let gain = self.coeff().forward_gain();
         if gain == 0.0 {
-            return Answer::Refused(42);
+            return Err(Refusal::ForwardGain);
         }
-        Answer::Value(self.u / gain)
+        Ok(self.u / gain)
     }
 
     // The offset set so that it is i, referred to the input; all else stays.
-    pub fn set_input_offset(mut self, i: f64) -> BiquadClamp
-        ensures { result ≡ with_offset self i }
+    pub fn set_input_offset(&mut self, i: f64)
+        ensures { self.new ≡ with_offset self.old i }
     {
         self.u = i * self.coeff().forward_gain();
-        self
-    }
-
-    // The limits' refusal: 41 where the lower is above the upper or one is a NaN, else 0.
-    pub(crate) fn limits(self) -> u32
-        ensures { result ≡ limit_number self }
-    {
-        if self.min > self.max {
-            return 41;
-        }
-        if self.min != self.min {
-            return 41;
-        }
-        if self.max != self.max {
-            return 41;
-        }
-        0
     }
 
     // A sum with the offset added, then clamped.
@@ -101,7 +81,20 @@ impl BiquadClamp {
     }
 }
 
+impl Coefficients for BiquadClamp {
+    ghost number = { limit_number };
+
+    // 41 where the lower limit is above the upper or one is a NaN.
+    fn refusal(self) -> Result<(), Refusal> {
+        if self.min > self.max || self.min.is_nan() || self.max.is_nan() {
+            return Err(Refusal::Limits);
+        }
+        Ok(())
+    }
+}
+
 // The lower limit where y is below it, else the upper where y is above it, else y: so a NaN passes.
+// Kept: `f64::clamp` asks that the limits are in order, and `limited` is for any.
 #[tactic(auto, unfolding(crate::specs::Forms::clamp_to))]
 fn clamp(y: f64, min: f64, max: f64) -> f64
     ensures { result ≡ clamp_to min max y }

@@ -10,4 +10,5 @@ pub mod biquad;
 pub mod biquad_clamp;
 pub mod direct_form1;
 pub mod direct_form2_transposed;
+mod form;
 pub mod pair;

@@ -5,18 +5,18 @@ use Prim.Native.Nat.{ℕ}
 use lib.IntN.{ℤ, pos, negsuc}
 use Rattle.words.specs.Words as W
 use Rattle.biquad_fixed.specs.declared.coefficients.Biquad.{Biquad}
-use Rattle.biquad_fixed.specs.declared.coefficients.Answer.TheVariants.{Value, Refused}
+use Rattle.std.specs.Prelude.{Ok, Err}
+use Rattle.blocks.specs.declared.refusal.Refusal.{Refusal}
+use Rattle.blocks.specs.Refusals as R
 use Rattle.biquad_fixed.specs.declared.wide.DirectForm1Wide.{DirectForm1Wide}
-use Rattle.biquad_fixed.specs.declared.wide.WideStep.{WideStep}
 use Rattle.biquad_fixed.specs.declared.dither.DirectForm1Dither.{DirectForm1Dither}
-use Rattle.biquad_fixed.specs.declared.dither.DitherStep.{DitherStep}
 use Rattle.biquad_fixed.specs.Forms.{wide_sum, dither_sum}
-use Rattle.biquad_fixed.specs.Answers.{wide_of, dither_of}
+use Rattle.biquad_fixed.specs.Answers.{Stepped, wide_of, dither_of}
 
 -- what a figure speaks of
 pub data Figure : Type 0 where
-  wide : WideStep → Figure
-  dither : DitherStep → Figure
+  wide : Stepped DirectForm1Wide → Figure
+  dither : Stepped DirectForm1Dither → Figure
 
 -- a case and what is said of it
 pub record Row : Type 0 where
@@ -44,31 +44,31 @@ table =
     record {
       found = dither (dither_of (gain (pos 1) 0) (form (pos 1) (pos 2) (pos 3) (pos 4) 5) (pos 6));
       said = dither
-          (record { out = Refused 40; state = form (pos 1) (pos 2) (pos 3) (pos 4) 5 });
+          (record { out = Err Refusal.FractionBits; state = form (pos 1) (pos 2) (pos 3) (pos 4) 5 });
     }
     ∷ record {
       found = dither (dither_of (gain (pos 1) 32) (form (pos 1) (pos 2) (pos 3) (pos 4) 5) (pos 6));
       said = dither
-          (record { out = Refused 40; state = form (pos 1) (pos 2) (pos 3) (pos 4) 5 });
+          (record { out = Err Refusal.FractionBits; state = form (pos 1) (pos 2) (pos 3) (pos 4) 5 });
     }
-    ∷ record { found = wide (wide_of (gain (pos 1) 32) rest (pos 6)); said = wide (record { out = Refused 40; state = rest }) }
+    ∷ record { found = wide (wide_of (gain (pos 1) 32) rest (pos 6)); said = wide (record { out = Err Refusal.FractionBits; state = rest }) }
     ∷ record {
       found = dither (dither_of (gain (pos 1073741824) 30) (form (pos 1) (pos 2) (pos 3) (pos 4) 5) (pos 6));
       said = dither
-          (record { out = Value (pos 6); state = form (pos 6) (pos 1) (pos 6) (pos 3) 5 });
+          (record { out = Ok (pos 6); state = form (pos 6) (pos 1) (pos 6) (pos 3) 5 });
     }
     ∷ record {
       found = dither (dither_of (gain (pos 1) 1) (form (pos 0) (pos 0) (pos 0) (pos 0) 0) (negsuc 2));
       said = dither
-          (record { out = Value (negsuc 1); state = form (negsuc 2) (pos 0) (negsuc 1) (pos 0) 1 });
+          (record { out = Ok (negsuc 1); state = form (negsuc 2) (pos 0) (negsuc 1) (pos 0) 1 });
     }
     ∷ record {
       found = wide (wide_of (gain (pos 1) 1) rest (negsuc 2));
       said = wide
-          (record { out = Value (negsuc 1); state = record { x1 = negsuc 2; x2 = pos 0; y1 = negsuc 6442450943; y2 = pos 0 } });
+          (record { out = Ok (negsuc 1); state = record { x1 = negsuc 2; x2 = pos 0; y1 = negsuc 6442450943; y2 = pos 0 } });
     }
     ∷ []
 
 pub figures : Holds table
-unfolding W.word W.wrap wide_sum dither_sum
+unfolding R.answer R.refusal_at W.word W.wrap wide_sum dither_sum
 figures = (refl, (refl, (refl, (refl, (refl, (refl, tt))))))

@@ -1,7 +1,7 @@
 -- What an accepted call knows: its fraction bits lie in range, and a clamped output within its limits.
 use mathlib.Core.Path.{◌≡◌, refl}
 use mathlib.Core.Bool.{Bool, true, false, ◌||◌, cond}
-use Prim.Native.Nat.{ℕ, zero, suc, ◌≤◌}
+use Prim.Native.Nat.{ℕ, ◌≤◌}
 use native.Mathlib.Omega.{arith}
 use borrow.Author.Tests.{ltb-false, le-ltb}
 use lib.Dec.{ltb}
@@ -11,9 +11,8 @@ use mir.Syntax.{w32}
 use Rattle.words.specs.Words.{wrap}
 use Rattle.biquad_fixed.specs.declared.coefficients.Biquad.{Biquad}
 use Rattle.biquad_fixed.specs.declared.coefficients.BiquadClamp.{BiquadClamp}
-use Rattle.biquad_fixed.specs.declared.coefficients.Answer.TheVariants.{Refused}
 use Rattle.biquad_fixed.specs.Forms.{held_to, limited}
-use Rattle.biquad_fixed.specs.Answers.{fraction_number, clamp_number, answer_at}
+use Rattle.biquad_fixed.specs.Answers.{fraction_number, clamp_number}
 
 pub in_range_law : (least : ℕ) (c : Biquad) → fraction_number least c ≡ 0 → (least ≤ c.f) × (c.f ≤ 31)
 in_range_law least c e = pick (ltb c.f least) (ltb 31 c.f) refl refl e
@@ -56,8 +55,3 @@ module _ (least : ℕ) (c : BiquadClamp) (ok : clamp_number least c ≡ 0) where
       pick true d p q = rw p (never c.min, ordered)
       pick false true p q = rw (p, q) (ordered, never c.max)
       pick false false p q = rw (p, q) (p, q)
-
--- a number that is none is a refusal
-pub refused-answer : (k : ℕ) (y : ℤ) → (k ≡ 0 → ⊥) → Refused k ≡ answer_at k y
-refused-answer zero y h = absurd (h refl)
-refused-answer (suc k) y h = refl

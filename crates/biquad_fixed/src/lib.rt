@@ -7,4 +7,5 @@
 
 pub mod coefficients;
 pub mod dither;
+mod form;
 pub mod wide;

@@ -2,7 +2,7 @@
 use Rattle.std.proofs.Common.{◌≡◌, ℕ, zero, suc, refl, rules, ap, sym, ◌∙◌}
 use Rattle.std.specs.Prelude.{Result, Ok, Err}
 use Rattle.blocks.specs.declared.refusal.Refusal.{Refusal}
-use Rattle.blocks.specs.Refusals.{number_of, refusal_at, answer, number_in}
+use Rattle.blocks.specs.Refusals.{number_of, refusal_at, answer}
 
 -- the table read either way
 pub at_number : (r : Refusal) → refusal_at (number_of r) ≡ r

@@ -6,8 +6,7 @@ use borrow.Author.Rules.{rules}
 use borrow.Author.Tests.{eq-eqb, ne_eqb}
 use lib.ListN.{length}
 use Rattle.std.specs.Prelude.{Result, Ok, Err}
-use Rattle.blocks.specs.declared.Verdict.{Verdict}
-use Rattle.blocks.specs.declared.Verdict.TheVariants.{Done, Refused}
+use Rattle.blocks.specs.declared.Verdict.TheVariants.{Refused}
 use Rattle.blocks.specs.Verdicts.{verdict_of}
 use Rattle.blocks.specs.declared.refusal.Refusal.{Refusal}
 use Rattle.blocks.specs.Refusals.{refusal_at, answer}
@@ -24,8 +23,11 @@ refused (suc k) h = refl
 pub kept : {A : Type 0} (k : ℕ) (a b : A) → (k ≡ 0 → ⊥) → a ≡ unless k a b
 kept k a b h = rw (ne_eqb k 0 h)
 
+pub came : {A : Type 0} (k : ℕ) (a b : A) → k ≡ 0 → b ≡ unless k a b
+came k a b e = rw (eq-eqb k 0 e)
+
 -- what is refused has a number
-never : {V : Type 0} (k : ℕ) (v : V) (r : Refusal) → ◌≡◌ {A = Result V Refusal} (Err r) (answer k v) → k ≡ 0 → ⊥
+pub never : {V : Type 0} (k : ℕ) (v : V) (r : Refusal) → ◌≡◌ {A = Result V Refusal} (Err r) (answer k v) → k ≡ 0 → ⊥
 unfolding answer
 never k v r e z = search (rules, e, z)
 

@@ -6,10 +6,12 @@ use crate::refusal::Refusal;
 
 pub trait Filter {
     type Input: Copy;
+
     type Output: Copy;
 
     // What a step gives, and the state after it.
     ghost gives: { Self → Self.Input → Self.Output };
+
     ghost after: { Self → Self.Input → Self };
 
     fn process(&mut self, x: Self::Input) -> Self::Output
@@ -27,7 +29,11 @@ pub fn run<F: Filter>(filter: &mut F, xs: &[F::Input], ys: &mut [F::Output])
 }
 
 // The same where the slices may differ in length: then it is refused, and nothing changes.
-pub fn block<F: Filter>(filter: &mut F, xs: &[F::Input], ys: &mut [F::Output]) -> Result<(), Refusal>
+pub fn block<F: Filter>(
+    filter: &mut F,
+    xs: &[F::Input],
+    ys: &mut [F::Output],
+) -> Result<(), Refusal>
     ensures { Blocked 0 F.gives F.after filter.old xs.now ys.old filter.new result ys.new }
 {
     if xs.len() != ys.len() {

@@ -1,10 +1,9 @@
 -- The program byte by byte: where a byte leaves it and what it gives out; of a part of the input, and of the whole.
-use Rattle.std.specs.Prelude.{◌≡◌, Bool, true, false, cond, List, [], ◌∷◌, ◌++◌, ℕ, ◌+◌, min, ltb, eqb, length}
+use Rattle.std.specs.Prelude.{◌≡◌, Bool, true, false, cond, List, [], ◌∷◌, ◌++◌, ℕ, ◌+◌, min, ltb, eqb, length, ℤ, Result, Ok, Err}
 use Rattle.std.proofs.Math.Option.{Option, some, none}
 use Rattle.text.specs.Letters.{newline}
-use Rattle.adapters.specs.declared.quantize.Quantized.{Quantized}
-use Rattle.adapters.specs.declared.quantize.Quantized.TheVariants.{Bits, Refused}
-use Rattle.coefficient_lines.specs.Lines.{long_number, cut_number, line_bits, refused_line, answer_bytes}
+use Rattle.blocks.specs.declared.refusal.Refusal.{Refusal}
+use Rattle.coefficient_lines.specs.Lines.{cut_number, line_bits, refused_line, answer_bytes}
 
 -- how many lines came before, the line so far, and whether to go on
 pub record Standing : Type 0 where
@@ -16,19 +15,19 @@ pub record Standing : Type 0 where
 abbrev pub one_more : ℕ → ℕ
 one_more n = min (n + 1) 18446744073709551615
 
-abbrev pub is_accepted : Quantized → Bool
-is_accepted (Bits b) = true
-is_accepted (Refused n) = false
+abbrev pub is_accepted : Result ℤ Refusal → Bool
+is_accepted (Ok b) = true
+is_accepted (Err r) = false
 
 -- what a byte's line is answered: a newline ends it, and so does its 65th byte
-abbrev pub ended_by : List ℕ → ℕ → Option Quantized
-ended_by line b = cond (eqb b newline) (some (line_bits line)) (cond (ltb (length line) 64) none (some (Refused long_number)))
+abbrev pub ended_by : List ℕ → ℕ → Option (Result ℤ Refusal)
+ended_by line b = cond (eqb b newline) (some (line_bits line)) (cond (ltb (length line) 64) none (some (Err Refusal.LongLine)))
 
-abbrev pub standing_at : Standing → ℕ → Option Quantized → Standing
+abbrev pub standing_at : Standing → ℕ → Option (Result ℤ Refusal) → Standing
 standing_at s b none = record { lines = s.lines; line = s.line ++ (b ∷ []); going = true }
 standing_at s b (some q) = record { lines = one_more s.lines; line = []; going = is_accepted q }
 
-abbrev pub end_given : Standing → Option Quantized → List ℕ
+abbrev pub end_given : Standing → Option (Result ℤ Refusal) → List ℕ
 end_given s none = []
 end_given s (some q) = answer_bytes (one_more s.lines) q
 

@@ -18,12 +18,13 @@ use Rattle.text.specs.declared.hex.Pattern.{Pattern}
 use Rattle.text.proofs.Parting.{before-take}
 use Rattle.text.proofs.Putting.{written, then_puts, wrote-same}
 use Rattle.text.proofs.Spelling.{spelt-short, decimal_most, signed-most}
-use Rattle.adapters.specs.declared.quantize.Quantized.TheVariants.{Refused}
+use Rattle.std.specs.Prelude.{ℤ, Result, Err}
+use Rattle.blocks.specs.declared.refusal.Refusal.{Refusal}
 use Rattle.coefficient_lines.specs.declared.adapter.Adapter.{Adapter}
 use Rattle.coefficient_lines.specs.Lines.{adapter_of, pole_bits, line_bits, bits_line, refused_line}
 
 module _ (l : List ℕ) where
-  pub line-long : 64 < length l → Refused 72 ≡ line_bits l
+  pub line-long : 64 < length l → ◌≡◌ {A = Result ℤ Refusal} (Err Refusal.LongLine) (line_bits l)
   unfolding line_bits
   line-long h = sym (rw (lt-ltb 64 (length l) h))
 

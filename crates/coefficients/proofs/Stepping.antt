@@ -12,8 +12,8 @@ use borrow.Author.Tests.{eq-eqb, ne_eqb, lt-ltb, le-ltb}
 use Rattle.text.specs.Letters.{newline}
 use Rattle.text.specs.Writing.{Wrote}
 use Rattle.text.proofs.Putting.{wrote-same, wrote-length, nothing, then}
-use Rattle.adapters.specs.declared.quantize.Quantized.{Quantized}
-use Rattle.adapters.specs.declared.quantize.Quantized.TheVariants.{Refused}
+use Rattle.std.specs.Prelude.{ℤ, Result, Err}
+use Rattle.blocks.specs.declared.refusal.Refusal.{Refusal}
 use Rattle.coefficients.specs.declared.parts.Place.{Place}
 use Rattle.coefficient_lines.specs.Lines.{line_bits, answer_bytes, refused_line}
 use Rattle.coefficient_lines.specs.Parts.{Standing, one_more, is_accepted, ended_by, byte_after, byte_given, part_after, part_given}
@@ -26,10 +26,10 @@ module _ (p : Place) (line : List ℕ) (b : ℕ) where
   abbrev line_at : List ℕ
   line_at = take p.len line
 
-  pub ends-newline : (q : Quantized) → b ≡ newline → q ≡ line_bits line_at → ended_by line_at b ≡ some q
+  pub ends-newline : (q : Result ℤ Refusal) → b ≡ newline → q ≡ line_bits line_at → ended_by line_at b ≡ some q
   ends-newline q e f = rw (eq-eqb b newline e, f)
 
-  pub ends-long : (b ≡ newline → ⊥) → p.len ≡ 64 → length line ≡ 64 → ended_by line_at b ≡ some (Refused 72)
+  pub ends-long : (b ≡ newline → ⊥) → p.len ≡ 64 → length line ≡ 64 → ended_by line_at b ≡ some (Err Refusal.LongLine)
   ends-long e f g =
       let n : length line_at ≡ 64 = length-take-le p.len line (omega arith) ∙ f in
       rw (ne_eqb b newline e, le-ltb (length line_at) 64 (omega arith))
@@ -39,15 +39,15 @@ module _ (p : Place) (line : List ℕ) (b : ℕ) where
       let n : length line_at ≡ p.len = length-take-le p.len line (omega arith) in
       rw (ne_eqb b newline e, lt-ltb (length line_at) 64 (omega arith))
 
-  abbrev ended : Quantized → Place
+  abbrev ended : Result ℤ Refusal → Place
   ended q = record { len = 0; lines = one_more p.lines; going = is_accepted q }
 
-  pub ended-place : (q : Quantized) (r : Place) (line' : List ℕ) → ended_by line_at b ≡ some q → r ≡ ended q
+  pub ended-place : (q : Result ℤ Refusal) (r : Place) (line' : List ℕ) → ended_by line_at b ≡ some q → r ≡ ended q
       → standing_of r line' ≡ byte_after (standing_of p line) b
   unfolding byte_after
   ended-place q r line' e f = rw (e, f)
 
-  pub ended-given : (q : Quantized) → ended_by line_at b ≡ some q → answer_bytes (one_more p.lines) q ≡ byte_given (standing_of p line) b
+  pub ended-given : (q : Result ℤ Refusal) → ended_by line_at b ≡ some q → answer_bytes (one_more p.lines) q ≡ byte_given (standing_of p line) b
   unfolding byte_given
   ended-given q e = rw e
 

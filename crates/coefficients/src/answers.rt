@@ -4,23 +4,14 @@ ghost use Rattle.text.specs.Writing.{Wrote};
 ghost use Rattle.coefficient_lines.specs.Lines.{letter_of, adapter_of, line_bits, pole_bits, bits_line, refused_line, answer_bytes};
 ghost use Rattle.coefficient_lines.specs.Parts.{is_accepted};
 
-use adapters::quantize::Quantized;
 use adapters::tpa::Tpa;
+use blocks::Refusal;
 use coefficient_lines::adapter::Adapter;
 use rust_answers::doubles::from_bits;
 use text::comparing::same_bytes;
 use text::hex::{Pattern, hex_word};
 use text::parts::part_end;
 use text::writing::{put_byte, put_bytes, put_decimal, put_signed};
-
-// What a line is refused with: over 64 bytes, a name that is no adapter's, other than 16 hex digits behind it, no end.
-pub(crate) const LONG: u32 = 72;
-
-const NAME: u32 = 73;
-
-const DIGITS: u32 = 75;
-
-pub(crate) const CUT: u32 = 77;
 
 // The adapter that one letter names.
 #[tactic(auto, unfolding(coefficient_lines::specs::Lines::letter_of))]
@@ -62,25 +53,25 @@ fn named_by(name: &[u8]) -> Adapter
 }
 
 // The bits of an adapter's coefficient for the pole of these digits.
-fn pole_bits(named: Adapter, digits: Pattern) -> Quantized
+fn pole_bits(named: Adapter, digits: Pattern) -> Result<i32, Refusal>
     ensures { result ≡ pole_bits named digits }
 {
     let Adapter::Named(code) = named else {
-        return Quantized::Refused(NAME);
+        return Err(Refusal::UnknownRecord);
     };
     let Pattern::Bits(bits) = digits else {
-        return Quantized::Refused(DIGITS);
+        return Err(Refusal::Malformed);
     };
     code.quantize(from_bits(bits))
 }
 
-// A line's bits, or the number of its refusal: 72 where it has over 64 bytes, 73 by its name, 75 by its digits,
-// else the adapter's own, 53 or 52.
-pub(crate) fn line_bits(line: &[u8]) -> Quantized
+// A line's bits, or its refusal: `LongLine` where it has over 64 bytes, `UnknownRecord` by its name, `Malformed` by its digits,
+// else the adapter's own, `RetiredAdapter` or `Coefficient`.
+pub(crate) fn line_bits(line: &[u8]) -> Result<i32, Refusal>
     ensures { result ≡ line_bits line.now }
 {
     if 64 < line.len() {
-        return Quantized::Refused(LONG);
+        return Err(Refusal::LongLine);
     }
     let e = part_end(line, 0, b'\t');
     let named = named_by(&line[..e]);
@@ -114,13 +105,18 @@ fn put_refused(out: &mut [u8], at: usize, line: u64, number: u32) -> usize
 }
 
 // What is answered for a line with this number.
-pub(crate) fn put_answer(out: &mut [u8], at: usize, number: u64, answer: Quantized) -> usize
+pub(crate) fn put_answer(
+    out: &mut [u8],
+    at: usize,
+    number: u64,
+    answer: Result<i32, Refusal>,
+) -> usize
     requires { at + 36 ≤ length out.old }
     ensures { Wrote out.old at (answer_bytes number answer) result out.new × (result ≤ at + 36)
         × (is_accepted answer ≡ true → result ≤ at + 12) }
 {
     match answer {
-        Quantized::Bits(bits) => put_bits(out, at, bits),
-        Quantized::Refused(refused) => put_refused(out, at, number, refused),
+        Ok(bits) => put_bits(out, at, bits),
+        Err(refusal) => put_refused(out, at, number, refusal.number()),
     }
 }

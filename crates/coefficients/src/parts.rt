@@ -13,8 +13,8 @@ ghost use Rattle.coefficient_lines.specs.Parts.{
 };
 ghost use Rattle.coefficients.specs.Places.{standing_of};
 
-use crate::answers::{CUT, LONG, line_bits, put_answer};
-use adapters::quantize::Quantized;
+use crate::answers::{line_bits, put_answer};
+use blocks::Refusal;
 
 // Where the input stands: the length of the line so far, how many lines came before it, and whether to go on.
 #[derive(Clone, Copy)]
@@ -35,24 +35,11 @@ pub struct Taken {
 fn count_up(n: u64) -> u64
     ensures { result ≡ one_more n }
 {
-    if n < 18446744073709551615 {
-        n + 1
-    } else {
-        18446744073709551615
-    }
-}
-
-fn accepted(answer: Quantized) -> bool
-    ensures { result ≡ is_accepted answer }
-{
-    match answer {
-        Quantized::Bits(_) => true,
-        Quantized::Refused(_) => false,
-    }
+    n.saturating_add(1)
 }
 
 // The place after a line that was answered so, and its answer.
-fn end_line(lines: u64, answer: Quantized, out: &mut [u8], at: usize) -> Taken
+fn end_line(lines: u64, answer: Result<i32, Refusal>, out: &mut [u8], at: usize) -> Taken
     requires { at + 36 ≤ length out.old }
     ensures { (result.place ≡ (record { len = 0; lines = one_more lines; going = is_accepted answer }))
         × Wrote out.old at (answer_bytes (one_more lines) answer) result.next out.new
@@ -64,7 +51,7 @@ fn end_line(lines: u64, answer: Quantized, out: &mut [u8], at: usize) -> Taken
         place: Place {
             len: 0,
             lines: number,
-            going: accepted(answer),
+            going: answer.is_ok(),
         },
         next,
     }
@@ -85,7 +72,7 @@ fn take_byte(line: &mut [u8], p: Place, b: u8, out: &mut [u8], at: usize) -> Tak
         return end_line(lines, answer, out, at);
     }
     if len == 64 {
-        return end_line(lines, Quantized::Refused(LONG), out, at);
+        return end_line(lines, Err(Refusal::LongLine), out, at);
     }
     line[len] = b;
     Taken {
@@ -141,5 +128,5 @@ pub(crate) fn put_last(line: &[u8], p: Place, out: &mut [u8]) -> usize
         return 0;
     }
     let number = count_up(p.lines);
-    put_answer(out, 0, number, Quantized::Refused(CUT))
+    put_answer(out, 0, number, Err(Refusal::Unterminated))
 }

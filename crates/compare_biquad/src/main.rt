@@ -6,16 +6,15 @@
 ghost use Rattle.std.specs.Prelude.{◌<◌};
 
 use biquad::biquad::Biquad;
-use biquad::biquad_clamp::{Answer, BiquadClamp};
+use biquad::biquad_clamp::BiquadClamp;
 use biquad::direct_form1::DirectForm1;
 use biquad::direct_form2_transposed::DirectForm2Transposed;
-use blocks::Verdict;
+use blocks::{Refusal, number};
 use rust_answers::doubles::{from_bits, to_bits};
 use rust_answers::input::read_full;
 use rust_answers::lines::{double, line, report, tally, unlike_double};
 use rust_answers::runs::{digest_double, draw};
 use std::io;
-use words::unsigned::add_u64;
 
 const LINES: u32 = 600;
 
@@ -48,77 +47,117 @@ fn filter(w: [u32; 40]) -> BiquadClamp {
     }
 }
 
-fn form1(w: [u32; 40]) -> DirectForm1 {
-    DirectForm1 {
-        x1: value(w, 17),
-        x2: value(w, 19),
-        y1: value(w, 21),
-        y2: value(w, 23),
+// Either direct form, as the lines have it.
+trait Form: Copy {
+    fn zeros() -> Self;
+
+    fn of_line(w: [u32; 40]) -> Self;
+
+    // The cells, with zeros behind them.
+    fn cells(self) -> [f64; 4];
+
+    fn step(&mut self, c: Biquad, x: f64) -> f64;
+
+    fn step_clamped(&mut self, c: BiquadClamp, x: f64) -> Result<f64, Refusal>;
+
+    fn run(&mut self, c: Biquad, xs: &[f64], ys: &mut [f64]) -> Result<(), Refusal>;
+
+    fn run_clamped(&mut self, c: BiquadClamp, xs: &[f64], ys: &mut [f64]) -> Result<(), Refusal>;
+}
+
+impl Form for DirectForm1 {
+    fn zeros() -> DirectForm1 {
+        DirectForm1::default()
+    }
+
+    fn of_line(w: [u32; 40]) -> DirectForm1 {
+        DirectForm1 {
+            x1: value(w, 17),
+            x2: value(w, 19),
+            y1: value(w, 21),
+            y2: value(w, 23),
+        }
+    }
+
+    fn cells(self) -> [f64; 4] {
+        [self.x1, self.x2, self.y1, self.y2]
+    }
+
+    fn step(&mut self, c: Biquad, x: f64) -> f64 {
+        self.process(c, x)
+    }
+
+    fn step_clamped(&mut self, c: BiquadClamp, x: f64) -> Result<f64, Refusal> {
+        self.process_clamp(c, x)
+    }
+
+    fn run(&mut self, c: Biquad, xs: &[f64], ys: &mut [f64]) -> Result<(), Refusal> {
+        self.block(c, xs, ys)
+    }
+
+    fn run_clamped(&mut self, c: BiquadClamp, xs: &[f64], ys: &mut [f64]) -> Result<(), Refusal> {
+        self.block_clamp(c, xs, ys)
     }
 }
 
-fn form2(w: [u32; 40]) -> DirectForm2Transposed {
-    DirectForm2Transposed {
-        s1: value(w, 17),
-        s2: value(w, 19),
+impl Form for DirectForm2Transposed {
+    fn zeros() -> DirectForm2Transposed {
+        DirectForm2Transposed::default()
+    }
+
+    fn of_line(w: [u32; 40]) -> DirectForm2Transposed {
+        DirectForm2Transposed {
+            s1: value(w, 17),
+            s2: value(w, 19),
+        }
+    }
+
+    fn cells(self) -> [f64; 4] {
+        [self.s1, self.s2, 0.0, 0.0]
+    }
+
+    fn step(&mut self, c: Biquad, x: f64) -> f64 {
+        self.process(c, x)
+    }
+
+    fn step_clamped(&mut self, c: BiquadClamp, x: f64) -> Result<f64, Refusal> {
+        self.process_clamp(c, x)
+    }
+
+    fn run(&mut self, c: Biquad, xs: &[f64], ys: &mut [f64]) -> Result<(), Refusal> {
+        self.block(c, xs, ys)
+    }
+
+    fn run_clamped(&mut self, c: BiquadClamp, xs: &[f64], ys: &mut [f64]) -> Result<(), Refusal> {
+        self.block_clamp(c, xs, ys)
     }
 }
 
-// 1 where the output or the state after differs from the line's.
-fn answer_differs(w: [u32; 40], y: f64, s: [f64; 4]) -> u64 {
+// 1 where the output or the cells after differ from the line's.
+fn answer_differs(w: [u32; 40], y: f64, cells: [f64; 4]) -> u64 {
     if other(w, 27, y) != 0 {
         return 1;
     }
-    if other(w, 29, s[0]) != 0 {
-        return 1;
+    for j in 0..4 {
+        if other(w, 29 + 2 * j, cells[j]) != 0 {
+            return 1;
+        }
     }
-    if other(w, 31, s[1]) != 0 {
-        return 1;
+    0
+}
+
+fn step<F: Form>(w: [u32; 40]) -> u64 {
+    let mut state = F::of_line(w);
+    let y = state.step(filter(w).coeff(), value(w, 25));
+    answer_differs(w, y, state.cells())
+}
+
+fn clamped_step<F: Form>(w: [u32; 40]) -> u64 {
+    let mut state = F::of_line(w);
+    match state.step_clamped(filter(w), value(w, 25)) {
+        Ok(y) => answer_differs(w, y, state.cells()),
+        Err(_) => 1,
     }
-    if other(w, 33, s[2]) != 0 {
-        return 1;
-    }
-    other(w, 35, s[3])
-}
-
-fn values1(s: DirectForm1) -> [f64; 4] {
-    [s.x1, s.x2, s.y1, s.y2]
-}
-
-fn values2(s: DirectForm2Transposed) -> [f64; 4] {
-    [s.s1, s.s2, 0.0, 0.0]
-}
-
-fn step1(w: [u32; 40]) -> u64 {
-    let r = form1(w).process(filter(w).coeff(), value(w, 25));
-    let s = r.state;
-    answer_differs(w, r.y, values1(s))
-}
-
-fn clamped1(w: [u32; 40]) -> u64 {
-    let r = form1(w).process_clamp(filter(w), value(w, 25));
-    let s = r.state;
-    let out = r.out;
-    let Answer::Value(y) = out else {
-        return 1;
-    };
-    answer_differs(w, y, values1(s))
-}
-
-fn step2(w: [u32; 40]) -> u64 {
-    let r = form2(w).process(filter(w).coeff(), value(w, 25));
-    let s = r.state;
-    answer_differs(w, r.y, values2(s))
-}
-
-fn clamped2(w: [u32; 40]) -> u64 {
-    let r = form2(w).process_clamp(filter(w), value(w, 25));
-    let s = r.state;
-    let out = r.out;
-    let Answer::Value(y) = out else {
-        return 1;
-    };
-    answer_differs(w, y, values2(s))
 }
 
 // A number of size 1/8 to 2 from two drawn words.
@@ -131,19 +170,19 @@ fn moderate(h: u32, l: u32) -> f64 {
 // The next block of inputs, drawn from the generator's state; gives the state after.
 fn fill(xs: &mut [f64], state: u64) -> u64 {
     let mut s = state;
-    for i in 0..xs.len() {
+    for x in xs {
         let h = draw(s);
         let l = draw(h.state);
         s = l.state;
-        xs[i] = moderate(h.value, l.value);
+        *x = moderate(h.value, l.value);
     }
     s
 }
 
 fn digest_all(d: u64, ys: &[f64]) -> u64 {
     let mut e = d;
-    for i in 0..ys.len() {
-        e = digest_double(e, to_bits(ys[i]));
+    for &y in ys {
+        e = digest_double(e, to_bits(y));
     }
     e
 }
@@ -159,101 +198,40 @@ fn inputs(xs: &mut [f64; 16], state: u64, impulse: bool, i: u32) -> u64 {
     state
 }
 
-// A state of each form, the generator, and the digest of the outputs so far.
-#[derive(Drop)]
-struct Running {
-    form1: DirectForm1,
-    form2: DirectForm2Transposed,
-    draws: u64,
-    digest: u64,
-}
-
-fn with_form1(r: Running, form1: DirectForm1, draws: u64, ys: &[f64]) -> Running {
-    let form2 = r.form2;
-    Running {
-        form1,
-        form2,
-        draws,
-        digest: digest_all(r.digest, ys),
-    }
-}
-
-fn with_form2(r: Running, form2: DirectForm2Transposed, draws: u64, ys: &[f64]) -> Running {
-    let form1 = r.form1;
-    Running {
-        form1,
-        form2,
-        draws,
-        digest: digest_all(r.digest, ys),
-    }
-}
-
-// A block of these inputs.
-fn blocked(r: Running, code: u32, c: BiquadClamp, xs: &[f64; 16], draws: u64) -> Running {
-    let mut ys = [0.0; 16];
-    let s = r.form1;
-    let t = r.form2;
-    match code {
-        5 | 9 => {
-            let after = s.block(c.coeff(), xs, &mut ys).state;
-            with_form1(r, after, draws, &ys)
+// The digest of a run from zero, in blocks of 16 inputs from the seed or of an impulse: the outputs, then the cells. Of a
+// refused block the outputs are zeros.
+fn run<F: Form>(w: [u32; 40], clamped: bool, impulse: bool) -> u64 {
+    let c = filter(w);
+    let mut state = F::zeros();
+    let mut draws = u64::from(w[17]);
+    let mut digest = 0;
+    for i in 0..w[18] / 16 {
+        let mut xs = [0.0; 16];
+        let mut ys = [0.0; 16];
+        draws = inputs(&mut xs, draws, impulse, i);
+        if clamped {
+            let _ran = state.run_clamped(c, &xs, &mut ys);
+        } else {
+            let _ran = state.run(c.coeff(), &xs, &mut ys);
         }
-        6 | 10 => {
-            let after = s.block_clamp(c, xs, &mut ys).state;
-            with_form1(r, after, draws, &ys)
-        }
-        7 | 11 => {
-            let after = t.block(c.coeff(), xs, &mut ys).state;
-            with_form2(r, after, draws, &ys)
-        }
-        _ => {
-            let after = t.block_clamp(c, xs, &mut ys).state;
-            with_form2(r, after, draws, &ys)
-        }
+        digest = digest_all(digest, &ys);
     }
+    digest_all(digest, &state.cells())
 }
 
-// Block number i, of 16 inputs.
-fn turn(r: Running, code: u32, c: BiquadClamp, i: u32) -> Running {
-    let mut xs = [0.0; 16];
-    let draws = inputs(&mut xs, r.draws, 8 < code, i);
-    blocked(r, code, c, &xs, draws)
-}
-
-// A run from zero, from the seed or of an impulse.
-fn run(code: u32, c: BiquadClamp, seed: u32, blocks: u32) -> Running {
-    let mut r = Running {
-        form1: DirectForm1::default(),
-        form2: DirectForm2Transposed::default(),
-        draws: seed as u64,
-        digest: 0,
-    };
-    for i in 0..blocks {
-        r = turn(r, code, c, i);
-    }
-    r
-}
-
-// The digest of a run: the outputs, then the state.
-fn long_run(w: [u32; 40]) -> u64 {
-    let r = run(w[0], filter(w), w[17], w[18] / 16);
-    let s = r.form1;
-    let t = r.form2;
-    let d = match w[0] {
-        5 | 6 | 9 | 10 => digest_all(r.digest, &values1(s)),
-        _ => digest_all(r.digest, &values2(t)),
-    };
-    unlike_double(d, double(w[19], w[20]))
+fn long_run<F: Form>(w: [u32; 40]) -> u64 {
+    unlike_double(run::<F>(w, w[0] % 2 == 0, 8 < w[0]), double(w[19], w[20]))
 }
 
 // 1 where the line differs from what the proved function gives.
 fn differs(w: [u32; 40]) -> u64 {
     match w[0] {
-        1 => step1(w),
-        2 => clamped1(w),
-        3 => step2(w),
-        4 => clamped2(w),
-        _ => long_run(w),
+        1 => step::<DirectForm1>(w),
+        2 => clamped_step::<DirectForm1>(w),
+        3 => step::<DirectForm2Transposed>(w),
+        4 => clamped_step::<DirectForm2Transposed>(w),
+        5 | 6 | 9 | 10 => long_run::<DirectForm1>(w),
+        _ => long_run::<DirectForm2Transposed>(w),
     }
 }
 
@@ -272,8 +250,8 @@ fn compare(rt: &impl Print, text: &[u8], code: u32, name: &[u8]) -> io::Result<(
     for i in 0..LINES {
         let w = line(text, i * WIDTH);
         if w[0] == code {
-            cases = add_u64(cases, weight(w));
-            differ = add_u64(differ, differs(w));
+            cases = cases.wrapping_add(weight(w));
+            differ = differ.wrapping_add(differs(w));
         }
     }
     report(rt, name, cases, differ)?;
@@ -287,63 +265,24 @@ fn limits(min: f64, max: f64) -> BiquadClamp {
     c
 }
 
-// The number of a step's refusal, 0 for none.
-fn step_number(out: Answer) -> u32 {
-    match out {
-        Answer::Value(_) => 0,
-        Answer::Refused(k) => k,
-    }
-}
-
-// The number of a block's refusal, 0 for none.
-fn block_number(verdict: Verdict) -> u32 {
-    match verdict {
-        Verdict::Done => 0,
-        Verdict::Refused(k) => k,
-    }
-}
-
-fn form1_step(c: BiquadClamp) -> u32 {
-    let s = DirectForm1::default();
-    let out = s.process_clamp(c, 1.0).out;
-    step_number(out)
-}
-
-fn form2_step(c: BiquadClamp) -> u32 {
-    let s = DirectForm2Transposed::default();
-    let out = s.process_clamp(c, 1.0).out;
-    step_number(out)
-}
-
-// A block of these inputs and four outputs.
-fn form1_block(c: BiquadClamp, xs: &[f64]) -> u32 {
-    let mut ys = [2.0; 4];
-    let s = DirectForm1::default();
-    let verdict = s.block_clamp(c, xs, &mut ys).verdict;
-    block_number(verdict)
-}
-
-fn form2_block(c: BiquadClamp, xs: &[f64]) -> u32 {
-    let mut ys = [2.0; 4];
-    let s = DirectForm2Transposed::default();
-    let verdict = s.block_clamp(c, xs, &mut ys).verdict;
-    block_number(verdict)
-}
-
-fn blocks_refused(n: u64, c: BiquadClamp, xs: &[f64], number: u32) -> u64 {
-    let first = tally(n, form1_block(c, xs), number);
-    tally(first, form2_block(c, xs), number)
-}
-
-// The count n, and one more for each of six calls with these limits that has another number than this one, or than 31
+// The count n, and one more for each of three calls with these limits that has another number than is said, or than 31
 // where the slices differ in length.
-fn refused(n: u64, min: f64, max: f64, number: u32) -> u64 {
-    let c = limits(min, max);
+fn form_refused<F: Form>(n: u64, c: BiquadClamp, said: u32) -> u64 {
     let xs = [1.0; 4];
-    let first = tally(n, form1_step(c), number);
-    let steps = tally(first, form2_step(c), number);
-    let blocks = blocks_refused(steps, c, &xs, number);
-    blocks_refused(blocks, c, &xs[..3], 31)
+    let mut ys = [2.0; 4];
+    let step = tally(n, number(F::zeros().step_clamped(c, 1.0)), said);
+    let alike = tally(step, number(F::zeros().run_clamped(c, &xs, &mut ys)), said);
+    tally(
+        alike,
+        number(F::zeros().run_clamped(c, &xs[..3], &mut ys)),
+        31,
+    )
+}
+
+// The same of both forms.
+fn refused(n: u64, min: f64, max: f64, said: u32) -> u64 {
+    let c = limits(min, max);
+    form_refused::<DirectForm2Transposed>(form_refused::<DirectForm1>(n, c, said), c, said)
 }
 
 // Limits in order, equal, two zeros, crossed, and a NaN on either side.

@@ -6,13 +6,13 @@
 ghost use Rattle.std.specs.Prelude.{◌<◌, ◌≤◌};
 
 use biquad::biquad::Biquad;
-use biquad::biquad_clamp::{Answer, BiquadClamp};
+use biquad::biquad_clamp::BiquadClamp;
 use biquad::pair::Pair;
+use blocks::Refusal;
 use rust_answers::doubles::{from_bits, to_bits};
 use rust_answers::input::read_full;
 use rust_answers::lines::{double, line, report, unlike_double};
 use std::io;
-use words::unsigned::add_u64;
 
 const LINES: u32 = 1000;
 
@@ -81,17 +81,16 @@ fn gain(w: [u32; 40]) -> u64 {
 fn offset(w: [u32; 40]) -> u64 {
     let mut c = BiquadClamp::from(coefficients(w));
     c.u = value(w, 11);
-    let out = c.input_offset();
-    let Answer::Value(v) = out else {
-        return 1;
-    };
-    other(w, 13, v)
+    match c.input_offset() {
+        Ok(v) => other(w, 13, v),
+        Err(_) => 1,
+    }
 }
 
 fn set_offset(w: [u32; 40]) -> u64 {
-    let c = BiquadClamp::from(coefficients(w));
-    let d = c.set_input_offset(value(w, 11));
-    other(w, 13, d.u)
+    let mut c = BiquadClamp::from(coefficients(w));
+    c.set_input_offset(value(w, 11));
+    other(w, 13, c.u)
 }
 
 fn constant(w: [u32; 40], c: Biquad) -> u64 {
@@ -132,8 +131,8 @@ fn compare(rt: &impl Print, text: &[u8], code: u32, name: &[u8]) -> io::Result<(
     for i in 0..LINES {
         let w = line(text, i * WIDTH);
         if w[0] == code {
-            cases = add_u64(cases, 1);
-            differ = add_u64(differ, differs(w));
+            cases = cases.wrapping_add(1);
+            differ = differ.wrapping_add(differs(w));
         }
     }
     report(rt, name, cases, differ)?;
@@ -150,8 +149,8 @@ fn granted(b0: f64, b1: f64, b2: f64) -> u64
     c.b2 = b2;
     c.u = 1.0;
     match c.input_offset() {
-        Answer::Value(_) => 1,
-        Answer::Refused(k) => if k == 42 { 0 } else { 1 },
+        Err(Refusal::ForwardGain) => 0,
+        _ => 1,
     }
 }
 

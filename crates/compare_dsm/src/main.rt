@@ -4,21 +4,22 @@
 
 #![tactic(auto)]
 
-use blocks::Verdict;
-use dsm::{Dsm, Output, OutputRange};
+use blocks::number;
+use dsm::Dsm;
 use rust_answers::input::read_full;
 use rust_answers::lines::{double, line, report, size, tally, unlike, unlike_words};
 use rust_answers::runs::{digest, digest_first, draw, spread};
 use std::io;
-use words::casts::i32_as_u32;
-use words::unsigned::{add_u64, sub_u32};
 
 const LINES: u32 = 548;
 
 const WIDTH: u32 = 37;
 
+// What stands for an output where there is a refusal: no output.
+const NONE: i16 = -32768;
+
 fn word_of(y: i16) -> u32 {
-    i32_as_u32(y as i32)
+    i32::from(y).cast_unsigned()
 }
 
 // What the crate's i8 makes of y.
@@ -28,22 +29,12 @@ fn in_i8(y: i16) -> u32 {
 
 // The number that a word stands for, which is small.
 fn small(w: u32) -> i16 {
-    if w < 32768 {
-        return w as i16;
-    }
-    let below = !w;
-    if below < 32768 {
-        return !(below as i16);
-    }
-    0
+    i16::try_from(w.cast_signed()).unwrap_or(0)
 }
 
-// The output, or a number that is none where there is a refusal.
-fn value(out: Output) -> i16 {
-    match out {
-        Output::Given(y) => y,
-        Output::Refused(_) => -32768,
-    }
+// A modulator of zeros; of an order above 8 that of 0.
+fn zeros(order: usize) -> Dsm {
+    Dsm::new(order).unwrap_or(Dsm::IDLE)
 }
 
 // The accumulators, then the retained cells.
@@ -75,80 +66,36 @@ fn state_of(w: [u32; 40]) -> Dsm {
 
 // A step from any accepted state.
 fn step(w: [u32; 40]) -> u64 {
-    let r = state_of(w).process(w[18]);
-    let after = r.state;
-    let out = r.out;
-    let y = value(out);
-    if in_i8(y) != w[19] {
+    let mut modulator = state_of(w);
+    let y = modulator.process(w[18]).unwrap_or(NONE);
+    if in_i8(y) != w[19] || word_of(y) != w[36] {
         return 1;
     }
-    if word_of(y) != w[36] {
-        return 1;
-    }
-    unlike_words(&cells(after), &w[20..36])
+    unlike_words(&cells(modulator), &w[20..36])
 }
 
 // Ten inputs from zero, by a block: the outputs, and whether both ends of the output range are among them.
 fn from_zero(w: [u32; 40]) -> u64 {
-    let made = Dsm::new(size(w[1]));
-    let s = made.state;
-    let mut ys = [-32768i16; 10];
-    s.block(&w[2..12], &mut ys);
-    let range = s.output_range();
-    let OutputRange::Between(low, high) = range else {
+    let mut modulator = zeros(size(w[1]));
+    let mut ys = [NONE; 10];
+    let ran = modulator.block(&w[2..12], &mut ys);
+    let Ok(range) = modulator.output_range() else {
         return 1;
     };
-    outputs(w, &ys, word_of(low), word_of(high))
-}
-
-// Ten outputs as they are.
-fn exact_words(ys: &[i16; 10]) -> [u32; 10] {
-    let mut w = [0u32; 10];
-    for j in 0..10 {
-        w[j] = word_of(ys[j]);
-    }
-    w
-}
-
-// Ten outputs as the crate's i8 has them.
-fn narrow_words(ys: &[i16; 10]) -> [u32; 10] {
-    let mut w = [0u32; 10];
-    for j in 0..10 {
-        w[j] = in_i8(ys[j]);
-    }
-    w
-}
-
-// 1 where the outputs are not those of the line, or one of the two words is not among them.
-fn outputs(w: [u32; 40], ys: &[i16; 10], low: u32, high: u32) -> u64 {
-    let exact = exact_words(ys);
-    let narrow = narrow_words(ys);
-    if others(low, &exact) == 10 {
+    if ran.is_err() || !ys.contains(&range.least) || !ys.contains(&range.greatest) {
         return 1;
     }
-    if others(high, &exact) == 10 {
+    if unlike_words(&ys.map(in_i8), &w[12..22]) == 1 {
         return 1;
     }
-    if unlike_words(&narrow, &w[12..22]) == 1 {
-        return 1;
-    }
-    unlike_words(&exact, &w[22..32])
-}
-
-// How many of ten words are not y.
-fn others(y: u32, v: &[u32; 10]) -> u64 {
-    let mut n: u64 = 0;
-    for j in 0..10 {
-        n = add_u64(n, unlike(y, v[j]));
-    }
-    n
+    unlike_words(&ys.map(word_of), &w[22..32])
 }
 
 // A modulator that runs: what the differences saw last, the generator, digests of the outputs as they are and as the
 // crate's i8 has them, and how many differ.
 #[derive(Drop)]
 struct Running {
-    state: Dsm,
+    modulator: Dsm,
     last: [u32; 8],
     draws: u64,
     exact: u64,
@@ -156,76 +103,61 @@ struct Running {
     changed: u64,
 }
 
-fn started(order: usize, seed: u32) -> Running {
-    let made = Dsm::new(order);
-    let state = made.state;
-    Running {
-        state,
-        last: [0; 8],
-        draws: seed as u64,
-        exact: 0,
-        narrow: 0,
-        changed: 0,
+impl Running {
+    // A step on x.
+    fn step(&mut self, x: u32) {
+        let y = self.modulator.process(x).unwrap_or(NONE);
+        self.exact = digest(self.exact, word_of(y));
+        self.narrow = digest(self.narrow, in_i8(y));
+        self.changed = self.changed.wrapping_add(unlike(in_i8(y), word_of(y)));
     }
-}
 
-// A step on x.
-fn stepped(r: Running, last: [u32; 8], draws: u64, x: u32) -> Running {
-    let s = r.state;
-    let t = s.process(x);
-    let state = t.state;
-    let out = t.out;
-    let y = value(out);
-    Running {
-        state,
-        last,
-        draws,
-        exact: digest(r.exact, word_of(y)),
-        narrow: digest(r.narrow, in_i8(y)),
-        changed: add_u64(r.changed, unlike(in_i8(y), word_of(y))),
-    }
-}
-
-// The K-th difference of what `last` has seen, x being next.
-fn differenced(last: &mut [u32; 8], order: usize, x: u32) -> u32 {
-    let mut v = x;
-    for j in 0..8 {
-        if j < order {
-            let before = last[j];
-            last[j] = v;
-            v = sub_u32(v, before);
+    // The K-th difference of what `last` has seen, x being next.
+    fn difference(&mut self, x: u32) -> u32 {
+        let mut v = x;
+        for j in 0..self.modulator.order.min(8) {
+            let before = self.last[j];
+            self.last[j] = v;
+            v = v.wrapping_sub(before);
         }
+        v
     }
-    v
-}
 
-fn swing_of(step: u32, margin: u32) -> u32 {
-    if step % 2 == 0 {
-        return sub_u32(0, margin);
+    // Step number i: on a spread input, or on one under which the last accumulator swings between near 2^32 and near 0.
+    fn turn(&mut self, code: u32, i: u32) {
+        if code == 3 {
+            let drawn = spread(self.draws);
+            self.draws = drawn.state;
+            self.step(drawn.value);
+            return;
+        }
+        let drawn = draw(self.draws);
+        self.draws = drawn.state;
+        let margin = drawn.value % 1048576;
+        let swing = if i % 2 == 0 {
+            margin.wrapping_neg()
+        } else {
+            margin
+        };
+        let x = self.difference(swing);
+        self.step(x);
     }
-    margin
-}
-
-// Step number i: on a spread input, or on one under which the last accumulator swings between near 2^32 and near 0.
-fn turn(r: Running, code: u32, i: u32) -> Running {
-    let mut last = r.last;
-    if code == 3 {
-        let x = spread(r.draws);
-        return stepped(r, last, x.state, x.value);
-    }
-    let u = draw(r.draws);
-    let s = r.state;
-    let x = differenced(&mut last, s.order, swing_of(i, u.value % 1048576));
-    stepped(r, last, u.state, x)
 }
 
 // A run from zero.
 fn run(code: u32, order: usize, seed: u32, steps: u32) -> Running {
-    let mut r = started(order, seed);
+    let mut running = Running {
+        modulator: zeros(order),
+        last: [0; 8],
+        draws: u64::from(seed),
+        exact: 0,
+        narrow: 0,
+        changed: 0,
+    };
     for i in 0..steps {
-        r = turn(r, code, i);
+        running.turn(code, i);
     }
-    r
+    running
 }
 
 // The digest d grown by the K accumulators and the K - 1 retained cells.
@@ -243,7 +175,7 @@ fn long_run(w: [u32; 40]) -> u64 {
         return 1;
     }
     let r = run(w[0], order, w[2], w[3]);
-    let s = r.state;
+    let s = r.modulator;
     if digest_cells(r.narrow, s, order) != double(w[4], w[5]) {
         return 1;
     }
@@ -283,7 +215,7 @@ fn narrowed(w: [u32; 40]) -> u64 {
 fn narrowed_of_ten(w: [u32; 40]) -> u64 {
     let mut n: u64 = 0;
     for j in 0..10 {
-        n = add_u64(n, unlike(w[j + 12], w[j + 22]));
+        n = n.wrapping_add(unlike(w[j + 12], w[j + 22]));
     }
     n
 }
@@ -300,76 +232,57 @@ fn compare(rt: &impl Print, text: &[u8], code: u32, name: &[u8]) -> io::Result<(
     for i in 0..LINES {
         let w = line(text, i * WIDTH);
         if w[0] == code {
-            cases = add_u64(cases, weight(w));
-            differ = add_u64(differ, differs(w));
-            narrow = add_u64(narrow, narrowed(w));
+            cases = cases.wrapping_add(weight(w));
+            differ = differ.wrapping_add(differs(w));
+            narrow = narrow.wrapping_add(narrowed(w));
         }
     }
     report(rt, name, cases, differ)?;
     tell(rt, narrow)
 }
 
-fn number_of(v: Verdict) -> u32 {
-    match v {
-        Verdict::Done => 0,
-        Verdict::Refused(k) => k,
-    }
-}
-
 // A state of zeros but for one retained cell.
 fn with_cell(order: usize, j: usize, cell: i16) -> Dsm {
-    let mut c = [0i16; 8];
+    let mut retained = [0i16; 8];
     if j < 8 {
-        c[j] = cell;
+        retained[j] = cell;
     }
     Dsm {
         order,
         accumulators: [0; 8],
-        retained: c,
-    }
-}
-
-// The number of a step on that state, 0 for none.
-fn step_number(order: usize, j: usize, cell: i16) -> u32 {
-    let r = with_cell(order, j, cell).process(0);
-    let out = r.out;
-    match out {
-        Output::Given(_) => 0,
-        Output::Refused(k) => k,
+        retained,
     }
 }
 
 // The number of a block of three inputs on such a state.
 fn block_number(order: usize, cell: i16, ys: &mut [i16]) -> u32 {
-    let xs = [0u32; 3];
-    let r = with_cell(order, 0, cell).block(&xs, ys);
-    let v = r.verdict;
-    number_of(v)
+    number(with_cell(order, 0, cell).block(&[0; 3], ys))
 }
 
-fn maker_number(order: usize) -> u32 {
-    let r = Dsm::new(order);
-    let v = r.verdict;
-    number_of(v)
-}
+// Order, place and value of the cell, and the number of a step on that state, by document 01.
+const STEPS: [(usize, usize, i16, u32); 14] = [
+    (8, 0, 0, 0),
+    (9, 0, 0, 30),
+    (9, 0, 2, 30),
+    (2, 0, -1, 32),
+    (2, 0, 0, 0),
+    (2, 0, 1, 0),
+    (2, 0, 2, 32),
+    (8, 6, -64, 32),
+    (8, 6, -63, 0),
+    (8, 6, 64, 0),
+    (8, 6, 65, 32),
+    (8, 7, 500, 0),
+    (1, 0, 500, 0),
+    (0, 0, 500, 0),
+];
 
-// Steps on states of zeros but for one cell, against document 01's numbers. Of 14 cases, how many differ.
+// How many of them differ.
 fn step_refusals() -> u64 {
     let mut n: u64 = 0;
-    n = tally(n, step_number(8, 0, 0), 0);
-    n = tally(n, step_number(9, 0, 0), 30);
-    n = tally(n, step_number(9, 0, 2), 30);
-    n = tally(n, step_number(2, 0, -1), 32);
-    n = tally(n, step_number(2, 0, 0), 0);
-    n = tally(n, step_number(2, 0, 1), 0);
-    n = tally(n, step_number(2, 0, 2), 32);
-    n = tally(n, step_number(8, 6, -64), 32);
-    n = tally(n, step_number(8, 6, -63), 0);
-    n = tally(n, step_number(8, 6, 64), 0);
-    n = tally(n, step_number(8, 6, 65), 32);
-    n = tally(n, step_number(8, 7, 500), 0);
-    n = tally(n, step_number(1, 0, 500), 0);
-    n = tally(n, step_number(0, 0, 500), 0);
+    for &(order, j, cell, said) in &STEPS {
+        n = tally(n, number(with_cell(order, j, cell).process(0)), said);
+    }
     n
 }
 
@@ -384,7 +297,7 @@ fn block_refusals() -> u64 {
 }
 
 fn maker_refusals() -> u64 {
-    unlike(maker_number(8), 0) + unlike(maker_number(9), 30)
+    unlike(number(Dsm::new(8)), 0) + unlike(number(Dsm::new(9)), 30)
 }
 
 fn main(rt: HostRuntime) -> io::Result<()> {

@@ -1,5 +1,5 @@
 -- The step's two halves as chains over their cells: a loop hands on a value with the carries so far, or y with the carries that are left.
-use mathlib.Core.Path.{◌≡◌, refl, ap}
+use mathlib.Core.Path.{◌≡◌, refl, ap, ◌∙◌}
 use mathlib.Core.List.{List, [], ◌∷◌, ◌++◌, append_assoc, append-nil}
 use Prim.Native.Nat.{ℕ, zero, suc, ◌+◌, ◌*◌, ◌/◌, ◌%◌, ◌^◌, ◌<◌, ◌≤◌}
 use native.Mathlib.Nat.{two-pow-succ}
@@ -11,6 +11,9 @@ use Rattle.blocks.specs.Scan.{scan, ends}
 use Rattle.blocks.proofs.Chains.{Chain, begin, onward, finish}
 use Rattle.dsm.specs.Modulator.{accumulated, carries, combined, retaining}
 use Rattle.dsm.specs.Cells.{bits_of, Accumulates}
+use mathlib.Core.Bool.{Bool, true, false}
+use Rattle.std.specs.Bool.{FalseIff}
+use Rattle.std.specs.Int.{from_bool}
 
 -- an accumulator: the value before it, and the carries so far, the last one first
 abbrev pub sum : ℕ × List ℕ → ℕ → ℕ
@@ -37,25 +40,34 @@ bits-more n d c h =
     let f : (d * 2 + c) / 2 ≡ d = omega arith in
     rw (e, f)
 
+-- the carry of a sum of two words, by the flag that it is past the word
+carry-flag : (b : Bool) (n : ℕ) → n < 2 ^ 33 → FalseIff b (n < 2 ^ 32) → (from_bool b ≡ n / 2 ^ 32) × (from_bool b < 2)
+carry-flag true n h f = let k : 2 ^ 32 ≤ n = omega (arith, f) in (omega arith, omega arith)
+carry-flag false n h f = (omega arith, omega arith)
+
 -- at accumulator i: what the loop holds
 pub record Adds (n x : ℕ) (l₀ l : List ℕ) (value d i : ℕ) : Type 0 where
   pub small : d < 2 ^ i
+  pub word : value < 2 ^ 32
   pub chain : Chain sum handed n (x, []) l₀ l (value, bits_of i d) i
 
 module _ (n x : ℕ) (l₀ : List ℕ) (fits : n ≤ length l₀) where
-  pub adds_start : Adds n x l₀ l₀ x 0 0
+  pub adds_start : x < 2 ^ 32 → Adds n x l₀ l₀ x 0 0
   unfolding bits_of
-  adds_start = record { small = omega arith; chain = begin sum handed n (x, []) l₀ fits }
+  adds_start h = record { small = omega arith; word = h; chain = begin sum handed n (x, []) l₀ fits }
 
-  pub adds_turn : (l : List ℕ) (value d i v carry : ℕ) → i < n → Adds n x l₀ l value d i
-      → v ≡ (get_or l i 0 + value) % 2 ^ 32 → carry ≡ (get_or l i 0 + value) / 2 ^ 32 → carry < 2
-      → Adds n x l₀ (set l i v) v (d * 2 + carry) (i + 1)
-  adds_turn l value d i v carry h g e f b =
+  pub adds_turn : (l : List ℕ) (value d i v c : ℕ) (b : Bool) → i < n → get_or l i 0 < 2 ^ 32 → Adds n x l₀ l value d i
+      → v ≡ (get_or l i 0 + value) % 2 ^ 32 → FalseIff b (get_or l i 0 + value < 2 ^ 32) → c ≡ from_bool b
+      → Adds n x l₀ (set l i v) v (d * 2 + c) (i + 1)
+  adds_turn l value d i v c b h k g e f z =
       let p = g.small in
+      let q = g.word in
       let t = two-pow-succ i in
+      let w = carry-flag b (get_or l i 0 + value) (omega arith) f in
       record {
         small = rw (add-one, two-pow-succ) (omega arith);
-        chain = rw (add-one i, bits-more i d carry b, e, f)
+        word = omega arith;
+        chain = rw (add-one i, bits-more i d c (omega arith), e, z ∙ w.0)
             (rw (add-one i) at (onward sum handed n (x, []) l₀ fits l (value, bits_of i d) i 0 h g.chain));
       }
 

@@ -1,9 +1,9 @@
--- For private functions alone: the step's halves on lent cells, and the block's loop; a are the accumulators, c the retained cells after.
+-- For private functions alone: the step's halves on lent cells, the step of an accepted state, and the block's loop.
 use Rattle.std.specs.Prelude.{◌≡◌, true, List, [], ◌∷◌, ◌++◌, ℕ, zero, suc, ◌-◌, ◌/◌, ◌%◌, ◌^◌, ◌<◌, ℤ, pos, length, take, drop, get_or}
 use Rattle.blocks.specs.Scan.{scan, ends}
 use Rattle.dsm.specs.declared.Dsm.{Dsm}
 use Rattle.dsm.specs.Modulator.{accumulated, carries, output, keeping, modulator_out, next_of, inside_from, InRange}
-use Rattle.dsm.specs.Calls.{state_number, Keeps}
+use Rattle.dsm.specs.Calls.{Keeps}
 
 -- the n lowest bits of d, the lowest first
 unfoldable pub bits_of : ℕ → ℕ → List ℕ
@@ -23,24 +23,12 @@ pub record Combines (n d : ℕ) (l : List ℤ) (c : List ℤ) (y : ℤ) : Type 0
   pub stay : inside_from 0 (take (n - 1) c) ≡ true
   pub range : InRange n y
 
--- The step of order n on accumulators k and retained cells l has run from x.
-pub record StepsCells (n : ℕ) (k : List ℕ) (l : List ℤ) (x : ℕ) (a : List ℕ) (c : List ℤ) (y : ℤ) : Type 0 where
-  pub accumulators : a ≡ accumulated x (take n k) ++ drop n k
-  pub retained : c ≡ keeping (carries x (take n k)) l
-  pub out : y ≡ output (carries x (take n k)) l
-  pub stay : inside_from 0 (take (n - 1) c) ≡ true
-  pub range : InRange n y
-
--- a state of these cells
-abbrev pub cells : ℕ → List ℕ → List ℤ → Dsm
-cells order a c = record { order = order; accumulators = a; retained = c }
-
--- The cells are a state's that is accepted, and the slices are of one length.
-pub record CellsFit (order : ℕ) (a : List ℕ) (c : List ℤ) (xs : List ℕ) (ys : List ℤ) : Type 0 where
-  pub alike : length xs ≡ length ys
-  pub accepted : state_number (cells order a c) ≡ 0
-  pub accumulators : length a ≡ 8
-  pub retained : length c ≡ 8
+-- The step on the accepted state s and x has run; t is the state after, y the output.
+pub record Turns (s : Dsm) (x : ℕ) (t : Dsm) (y : ℤ) : Type 0 where
+  pub state : t ≡ next_of s x
+  pub out : y ≡ modulator_out s x
+  pub keeps : Keeps s t
+  pub range : InRange s.order y
 
 -- The steps on s over xs have run; t is the state after, zs what is written.
 pub record Modulates (s : Dsm) (xs : List ℕ) (t : Dsm) (zs : List ℤ) : Type 0 where

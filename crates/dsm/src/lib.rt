@@ -7,11 +7,12 @@
 
 ghost use Rattle.std.specs.Prelude.{◌≡◌, true, ◌+◌, ◌-◌, ◌/◌, ◌%◌, ◌^◌, ◌<◌, ◌≤◌, length, take, pos, ◌+ℤ◌, ◌-ℤ◌};
 ghost use Rattle.std.specs.Int.Signed.{mag};
+ghost use Rattle.blocks.specs.Refusals.{answer};
 ghost use Rattle.dsm.specs.Modulator.{inside, inside_from};
-ghost use Rattle.dsm.specs.Calls.{state_number, zeros_of, modulator_of, range_of, Steps, Runs};
-ghost use Rattle.dsm.specs.Cells.{Accumulates, Combines, StepsCells, CellsFit, Modulates, cells};
+ghost use Rattle.dsm.specs.Calls.{order_number, cells_number, state_number, zeros_of, modulator_of, range_of, Steps, Runs};
+ghost use Rattle.dsm.specs.Cells.{Accumulates, Combines, Turns, Modulates};
 
-use blocks::Verdict;
+use blocks::Refusal;
 
 // Order K, accumulators, of which K are used, and retained values, of which K - 1 are used. Other cells never matter.
 // Retained cell j, from 0, must lie in 1 - 2^j .. 2^j.
@@ -22,67 +23,27 @@ pub struct Dsm {
     pub retained: [i16; 8],
 }
 
-// A state, and whether the call that gives it was done.
-#[derive(Clone, Copy)]
-pub struct Made {
-    pub state: Dsm,
-    pub verdict: Verdict,
-}
-
-// An output, or the number of a refusal.
-#[derive(Clone, Copy)]
-pub enum Output {
-    Given(i16),
-    Refused(u32),
-}
-
-// The state after a step, and what the step gave.
-#[derive(Clone, Copy)]
-pub struct Stepped {
-    pub state: Dsm,
-    pub out: Output,
-}
-
-// The least and the greatest output, or the number of a refusal.
-#[derive(Clone, Copy)]
-pub enum OutputRange {
-    Between(i16, i16),
-    Refused(u32),
-}
-
-// A sum modulo 2^32, and the carry that it lost.
-#[derive(Clone, Copy)]
-struct Sum {
-    value: u32,
-    carry: u32,
-}
-
-fn overflowing_add(a: u32, x: u32) -> Sum
-    ensures { (result.value ≡ (a + x) % 2 ^ 32) × (result.carry ≡ (a + x) / 2 ^ 32) × (result.carry < 2) }
-{
-    let sum = a as u64 + x as u64;
-    Sum {
-        value: (sum % 0x1_0000_0000) as u32,
-        carry: (sum / 0x1_0000_0000) as u32,
-    }
+// The least and the greatest output.
+#[derive(Clone, Copy, Debug, PartialEq, Eq)]
+pub struct OutputRange {
+    pub least: i16,
+    pub greatest: i16,
 }
 
 // The first `order` accumulators run from x; other cells stay. Gives their carries as bits, the last one lowest.
 fn accumulate(a: &mut [u32; 8], order: usize, x: u32) -> u32
-    requires { (order ≤ 8) × (length a.old ≡ 8) }
+    requires { order ≤ 8 }
     ensures { Accumulates order a.old x a.new result }
 {
-    let mut d: u32 = 0;
+    let mut carries: u32 = 0;
     let mut value = x;
-    let mut i: usize = 0;
-    while i < order {
-        let sum = overflowing_add(a[i], value);
-        value = sum.value;
-        a[i] = value;
-        d = d * 2 + sum.carry;
-        i += 1;
+    for i in 0..order {
+        let (sum, carry) = a[i].overflowing_add(value);
+        a[i] = sum;
+        value = sum;
+        carries = carries * 2 + u32::from(carry);
     }
-    d
+    carries
 }
 
 // The lowest bit.
@@ -103,78 +64,18 @@ fn joined(d: u32, y: i16, retained: i16) -> i16
 // The carries d of `order` accumulators meet the retained cells, from the last carry backwards. Gives the output;
 // other cells stay.
 fn combine(c: &mut [i16; 8], order: usize, d: u32) -> i16
-    requires { (order ≤ 8) × (d < 2 ^ order) × (length c.old ≡ 8) × (inside_from 0 (take (order - 1) c.old) ≡ true) }
+    requires { (order ≤ 8) × (d < 2 ^ order) × (inside_from 0 (take (order - 1) c.old) ≡ true) }
     ensures { Combines order d c.old c.new result }
 {
     let mut left = d;
     let mut y = bit(d);
-    let mut j: usize = 0;
-    while j + 1 < order {
-        left = left / 2;
+    for j in 0..order.saturating_sub(1) {
+        left /= 2;
         let old = c[j];
         c[j] = y;
         y = joined(left, y, old);
-        j += 1;
     }
     y
-}
-
-// One step on the cells: gives the output; cells beyond the order stay.
-fn turn(a: &mut [u32; 8], c: &mut [i16; 8], order: usize, x: u32) -> i16
-    requires { (order ≤ 8) × (length a.old ≡ 8) × (length c.old ≡ 8) × (inside_from 0 (take (order - 1) c.old) ≡ true) }
-    ensures { StepsCells order a.old c.old x a.new c.new result }
-{
-    let d = accumulate(a, order, x);
-    combine(c, order, d)
-}
-
-// The steps over xs in turn, on lent cells: writes their outputs.
-fn run(a: &mut [u32; 8], c: &mut [i16; 8], order: usize, xs: &[u32], ys: &mut [i16])
-    requires { CellsFit order a.old c.old xs.now ys.old }
-    ensures { Modulates (cells order a.old c.old) xs.now
-        (cells order a.new c.new) ys.new }
-{
-    let mut i: usize = 0;
-    while i < xs.len() {
-        let y = turn(a, c, order, xs[i]);
-        ys[i] = y;
-        i += 1;
-    }
-}
-
-// The same, once for each order: in its arm the order is known, so that the loop over its cells is unrolled.
-fn run_by_order(a: &mut [u32; 8], c: &mut [i16; 8], order: usize, xs: &[u32], ys: &mut [i16])
-    requires { CellsFit order a.old c.old xs.now ys.old }
-    ensures { Modulates (cells order a.old c.old) xs.now
-        (cells order a.new c.new) ys.new }
-{
-    match order {
-        1 => run(a, c, order, xs, ys),
-        2 => run(a, c, order, xs, ys),
-        3 => run(a, c, order, xs, ys),
-        4 => run(a, c, order, xs, ys),
-        5 => run(a, c, order, xs, ys),
-        6 => run(a, c, order, xs, ys),
-        7 => run(a, c, order, xs, ys),
-        8 => run(a, c, order, xs, ys),
-        _ => run(a, c, order, xs, ys),
-    }
-}
-
-// The steps over xs in turn: writes their outputs and gives the state after.
-fn modulate(s: Dsm, xs: &[u32], ys: &mut [i16]) -> Dsm
-    requires { (length xs.now ≡ length ys.old) × (state_number s ≡ 0) }
-    ensures { Modulates s xs.now result ys.new }
-{
-    let order = s.order;
-    let mut a = s.accumulators;
-    let mut c = s.retained;
-    run_by_order(&mut a, &mut c, order, xs, ys);
-    Dsm {
-        order,
-        accumulators: a,
-        retained: c,
-    }
 }
 
 // 2^j, the greatest value of retained cell j.
@@ -191,120 +92,128 @@ fn in_range(j: usize, cell: i16) -> bool
     ensures { result ≡ inside j cell }
 {
     let high = top(j);
-    if cell < 1 - high {
-        return false;
-    }
-    cell <= high
+    1 - high <= cell && cell <= high
 }
 
 // Whether each of the K - 1 used cells lies in its range.
-fn cells_in_range(c: [i16; 8], order: usize) -> bool
-    requires { order ≤ 8 }
-    ensures { result ≡ inside_from 0 (take (order - 1) c) }
+fn cells_in_range(c: &[i16; 8], order: usize) -> bool
+    ensures { result ≡ inside_from 0 (take (order - 1) c.now) }
 {
-    let mut i: usize = 0;
-    while i + 1 < order {
+    for i in 0..order.saturating_sub(1).min(8) {
         if !in_range(i, c[i]) {
             return false;
         }
-        i += 1;
     }
     true
 }
 
-// All cells zero.
-fn zeros(order: usize) -> Dsm
-    ensures { result ≡ zeros_of order }
+// 30 where the order is above 8.
+fn order_fits(order: usize) -> Result<(), Refusal>
+    ensures { result ≡ answer (order_number order) tt }
 {
-    let accumulators = [0u32; 8];
-    let retained = [0i16; 8];
-    Dsm {
-        order,
-        accumulators,
-        retained,
+    if 8 < order {
+        return Err(Refusal::ModulatorOrder);
     }
+    Ok(())
 }
 
 impl Dsm {
-    // A modulator of zeros. 30 where the order is above 8, with an all-zero state.
-    pub fn new(order: usize) -> Made
+    // Order 0, which gives zeros.
+    pub const IDLE: Dsm = Dsm {
+        order: 0,
+        accumulators: [0; 8],
+        retained: [0; 8],
+    };
+
+    // A modulator of zeros. 30 where the order is above 8.
+    pub fn new(order: usize) -> Result<Dsm, Refusal>
         ensures { result ≡ modulator_of order }
     {
-        if 8 < order {
-            let none = zeros(0);
-            return Made {
-                state: none,
-                verdict: Verdict::Refused(30),
-            };
+        order_fits(order)?;
+        Ok(Dsm {
+            order,
+            accumulators: [0; 8],
+            retained: [0; 8],
+        })
+    }
+
+    // 32 where a used retained cell is out of range.
+    fn cells_fit(&self) -> Result<(), Refusal>
+        ensures { result ≡ answer (cells_number self.now) tt }
+    {
+        if cells_in_range(&self.retained, self.order) {
+            return Ok(());
         }
-        let state = zeros(order);
-        Made {
-            state,
-            verdict: Verdict::Done,
+        Err(Refusal::Carry)
+    }
+
+    fn accepted(&self) -> Result<(), Refusal>
+        ensures { result ≡ answer (state_number self.now) tt }
+    {
+        order_fits(self.order)?;
+        self.cells_fit()
+    }
+
+    // One step of an accepted modulator, whose order the caller has at hand.
+    fn turn(&mut self, order: usize, x: u32) -> i16
+        requires { (self.old.order ≡ order) × (state_number self.old ≡ 0) }
+        ensures { Turns self.old x self.new result }
+    {
+        let carries = accumulate(&mut self.accumulators, order, x);
+        combine(&mut self.retained, order, carries)
+    }
+
+    // The steps over xs in turn, of an accepted modulator of order K: writes their outputs. The order is a constant, so
+    // that the loops over the cells are unrolled.
+    fn run<const K: usize>(&mut self, xs: &[u32], ys: &mut [i16])
+        requires { (self.old.order ≡ K) × (state_number self.old ≡ 0) × (length xs.now ≡ length ys.old) }
+        ensures { Modulates self.old xs.now self.new ys.new }
+    {
+        let mut state = *self;
+        for (i, &x) in xs.iter().enumerate() {
+            ys[i] = state.turn(K, x);
+        }
+        *self = state;
+    }
+
+    fn run_by_order(&mut self, xs: &[u32], ys: &mut [i16])
+        requires { (state_number self.old ≡ 0) × (length xs.now ≡ length ys.old) }
+        ensures { Modulates self.old xs.now self.new ys.new }
+    {
+        match self.order {
+            0 => self.run::<0>(xs, ys),
+            1 => self.run::<1>(xs, ys),
+            2 => self.run::<2>(xs, ys),
+            3 => self.run::<3>(xs, ys),
+            4 => self.run::<4>(xs, ys),
+            5 => self.run::<5>(xs, ys),
+            6 => self.run::<6>(xs, ys),
+            7 => self.run::<7>(xs, ys),
+            _ => self.run::<8>(xs, ys),
         }
     }
 
     // Takes the input x and gives the next output; an accepted state stays accepted. 30 where the order is above 8,
     // 32 where a used retained cell is out of range: the state stays.
-    pub fn process(self, x: u32) -> Stepped
-        ensures { Steps self x result }
+    pub fn process(&mut self, x: u32) -> Result<i16, Refusal>
+        ensures { Steps self.old x self.new result }
     {
-        let order = self.order;
-        if 8 < order {
-            return Stepped {
-                state: self,
-                out: Output::Refused(30),
-            };
-        }
-        let mut c = self.retained;
-        if !cells_in_range(c, order) {
-            return Stepped {
-                state: self,
-                out: Output::Refused(32),
-            };
-        }
-        let mut a = self.accumulators;
-        let y = turn(&mut a, &mut c, order, x);
-        Stepped {
-            state: Dsm {
-                order,
-                accumulators: a,
-                retained: c,
-            },
-            out: Output::Given(y),
-        }
+        self.accepted()?;
+        Ok(self.turn(self.order, x))
     }
 
     // Takes the inputs in turn and writes their outputs. 30, then 31 where the slices differ in length, then 32:
     // the state stays and nothing is written.
-    pub fn block(self, xs: &[u32], ys: &mut [i16]) -> Made
-        ensures { Runs self xs.now ys.old result ys.new }
+    pub fn block(&mut self, xs: &[u32], ys: &mut [i16]) -> Result<(), Refusal>
+        ensures { Runs self.old xs.now ys.old self.new result ys.new }
     {
-        let order = self.order;
-        if 8 < order {
-            return Made {
-                state: self,
-                verdict: Verdict::Refused(30),
-            };
-        }
+        order_fits(self.order)?;
         if xs.len() != ys.len() {
-            return Made {
-                state: self,
-                verdict: Verdict::Refused(31),
-            };
+            return Err(Refusal::Lengths);
         }
-        let c = self.retained;
-        if !cells_in_range(c, order) {
-            return Made {
-                state: self,
-                verdict: Verdict::Refused(32),
-            };
-        }
-        let state = modulate(self, xs, ys);
-        Made {
-            state,
-            verdict: Verdict::Done,
-        }
+        self.cells_fit()?;
+        self.run_by_order(xs, ys);
+        Ok(())
     }
 
     pub fn order(self) -> usize
@@ -314,21 +223,27 @@ impl Dsm {
     }
 
     // The least and the greatest output: 1 - 2^(K-1) and 2^(K-1), or 0 twice at K = 0. Refused as `process`.
-    pub fn output_range(self) -> OutputRange
+    pub fn output_range(self) -> Result<OutputRange, Refusal>
         ensures { result ≡ range_of self }
     {
-        let order = self.order;
-        if 8 < order {
-            return OutputRange::Refused(30);
+        self.accepted()?;
+        if self.order == 0 {
+            return Ok(OutputRange {
+                least: 0,
+                greatest: 0,
+            });
         }
-        let c = self.retained;
-        if !cells_in_range(c, order) {
-            return OutputRange::Refused(32);
-        }
-        if order == 0 {
-            return OutputRange::Between(0, 0);
-        }
-        let high = top(order - 1);
-        OutputRange::Between(1 - high, high)
+        let high = top(self.order - 1);
+        Ok(OutputRange {
+            least: 1 - high,
+            greatest: high,
+        })
     }
+}
+
+// Nothing calls it: its promise says what the constant `IDLE` is.
+fn idle() -> Dsm
+    ensures { result ≡ zeros_of 0 }
+{
+    Dsm::IDLE
 }

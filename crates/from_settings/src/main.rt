@@ -36,14 +36,8 @@ fn first_decimated(order: u32, delay: u32, rate: u32) -> i32 {
 }
 
 fn first_passed(sections: usize, architecture: u32, a: [i32; 8]) -> i32 {
-    let made = Wdf::from_form1(sections, architecture, a);
-    let filter = made.state;
-    let stepped = filter.process(1000);
-    let out = stepped.out;
-    match out {
-        wdf::filter::Out::Given(y) => y,
-        wdf::filter::Out::Refused(_) => 0,
-    }
+    let mut filter = Wdf::from_form1(sections, architecture, a).unwrap_or(Wdf::EMPTY);
+    filter.process(1000).unwrap_or(0)
 }
 
 fn run(rt: &impl Print, entry: Entry) -> io::Result<()> {

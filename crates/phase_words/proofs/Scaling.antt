@@ -1,6 +1,6 @@
 -- Quotient and clamp both keep the order.
 use mathlib.Core.Path.{◌≡◌, refl, sym, ap}
-use mathlib.Core.Bool.{Bool, true, false, cond, true≢false, ◌||◌}
+use mathlib.Core.Bool.{Bool, true, false, cond, ◌||◌}
 use Prim.Native.Nat.{ℕ, min, ◌/◌, ◌^◌, ◌≤◌}
 use native.Mathlib.Nat.{mul-le-mul_right}
 use native.Mathlib.Omega.{arith}
@@ -9,9 +9,10 @@ use lib.Pow.{pow_pos}
 use lib.IntN.{ℤ, pos, negsuc}
 use lib.Signed.{◌≤ℤ◌}
 use lib.Ieee.Nearest.{div_mono}
+use borrow.Author.Rules.{rules}
 use borrow.Author.Tests.{ltb-true, ltb-false}
-use Rattle.unwrap.specs.declared.scale.Scaled.{Scaled}
-use Rattle.unwrap.specs.declared.scale.Scaled.TheVariants.{Value, Refused}
+use Rattle.std.specs.Prelude.{Result, Ok, Err}
+use Rattle.blocks.specs.declared.refusal.Refusal.{Refusal}
 use Rattle.unwrap.specs.Scales.{wide_value, clamped, scaled_to, scaled_of}
 use Rattle.phase_words.specs.Scales.{Monotone}
 
@@ -47,21 +48,13 @@ scaled_up s (negsuc a) (pos b) h = rw (clamped_neg (a / 2 ^ s), clamped_pos (b /
 scaled_up s (negsuc a) (negsuc b) h =
     rw (clamped_neg (a / 2 ^ s), clamped_neg (b / 2 ^ s)) (record { le = le→leb _ _ (quotient_up b a s (leb→le b a h.le)) })
 
-value_in : Scaled → ℤ
-value_in (Value y) = y
-value_in (Refused k) = pos 0
-
-answers : Scaled → Bool
-answers (Value y) = true
-answers (Refused k) = false
-
-answered : (lo hi y : ℤ) (s : ℕ) → scaled_of lo hi s ≡ Value y → scaled_to s (wide_value lo hi) ≡ y
-unfolding scaled_of value_in answers
+answered : (lo hi y : ℤ) (s : ℕ) → scaled_of lo hi s ≡ Ok y → scaled_to s (wide_value lo hi) ≡ y
+unfolding scaled_of
 answered lo hi y s = pick (eqb s 0 || ltb 32 s) (scaled_to s (wide_value lo hi))
   where
-    pick : (t : Bool) (v : ℤ) → cond t (Refused 65) (Value v) ≡ Value y → v ≡ y
-    pick true v e = absurd (true≢false (sym (ap answers e)))
-    pick false v e = ap value_in e
+    pick : (t : Bool) (v : ℤ) → ◌≡◌ {A = Result ℤ Refusal} (cond t (Err Refusal.ScaleShift) (Ok v)) (Ok y) → v ≡ y
+    pick true v e = search rules
+    pick false v e = search rules
 
 pub monotone : Monotone
 monotone s lo hi lo' hi' y y' h e f =

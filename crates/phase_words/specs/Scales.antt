@@ -1,9 +1,8 @@
 -- 02, A11: what the scaling satisfies.
-use Rattle.std.specs.Prelude.{◌≡◌, ℕ, ℤ, ◌≤ℤ◌}
+use Rattle.std.specs.Prelude.{◌≡◌, ℕ, ℤ, ◌≤ℤ◌, Ok}
 use Rattle.unwrap.specs.Scales.{wide_value, scaled_of}
-use Rattle.unwrap.specs.declared.scale.Scaled.TheVariants.{Value}
 
 -- It is monotone in hi · 2 ^ 32 + lo at each shift.
 abbrev pub Monotone : Type 0
 Monotone = (shift : ℕ) (lo hi lo' hi' y y' : ℤ) → wide_value lo hi ≤ℤ wide_value lo' hi'
-    → scaled_of lo hi shift ≡ Value y → scaled_of lo' hi' shift ≡ Value y' → y ≤ℤ y'
+    → scaled_of lo hi shift ≡ Ok y → scaled_of lo' hi' shift ≡ Ok y' → y ≤ℤ y'

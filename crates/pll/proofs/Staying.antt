@@ -16,7 +16,7 @@ pub record Beside (s t : PLLState) : Type 0 where
   pub f0 : t.f0 ≡ s.f0
   pub f : t.f ≡ s.f
 
-pub predict_leaves : (s : PLLState) → Beside s (predicted_of s).state
+pub predict_leaves : (s : PLLState) → Beside s (predicted_of s)
 predict_leaves s = record { clamp = refl; z0 = refl; y0 = refl; f0 = refl; f = refl }
 
 abbrev pub none : PLL
@@ -32,7 +32,7 @@ pub data Update : Type 0 where
 
 abbrev pub updated : PLL → PLLState → Update → PLLState
 updated p s (input x) = tracked_next p s x
-updated p s missing = (predicted_of s).state
+updated p s missing = predicted_of s
 
 abbrev pub updates : PLL → PLLState → List Update → PLLState
 updates p s [] = s

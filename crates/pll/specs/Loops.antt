@@ -3,11 +3,9 @@
 use Rattle.std.specs.Prelude.{◌^◌, ℤ, ◌+ℤ◌, ◌*ℤ◌}
 use Rattle.std.specs.Int.{w32, w64}
 use Rattle.words.specs.Words.{wrap, floor_div}
-use Rattle.unwrap.specs.declared.clamp_wrap.Clamped.{Clamped}
-use Rattle.unwrap.specs.Phases.{clamped_of}
+use Rattle.unwrap.specs.Phases.{clamp_out, clamp_next}
 use Rattle.pll.specs.declared.PLL.{PLL}
 use Rattle.pll.specs.declared.PLLState.{PLLState}
-use Rattle.pll.specs.declared.Tracked.{Tracked}
 
 -- the frequency: the high word of the wide one
 abbrev pub frequency_of : PLLState → ℤ
@@ -17,18 +15,18 @@ frequency_of s = floor_div s.f (2 ^ 32)
 abbrev pub ahead_of : PLLState → ℤ
 ahead_of s = wrap w32 (s.y +ℤ frequency_of s)
 
-abbrev pub predicted_of : PLLState → Tracked
-predicted_of s = record {
-  state = record { clamp = s.clamp; z0 = s.z0; y0 = s.y0; f0 = s.f0; f = s.f; y = ahead_of s };
-  y = ahead_of s;
-}
+abbrev pub predicted_of : PLLState → PLLState
+predicted_of s = record { clamp = s.clamp; z0 = s.z0; y0 = s.y0; f0 = s.f0; f = s.f; y = ahead_of s }
 
 -- phase error: the sum of the input and the phase, through the clamp; then half of it, rounded down
-abbrev pub clamped_sum : PLLState → ℤ → Clamped
-clamped_sum s x = clamped_of s.clamp (wrap w32 (x +ℤ ahead_of s))
+abbrev pub error_sum : PLLState → ℤ → ℤ
+error_sum s x = wrap w32 (x +ℤ ahead_of s)
+
+abbrev pub clamped_sum : PLLState → ℤ → ℤ
+clamped_sum s x = clamp_out s.clamp (error_sum s x)
 
 abbrev pub halved_error : PLLState → ℤ → ℤ
-halved_error s x = floor_div (clamped_sum s x).y 2
+halved_error s x = floor_div (clamped_sum s x) 2
 
 -- Nyquist zero: the sum of the last two errors
 abbrev pub after_zero : PLLState → ℤ → ℤ
@@ -55,13 +53,10 @@ tracked_phase p s x = ahead_of s
 
 unfoldable pub tracked_next : PLL → PLLState → ℤ → PLLState
 tracked_next p s x = record {
-  clamp = (clamped_sum s x).state;
+  clamp = clamp_next s.clamp (error_sum s x);
   z0 = halved_error s x;
   y0 = after_zero s x;
   f0 = after_lag p s x;
   f = after_pole p s x;
   y = ahead_of s;
 }
-
-abbrev pub tracked_of : PLL → PLLState → ℤ → Tracked
-tracked_of p s x = record { state = tracked_next p s x; y = tracked_phase p s x }

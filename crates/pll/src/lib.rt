@@ -3,28 +3,27 @@
 
 #![tactic(auto)]
 
-ghost use Rattle.std.specs.Prelude.{◌≡◌, length};
+ghost use Rattle.std.specs.Prelude.{◌≡◌};
 ghost use Rattle.std.specs.Int.{w64};
 ghost use Rattle.words.specs.Words.{wrap};
-ghost use Rattle.blocks.specs.Scan.{scan, ends};
 ghost use Rattle.blocks.specs.Blocks.{Blocked};
-ghost use Rattle.pll.specs.Loops.{frequency_of, predicted_of, lag_product, lead_lag};
-ghost use Rattle.pll.specs.Loops.{tracked_of, tracked_phase, tracked_next};
+ghost use Rattle.pll.specs.Loops.{frequency_of, ahead_of, predicted_of, lag_product, lead_lag};
+ghost use Rattle.pll.specs.Loops.{tracked_phase, tracked_next};
 
-use blocks::Verdict;
+use blocks::{Filter, Refusal};
 use unwrap::clamp_wrap::ClampWrap;
-use words::casts::{i32_as_i64, i64_as_u32, i64_high, u32_as_i64};
-use words::signed::{add_i32, add_i64, product};
+use words::casts::i64_as_u32;
+use words::signed::product;
 
 // The lead lag's coefficients, as bits with 32 of them after the point: f0 grows by b0 y0 + b1 y1 + a1 f1.
-#[derive(Clone, Copy)]
+#[derive(Clone, Copy, Debug, PartialEq, Eq)]
 pub struct PLL {
     pub b0: i32,
     pub b1: i32,
     pub a1: i32,
 }
 
-#[derive(Clone, Copy)]
+#[derive(Clone, Copy, Debug, PartialEq, Eq)]
 pub struct PLLState {
     // The clamp of the phase error.
     pub clamp: ClampWrap,
@@ -37,38 +36,15 @@ pub struct PLLState {
     pub y: i32,
 }
 
-// The state after a step, and its phase.
-#[derive(Clone, Copy)]
-pub struct Tracked {
-    pub state: PLLState,
-    pub y: i32,
-}
-
-#[derive(Clone, Copy)]
-pub struct TrackedBlock {
-    pub state: PLLState,
-    pub verdict: Verdict,
-}
-
 impl PLLState {
-    // Advances the phase by an update period at the current frequency; all else stays. For an update without an
-    // input.
-    pub fn predict(self) -> Tracked
-        ensures { result ≡ predicted_of self }
+    // Advances the phase by an update period at the current frequency, and gives it; all else stays. For an update
+    // without an input.
+    #[tactic(auto, using(words::proofs::Std::signed))]
+    pub fn predict(&mut self) -> i32
+        ensures { (result ≡ ahead_of self.old) × (self.new ≡ predicted_of self.old) }
     {
-        let y = add_i32(self.y, self.frequency());
-        let clamp = self.clamp;
-        Tracked {
-            state: PLLState {
-                clamp,
-                z0: self.z0,
-                y0: self.y0,
-                f0: self.f0,
-                f: self.f,
-                y,
-            },
-            y,
-        }
+        self.y = self.y.wrapping_add(self.frequency());
+        self.y
     }
 
     // The current phase.
@@ -82,16 +58,17 @@ impl PLLState {
     pub fn frequency(self) -> i32
         ensures { result ≡ frequency_of self }
     {
-        i64_high(self.f)
+        (self.f >> 32) as i32
     }
 }
 
 // a1 times the wide state f0, over 2^32: by the high and the low word of f0.
+#[tactic(auto, using(crate::proofs::Sums::low_fits))]
 fn scaled(a1: i32, f0: i64) -> i64
     ensures { result ≡ wrap w64 (lag_product a1 f0) }
 {
-    let low = (i32_as_i64(a1) * u32_as_i64(i64_as_u32(f0))) >> 32;
-    add_i64(product(a1, i64_high(f0)), low)
+    let low = (i64::from(a1) * i64::from(i64_as_u32(f0))) >> 32;
+    product(a1, (f0 >> 32) as i32).wrapping_add(low)
 }
 
 impl PLL {
@@ -99,68 +76,56 @@ impl PLL {
     fn lead_lag(self, f0: i64, y0: i32, y1: i32) -> i64
         ensures { result ≡ lead_lag self f0 y0 y1 }
     {
-        let zero = add_i64(product(self.b0, y0), product(self.b1, y1));
-        add_i64(f0, add_i64(zero, scaled(self.a1, f0)))
+        let zero = product(self.b0, y0).wrapping_add(product(self.b1, y1));
+        f0.wrapping_add(zero.wrapping_add(scaled(self.a1, f0)))
     }
 
-    // Advances the phase and corrects the frequency by the phase error of the input x.
-    pub fn process(self, state: PLLState, x: i32) -> Tracked
-        ensures { result ≡ tracked_of self state x }
+    // Advances the phase and corrects the frequency by the phase error of the input x. Gives the phase.
+    pub fn process(self, state: &mut PLLState, x: i32) -> i32
+        ensures { (result ≡ tracked_phase self state.old x) × (state.new ≡ tracked_next self state.old x) }
     {
-        let ahead = state.predict();
-        let y = ahead.y;
-        let clamp = state.clamp;
-        let error = clamp.process(add_i32(x, y));
-        let z0 = error.y >> 1;
-        let y0 = add_i32(z0, state.z0);
+        let y = state.predict();
+        let z0 = state.clamp.process(x.wrapping_add(y)) >> 1;
+        let y0 = z0.wrapping_add(state.z0);
         let f0 = self.lead_lag(state.f0, y0, state.y0);
-        let after = error.state;
-        Tracked {
-            state: PLLState {
-                clamp: after,
-                z0,
-                y0,
-                f0,
-                f: add_i64(state.f, f0),
-                y,
-            },
-            y,
-        }
+        state.z0 = z0;
+        state.y0 = y0;
+        state.f0 = f0;
+        state.f = state.f.wrapping_add(f0);
+        y
     }
 
-    // Takes the inputs in turn and writes the phases. 31 where the slices differ in length: nothing is written.
-    pub fn block(self, state: PLLState, xs: &[i32], ys: &mut [i32]) -> TrackedBlock
-        ensures { Blocked 0 (tracked_phase self) (tracked_next self) state xs.now ys.old
-            result.state result.verdict ys.new }
+    // Takes the inputs in turn and writes the phases. Lengths where the slices differ in length: nothing changes.
+    pub fn block(self, state: &mut PLLState, xs: &[i32], ys: &mut [i32]) -> Result<(), Refusal>
+        ensures { Blocked 0 (tracked_phase self) (tracked_next self) state.old xs.now ys.old state.new result ys.new }
     {
-        if xs.len() != ys.len() {
-            return TrackedBlock {
-                state,
-                verdict: Verdict::Refused(31),
-            };
-        }
-        let after = track_all(self, state, xs, ys);
-        TrackedBlock {
-            state: after,
-            verdict: Verdict::Done,
-        }
+        let mut tracking = Tracking {
+            pll: self,
+            state: *state,
+        };
+        let answer = blocks::block(&mut tracking, xs, ys);
+        *state = tracking.state;
+        answer
     }
 }
 
-fn track_all(p: PLL, s: PLLState, xs: &[i32], ys: &mut [i32]) -> PLLState
-    requires { length xs.now ≡ length ys.old }
-    ensures { (result ≡ ends (tracked_phase p) (tracked_next p) s xs.now)
-        × (ys.new ≡ scan (tracked_phase p) (tracked_next p) s xs.now) }
-{
-    let mut t = s;
-    let mut i: usize = 0;
-    while i < xs.len() {
-        let step = p.process(t, xs[i]);
-        let y = step.y;
-        ys[i] = y;
-        let next = step.state;
-        t = next;
-        i += 1;
+// A loop at work: its coefficients beside its state.
+#[derive(Clone, Copy)]
+struct Tracking {
+    pll: PLL,
+    state: PLLState,
+}
+
+impl Filter for Tracking {
+    type Input = i32;
+
+    type Output = i32;
+
+    ghost gives = { λ t x. tracked_phase t.pll t.state x };
+
+    ghost after = { λ t x. record t { state = tracked_next t.pll t.state x } };
+
+    fn process(&mut self, x: i32) -> i32 {
+        self.pll.process(&mut self.state, x)
     }
-    t
 }

@@ -1,10 +1,10 @@
 // A recorder's state, and its calls.
 ghost use Rattle.std.specs.Prelude.{◌≡◌, length};
-ghost use Rattle.blocks.specs.Scan.{scan, ends};
+ghost use Rattle.blocks.specs.Blocks.{Ran};
 ghost use Rattle.unwrap.specs.Phases.{grown};
 ghost use Rattle.recorder.specs.Calls.{made_ready, block_took, opened_of, pulled_of, pushed_of, rated_of, turn_out, took_of, turns_left, out_left};
 
-use blocks::Verdict;
+use blocks::{Filter, Verdict};
 use cic64::runs::{Decimated, Wrote};
 use cic64::state::{Cic, Made};
 use unwrap::unwrapper::Unwrapper;
@@ -32,22 +32,14 @@ pub struct Took {
 }
 
 // The words' turns, one for each.
-fn unwrap_words(s: Unwrapper, words: &[i32], turns: &mut [i64]) -> Unwrapper
-    requires { length words.now ≡ length turns.old }
-    ensures { (result ≡ ends turn_out grown s words.now)
-        × (turns.new ≡ scan turn_out grown s words.now) }
+fn unwrap_words(turns: &mut Unwrapper, words: &[i32], out: &mut [i64])
+    requires { length words.now ≡ length out.old }
+    ensures { Ran turn_out grown turns.old words.now turns.new out.new }
 {
-    let mut u = s;
-    let mut i: usize = 0;
-    while i < words.len() {
-        let step = u.process(words[i]);
-        let next = step.state;
-        let y = next.y;
-        turns[i] = y;
-        u = next;
-        i += 1;
+    for (i, &word) in words.iter().enumerate() {
+        turns.process(word);
+        out[i] = turns.y;
     }
-    u
 }
 
 // After a call on the filter: the recorder with what it made, these turns and the plug in or out; `kept` where it was refused.
@@ -192,7 +184,8 @@ impl Recorder {
             };
         }
         let before = self.turns;
-        let after = unwrap_words(before, words, &mut turns[..n]);
+        let mut after = before;
+        unwrap_words(&mut after, words, &mut turns[..n]);
         let f = self.filter;
         let d = f.decimate_block(&turns[..n], out);
         after_block(before, after, d)

@@ -1,29 +1,23 @@
 // Numbers 41 and 42 of the double-precision biquad.
-use crate::print::row;
+use crate::print::{refused, row};
 use biquad::biquad::Biquad;
-use biquad::biquad_clamp::{Answer, BiquadClamp};
+use biquad::biquad_clamp::BiquadClamp;
 use biquad::direct_form1::DirectForm1;
 use std::io;
 
 fn clamped(min: f64, max: f64) -> u32 {
-    let mut c = BiquadClamp::from(Biquad::IDENTITY);
-    c.min = min;
-    c.max = max;
-    let d = DirectForm1::default();
-    let done = d.process_clamp(c, 1.0);
-    let out = done.out;
-    match out {
-        Answer::Value(_) => 0,
-        Answer::Refused(n) => n,
-    }
+    let c = BiquadClamp {
+        min,
+        max,
+        ..BiquadClamp::from(Biquad::IDENTITY)
+    };
+    let mut state = DirectForm1::default();
+    refused(state.process_clamp(c, 1.0))
 }
 
 fn input_offset(gain: f64) -> u32 {
     let c = BiquadClamp::from(Biquad::proportional(gain));
-    match c.input_offset() {
-        Answer::Value(_) => 0,
-        Answer::Refused(n) => n,
-    }
+    refused(c.input_offset())
 }
 
 pub(crate) fn print_all(rt: &impl Print) -> io::Result<()> {

@@ -1,42 +1,37 @@
 // Numbers 30 to 32: the modulator's order, a one-to-one block's slices, and retained cells.
-use crate::print::{refusal, row};
-use dsm::{Dsm, Output};
+use crate::print::{refused, row};
+use dsm::Dsm;
 use std::io;
 
-fn new(order: usize) -> u32 {
-    let made = Dsm::new(order);
-    let verdict = made.verdict;
-    refusal(verdict)
-}
-
 fn block(xs: &[u32], ys: &mut [i16]) -> u32 {
-    let made = Dsm::new(2);
-    let d = made.state;
-    let done = d.block(xs, ys);
-    let verdict = done.verdict;
-    refusal(verdict)
+    let mut modulator = Dsm {
+        order: 2,
+        ..Dsm::IDLE
+    };
+    refused(modulator.block(xs, ys))
 }
 
 // A step of order 2 whose retained cells were written by hand.
 fn retained(cell: i16) -> u32 {
-    let d = Dsm {
+    let mut modulator = Dsm {
         order: 2,
         accumulators: [0; 8],
         retained: [cell; 8],
     };
-    let stepped = d.process(1);
-    let out = stepped.out;
-    match out {
-        Output::Given(_) => 0,
-        Output::Refused(n) => n,
-    }
+    refused(modulator.process(1))
 }
 
 pub(crate) fn print_all(rt: &impl Print) -> io::Result<()> {
     let xs = [1u32, 2, 3];
     let mut two = [0i16; 2];
     let mut three = [0i16; 3];
-    row(rt, b"modulator of order 9", new(9), b"of order 8", new(8))?;
+    row(
+        rt,
+        b"modulator of order 9",
+        refused(Dsm::new(9)),
+        b"of order 8",
+        refused(Dsm::new(8)),
+    )?;
     row(
         rt,
         b"a block of 3 into 2",

@@ -1,5 +1,5 @@
 // Lines of the table.
-use blocks::Verdict;
+use blocks::{Refusal, Verdict};
 use std::io;
 use words::casts::i32_as_u32;
 
@@ -25,6 +25,14 @@ pub(crate) fn refusal(v: Verdict) -> u32 {
     match v {
         Verdict::Done => 0,
         Verdict::Refused(n) => n,
+    }
+}
+
+// The number of a call's refusal, 0 for none.
+pub(crate) fn refused<T: Drop>(answer: Result<T, Refusal>) -> u32 {
+    match answer {
+        Ok(_) => 0,
+        Err(refusal) => refusal.number(),
     }
 }
 

@@ -1,6 +1,6 @@
 -- Phases and frequencies grow side by side over the steps' timestamps, each by a step a turn (blocks Turns).
 use mathlib.Core.Path.{◌≡◌, refl, sym, ap, ◌∙◌}
-use mathlib.Core.Bool.{Bool, false}
+use mathlib.Core.Bool.{Bool, true, false}
 use mathlib.Core.List.{List, [], ◌∷◌}
 use Prim.Native.Nat.{ℕ, zero, suc, ◌+◌, ◌<◌, ◌≤◌}
 use native.Mathlib.Omega.{arith}
@@ -10,16 +10,16 @@ use lib.ListN.{length, get_or, set, length-set}
 use mir.Syntax.{w32}
 use Rattle.words.specs.Words.{wrap}
 use Rattle.blocks.specs.Scan.{scan, ends}
-use Rattle.blocks.specs.Blocks.{unless}
-use Rattle.blocks.specs.Verdicts.{verdict_of}
-use Rattle.blocks.specs.declared.Verdict.{Verdict}
-use Rattle.blocks.specs.declared.Verdict.TheVariants.{Done, Refused}
+use Rattle.blocks.specs.declared.refusal.Refusal.{Refusal}
+use Rattle.blocks.specs.Refusals.{refusal_at, answer}
 use Rattle.blocks.proofs.Turns as turns
 use Rattle.blocks.proofs.Ways as ways
+use Rattle.blocks.proofs.Refusals.{accepted}
 use Rattle.rpll.specs.declared.RPLL.{RPLL}
 use Rattle.rpll.specs.declared.RPLLConfig.{RPLLConfig}
-use Rattle.rpll.specs.declared.Timestamp.TheVariants.{Missing}
-use Rattle.rpll.specs.Loops.{updated_of}
+use Rattle.std.specs.Bool.{then_some}
+use Rattle.std.specs.Prelude.{None, Result, Ok, Err}
+use Rattle.rpll.specs.Loops.{config_number, updated_of}
 use Rattle.rpll.specs.Blocks.{stamp_of, stamps, phase_after, frequency_after, block_number, LoopBlocked}
 
 pub as_many : (there : List Bool) (xs : List ℤ) → length there ≡ length xs → length (stamps there xs) ≡ length xs
@@ -29,11 +29,15 @@ as_many (b ∷ there) [] e = absurd (omega (arith, e))
 as_many (b ∷ there) (x ∷ xs) e = ap suc (as_many there xs (omega (arith, e)))
 
 pub stamp_at : (there : List Bool) (xs : List ℤ) (i : ℕ) → i < length there → i < length xs
-    → get_or (stamps there xs) i Missing ≡ stamp_of (get_or there i false) (get_or xs i (pos 0))
+    → get_or (stamps there xs) i None ≡ stamp_of (get_or there i false) (get_or xs i (pos 0))
 stamp_at [] xs i h l = absurd (omega (arith, h))
 stamp_at (b ∷ there) [] i h l = absurd (omega (arith, l))
 stamp_at (b ∷ there) (x ∷ xs) zero h l = refl
 stamp_at (b ∷ there) (x ∷ xs) (suc i) h l = stamp_at there xs i (omega (arith, h)) (omega (arith, l))
+
+pub stamped : (b : Bool) (x : ℤ) → then_some b x ≡ stamp_of b x
+stamped true x = refl
+stamped false x = refl
 
 module _ (c : RPLLConfig) (s₀ : RPLL) (there : List Bool) (xs : List ℤ) where
   pub record Locking (ys fs : List ℤ) (s : RPLL) (i : ℕ) : Type 0 where
@@ -69,8 +73,8 @@ module _ (c : RPLLConfig) (s₀ : RPLL) (there : List Bool) (xs : List ℤ) wher
         even = g.even;
         room = length-set ys i _ ∙ g.room;
         space = length-set fs i _ ∙ g.space;
-        phases = rw x at (turns.turn (phase_after c) (updated_of c) s₀ (stamps there xs) ys s i Missing b g.phases);
-        frequencies = rw x at (turns.turn (frequency_after c) (updated_of c) s₀ (stamps there xs) fs s i Missing b g.frequencies);
+        phases = rw x at (turns.turn (phase_after c) (updated_of c) s₀ (stamps there xs) ys s i None b g.phases);
+        frequencies = rw x at (turns.turn (frequency_after c) (updated_of c) s₀ (stamps there xs) fs s i None b g.frequencies);
       })
 
   pub done : (ys fs : List ℤ) (s : RPLL) (i : ℕ) → length xs ≤ i → Locking ys fs s i
@@ -82,34 +86,35 @@ module _ (c : RPLLConfig) (s₀ : RPLL) (there : List Bool) (xs : List ℤ) wher
       let p = turns.done _ _ _ _ ys s i b g.phases in
       (p.0, p.1, (turns.done _ _ _ _ fs s i b g.frequencies).1)
 
-came : {A : Type 0} (k : ℕ) (a b : A) → k ≡ 0 → b ≡ unless k a b
-came k a b e = rw (eq-eqb k 0 e)
+-- slices of one length leave the configuration's number
+pub number_is : (c : RPLLConfig) (there : List Bool) (xs ys fs : List ℤ) → length there ≡ length xs → length xs ≡ length ys → length ys ≡ length fs
+    → block_number c there xs ys fs ≡ config_number c
+number_is c there xs ys fs e f g = rw (eq-eqb _ _ e, eq-eqb _ _ f, eq-eqb _ _ g) refl
 
 -- how a block call ends
 module _ (c : RPLLConfig) (s : RPLL) (there : List Bool) (xs ys fs : List ℤ) where
-  pub refused : (k : ℕ) → block_number c there xs ys fs ≡ k → (k ≡ 0 → ⊥) → LoopBlocked c s there xs ys fs s (Refused k) ys fs
-  refused k e h =
-      let b : block_number c there xs ys fs ≡ 0 → ⊥ = λ z. h (sym e ∙ z) in
-      record {
-        verdict = ways.refused k h ∙ ap verdict_of (sym e);
-        state = ways.kept _ _ _ b;
-        phases = ways.kept _ _ _ b;
-        frequencies = ways.kept _ _ _ b;
-      }
+  pub refused : (r : Refusal) → ◌≡◌ {A = Result (Unit {0}) Refusal} (Err r) (answer (block_number c there xs ys fs) tt)
+      → LoopBlocked c s there xs ys fs s (Err r) ys fs
+  refused r e =
+      let b = ways.never (block_number c there xs ys fs) tt r e in
+      record { verdict = e; state = ways.kept _ _ _ b; phases = ways.kept _ _ _ b; frequencies = ways.kept _ _ _ b }
+
+  pub unlike : block_number c there xs ys fs ≡ 31 → LoopBlocked c s there xs ys fs s (Err Refusal.Lengths) ys fs
+  unfolding answer refusal_at
+  unlike e = refused Refusal.Lengths (rw e refl)
 
   pub taken : (t : RPLL) (zs gs : List ℤ) → block_number c there xs ys fs ≡ 0
       → (t ≡ ends (phase_after c) (updated_of c) s (stamps there xs)) × (zs ≡ scan (phase_after c) (updated_of c) s (stamps there xs))
-      × (gs ≡ scan (frequency_after c) (updated_of c) s (stamps there xs)) → LoopBlocked c s there xs ys fs t Done zs gs
-  unfolding verdict_of
+      × (gs ≡ scan (frequency_after c) (updated_of c) s (stamps there xs)) → LoopBlocked c s there xs ys fs t (Ok tt) zs gs
   taken t zs gs e p = record {
-    verdict = ap verdict_of (sym e);
-    state = p.0 ∙ came _ _ _ e;
-    phases = p.1 ∙ came _ _ _ e;
-    frequencies = p.2 ∙ came _ _ _ e;
+    verdict = accepted _ tt e;
+    state = p.0 ∙ ways.came _ _ _ e;
+    phases = p.1 ∙ ways.came _ _ _ e;
+    frequencies = p.2 ∙ ways.came _ _ _ e;
   }
 
 -- two results that the block's promise allows are one
-pub settled : {c : RPLLConfig} {s t u : RPLL} {there : List Bool} {xs ys fs zs gs ws hs : List ℤ} {v w : Verdict}
+pub settled : {c : RPLLConfig} {s t u : RPLL} {there : List Bool} {xs ys fs zs gs ws hs : List ℤ} {v w : Result (Unit {0}) Refusal}
     → LoopBlocked c s there xs ys fs t v zs gs → LoopBlocked c s there xs ys fs u w ws hs
     → (t ≡ u) × (v ≡ w) × (zs ≡ ws) × (gs ≡ hs)
 settled p q =

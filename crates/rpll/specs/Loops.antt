@@ -1,14 +1,14 @@
 -- 01, 'Sections and loops': the RPLL's step follows the code, every sum and product modulo its width.
 -- Each line of the code stands here by its meaning.
-use Rattle.std.specs.Prelude.{cond, ◌||◌, ℕ, ◌+◌, ◌-◌, ◌/◌, ◌^◌, ltb, leb, eqb, ℤ, pos, neg_ℤ, ◌+ℤ◌, ◌-ℤ◌, ◌*ℤ◌}
+use Rattle.std.specs.Prelude.{cond, ◌||◌, ℕ, ◌+◌, ◌-◌, ◌/◌, ◌^◌, ltb, leb, ℤ, pos, neg_ℤ, ◌+ℤ◌, ◌-ℤ◌, ◌*ℤ◌, Option, Some, None, Result, Ok}
 use Rattle.std.specs.Int.{w32}
 use Rattle.words.specs.Words.{mod_ℤ, word, wrap, floor_div}
 use Rattle.rpll.specs.declared.RPLL.{RPLL}
 use Rattle.rpll.specs.declared.RPLLConfig.{RPLLConfig}
-use Rattle.rpll.specs.declared.Timestamp.{Timestamp}
-use Rattle.rpll.specs.declared.Timestamp.TheVariants.{At, Missing}
-use Rattle.rpll.specs.declared.Estimate.TheVariants.{Given, Refused}
-use Rattle.rpll.specs.declared.Processed.{Processed}
+use Rattle.rpll.specs.declared.Estimate.{Estimate}
+use Rattle.blocks.specs.declared.refusal.Refusal.{Refusal}
+use Rattle.blocks.specs.Refusals.{answer}
+use Rattle.blocks.specs.Blocks.{unless}
 
 -- 60: dt2 above 30. 61: shift_frequency not above dt2, or above 32. 62: shift_phase below dt2 or above dt2 + 31.
 -- 0 where it is none of them.
@@ -66,16 +66,25 @@ taken_of c s x = record {
 }
 
 -- a step, with a timestamp or without
-abbrev pub updated_of : RPLLConfig → RPLL → Timestamp → RPLL
-updated_of c s (At x) = taken_of c (advanced_of s) x
-updated_of c s Missing = advanced_of s
+abbrev pub updated_of : RPLLConfig → RPLL → Option ℤ → RPLL
+updated_of c s (Some x) = taken_of c (advanced_of s) x
+updated_of c s None = advanced_of s
 
 -- phase and frequency together, the frequency read as signed
-abbrev pub estimated_of : RPLL → Processed
-estimated_of s = record { state = s; estimate = Given s.y (wrap w32 (pos s.f)) }
+abbrev pub estimate_of : RPLL → Estimate
+estimate_of s = record { phase = s.y; frequency = wrap w32 (pos s.f) }
 
--- a refused call hands back the given state
-unfoldable pub processed_of : RPLLConfig → RPLL → Timestamp → Processed
-processed_of c s t =
-    cond (eqb (config_number c) 0) (estimated_of (updated_of c s t))
-    (record { state = s; estimate = Refused (config_number c) })
+-- what a call leaves and what it gives
+pub record Processed : Type 0 where
+  pub state : RPLL
+  pub estimate : Result Estimate Refusal
+
+abbrev pub estimated_of : RPLL → Processed
+estimated_of s = record { state = s; estimate = Ok (estimate_of s) }
+
+-- a refused call leaves the given state
+abbrev pub processed_of : RPLLConfig → RPLL → Option ℤ → Processed
+processed_of c s t = record {
+  state = unless (config_number c) s (updated_of c s t);
+  estimate = answer (config_number c) (estimate_of (updated_of c s t));
+}

@@ -3,20 +3,15 @@
 
 #![tactic(auto)]
 
-ghost use Rattle.std.specs.Prelude.{◌≡◌, ◌+◌, ◌<◌, ◌≤◌, length};
-ghost use Rattle.blocks.specs.Scan.{scan, ends};
-ghost use Rattle.blocks.specs.declared.Verdict.TheVariants.{Refused};
+ghost use Rattle.std.specs.Prelude.{◌≡◌, ◌+◌, ◌<◌, ◌≤◌};
+ghost use Rattle.blocks.specs.Refusals.{answer};
 ghost use Rattle.rpll.specs.Loops.{config_number, locked_of, error_of, advanced_of, taken_of, updated_of};
-ghost use Rattle.rpll.specs.Loops.{estimated_of, processed_of};
-ghost use Rattle.rpll.specs.Blocks.{stamp_of, stamps, phase_after, frequency_after, LoopBlocked};
+ghost use Rattle.rpll.specs.Loops.{estimate_of, processed_of};
+ghost use Rattle.rpll.specs.Blocks.{LoopBlocked};
 
-use blocks::Verdict;
-use words::casts::{i32_as_u32, i32_as_u64, u32_as_i32, u64_as_u32};
-use words::shifts::{shl_u32, shr_i32, shr_u32, shr_u64};
-use words::signed::{add_i32, sub_i32};
-use words::unsigned::{add_u32, add_u64, mul_u32, mul_u64, sub_u32};
+use blocks::Refusal;
 
-#[derive(Clone, Copy)]
+#[derive(Clone, Copy, Debug, PartialEq, Eq)]
 pub struct RPLL {
     // The previous timestamp.
     pub x: i32,
@@ -28,7 +23,7 @@ pub struct RPLL {
     pub y: i32,
 }
 
-#[derive(Clone, Copy)]
+#[derive(Clone, Copy, Debug, PartialEq, Eq)]
 pub struct RPLLConfig {
     // A step lasts 2^dt2 counter cycles.
     pub dt2: u8,
@@ -39,30 +34,11 @@ pub struct RPLLConfig {
     pub shift_phase: u8,
 }
 
-// What a step learns: a timestamp in counter cycles, or nothing.
-#[derive(Clone, Copy)]
-pub enum Timestamp {
-    At(i32),
-    Missing,
-}
-
-// The phase and the frequency, or the number of the refusal.
-#[derive(Clone, Copy)]
-pub enum Estimate {
-    Given(i32, i32),
-    Refused(u32),
-}
-
-#[derive(Clone, Copy)]
-pub struct Processed {
-    pub state: RPLL,
-    pub estimate: Estimate,
-}
-
-#[derive(Clone, Copy)]
-pub struct ProcessedBlock {
-    pub state: RPLL,
-    pub verdict: Verdict,
+// The phase and the frequency after a step, the latter read as signed.
+#[derive(Clone, Copy, Debug, PartialEq, Eq)]
+pub struct Estimate {
+    pub phase: i32,
+    pub frequency: i32,
 }
 
 // The frequency loop: ff corrected by what its phase over dx counter cycles lacks to the reference's 2^dt2 turns.
@@ -71,11 +47,11 @@ fn frequency_lock(ff: u32, dx: i32, dt2: u32, shift: u32) -> u32
     requires { (dt2 < shift) × (shift ≤ 32) }
     ensures { result ≡ locked_of ff dx dt2 shift }
 {
-    let p_sig_64 = mul_u64(ff as u64, i32_as_u64(dx));
-    let half = shl_u32(1, shift - 1) as u64;
-    let p_sig = u64_as_u32(shr_u64(add_u64(p_sig_64, half), shift));
-    let p_ref = shl_u32(1, 32 + dt2 - shift);
-    add_u32(ff, sub_u32(p_ref, p_sig))
+    let turned = u64::from(ff).wrapping_mul(i64::from(dx).cast_unsigned());
+    let rounded = turned.wrapping_add(1 << (shift - 1)) >> shift;
+    let p_sig = (rounded % 0x1_0000_0000) as u32;
+    let p_ref = 1u32 << (32 + dt2 - shift);
+    ff.wrapping_add(p_ref.wrapping_sub(p_sig))
 }
 
 // The phase loop: what the phase y lacks to the reference's now, by the timestamp x and the frequency f,
@@ -84,22 +60,18 @@ fn phase_error(f: u32, x: i32, y: i32, dt2: u32, shift: u32) -> i32
     requires { (dt2 ≤ 30) × (dt2 ≤ shift) × (shift ≤ dt2 + 31) }
     ensures { result ≡ error_of f x y dt2 shift }
 {
-    let dt = i32_as_u32(sub_i32(0, x)) % shl_u32(1, dt2);
-    let y_ref = u32_as_i32(mul_u32(shr_u32(f, dt2), dt));
-    shr_i32(sub_i32(y_ref, y), shift - dt2)
+    let dt = x.wrapping_neg().cast_unsigned() % (1 << dt2);
+    let y_ref = (f >> dt2).wrapping_mul(dt).cast_signed();
+    y_ref.wrapping_sub(y) >> (shift - dt2)
 }
 
 impl RPLL {
-    // The phase after a step at the current frequency; all else stays.
-    fn advanced(self) -> RPLL
-        ensures { result ≡ advanced_of self }
+    // Advances the phase by a step at the current frequency; all else stays.
+    #[tactic(auto, using(words::proofs::Std::signed, words::proofs::Std::casts, crate::proofs::Coasting::added))]
+    fn advance(&mut self)
+        ensures { self.new ≡ advanced_of self.old }
     {
-        RPLL {
-            x: self.x,
-            ff: self.ff,
-            f: self.f,
-            y: add_i32(self.y, u32_as_i32(self.f)),
-        }
+        self.y = self.y.wrapping_add(self.f.cast_signed());
     }
 
     // The current phase.
@@ -115,167 +87,96 @@ impl RPLL {
     {
         self.f
     }
+
+    #[tactic(auto, using(words::proofs::Std::casts))]
+    fn estimate(self) -> Estimate
+        ensures { result ≡ estimate_of self }
+    {
+        Estimate {
+            phase: self.y,
+            frequency: self.f.cast_signed(),
+        }
+    }
 }
 
 impl RPLLConfig {
-    // The number of the first refusal that concerns the configuration, 0 where there is none: 60 where dt2 is above 30,
-    // 61 where shift_frequency is outside dt2 + 1 .. 32, 62 where shift_phase is outside dt2 .. dt2 + 31.
-    fn refusal(self) -> u32
-        ensures { result ≡ config_number self }
+    // The first refusal that concerns the configuration: Dt2 where dt2 is above 30, ShiftFrequency where shift_frequency
+    // is outside dt2 + 1 .. 32, ShiftPhase where shift_phase is outside dt2 .. dt2 + 31.
+    #[tactic(auto, unfolding(blocks::specs::Refusals::answer, blocks::specs::Refusals::refusal_at, crate::specs::Loops::config_number))]
+    fn accepted(self) -> Result<(), Refusal>
+        ensures { result ≡ answer (config_number self) tt }
     {
-        let dt2 = self.dt2;
-        if 30 < dt2 {
-            return 60;
+        if self.dt2 > 30 {
+            return Err(Refusal::Dt2);
         }
-        if self.shift_frequency <= dt2 {
-            return 61;
+        if self.shift_frequency <= self.dt2 || self.shift_frequency > 32 {
+            return Err(Refusal::ShiftFrequency);
         }
-        if 32 < self.shift_frequency {
-            return 61;
+        if self.shift_phase < self.dt2 || self.shift_phase > self.dt2 + 31 {
+            return Err(Refusal::ShiftPhase);
         }
-        if self.shift_phase < dt2 {
-            return 62;
-        }
-        if dt2 + 31 < self.shift_phase {
-            return 62;
-        }
-        0
+        Ok(())
     }
 
     // Both loops at the timestamp x, which is kept; the phase stays.
-    fn taken(self, s: RPLL, x: i32) -> RPLL
+    fn take(self, s: &mut RPLL, x: i32)
         requires { config_number self ≡ 0 }
-        ensures { result ≡ taken_of self s x }
+        ensures { s.new ≡ taken_of self s.old x }
     {
-        let dt2 = self.dt2 as u32;
-        let last = s.x;
-        let dx = sub_i32(x, last);
-        let ff = frequency_lock(s.ff, dx, dt2, self.shift_frequency as u32);
-        let dy = phase_error(s.f, x, s.y, dt2, self.shift_phase as u32);
-        RPLL {
-            x,
-            ff,
-            f: add_u32(ff, i32_as_u32(dy)),
-            y: s.y,
+        let dt2 = u32::from(self.dt2);
+        let dx = x.wrapping_sub(s.x);
+        let ff = frequency_lock(s.ff, dx, dt2, u32::from(self.shift_frequency));
+        let dy = phase_error(s.f, x, s.y, dt2, u32::from(self.shift_phase));
+        s.x = x;
+        s.ff = ff;
+        s.f = ff.wrapping_add(dy.cast_unsigned());
+    }
+
+    // A step, with a timestamp or without.
+    fn update(self, s: &mut RPLL, x: Option<i32>)
+        requires { config_number self ≡ 0 }
+        ensures { s.new ≡ updated_of self s.old x }
+    {
+        s.advance();
+        if let Some(x) = x {
+            self.take(s, x);
         }
     }
 
-    // A step, with the timestamp x where there is one.
-    fn updated(self, s: RPLL, there: bool, x: i32) -> RPLL
-        requires { config_number self ≡ 0 }
-        ensures { result ≡ updated_of self s (stamp_of there x) }
+    // Advances the loop by a step and takes a timestamp, in counter cycles, where there is one. At most one comes in a step.
+    // Dt2, ShiftFrequency or ShiftPhase where the configuration is out of range: the state stays as it was.
+    pub fn process(self, state: &mut RPLL, x: Option<i32>) -> Result<Estimate, Refusal>
+        ensures { (result ≡ (processed_of self state.old x).estimate) × (state.new ≡ (processed_of self state.old x).state) }
     {
-        let ahead = s.advanced();
-        if there {
-            return self.taken(ahead, x);
-        }
-        ahead
-    }
-
-    // Advances the loop by a step and takes a timestamp where there is one. At most one comes in a step.
-    // 60, 61 or 62 where the configuration is out of range: the state comes back as it was.
-    pub fn process(self, state: RPLL, x: Timestamp) -> Processed
-        ensures { result ≡ processed_of self state x }
-    {
-        let number = self.refusal();
-        if number != 0 {
-            return Processed {
-                state,
-                estimate: Estimate::Refused(number),
-            };
-        }
-        let ahead = state.advanced();
-        let Timestamp::At(x) = x else {
-            return given(ahead);
-        };
-        given(self.taken(ahead, x))
+        self.accepted()?;
+        self.update(state, x);
+        Ok(state.estimate())
     }
 
     // Takes the steps in turn, step i with the timestamp xs[i] where there[i], else without, and writes the phases and
-    // the frequencies, the latter read as signed. 31 where the slices differ in length, else the configuration's
-    // number: nothing is written.
+    // the frequencies, the latter read as signed. Lengths where the slices differ in length, else the configuration's
+    // refusal: nothing changes.
+    // Kept: flags, timestamps and both outputs are slices of their own, as C lends them.
     pub fn block(
         self,
-        state: RPLL,
+        state: &mut RPLL,
         there: &[bool],
         xs: &[i32],
         ys: &mut [i32],
         fs: &mut [i32],
-    ) -> ProcessedBlock
-        ensures { LoopBlocked self state there.now xs.now ys.old fs.old
-            result.state result.verdict ys.new fs.new }
+    ) -> Result<(), Refusal>
+        ensures { LoopBlocked self state.old there.now xs.now ys.old fs.old state.new result ys.new fs.new }
     {
-        if there.len() != xs.len() {
-            return refused_block(state, 31);
+        if there.len() != xs.len() || xs.len() != ys.len() || ys.len() != fs.len() {
+            return Err(Refusal::Lengths);
         }
-        if xs.len() != ys.len() {
-            return refused_block(state, 31);
+        self.accepted()?;
+        for (i, &x) in xs.iter().enumerate() {
+            self.update(state, there[i].then_some(x));
+            let now = state.estimate();
+            ys[i] = now.phase;
+            fs[i] = now.frequency;
         }
-        if ys.len() != fs.len() {
-            return refused_block(state, 31);
-        }
-        let number = self.refusal();
-        if number != 0 {
-            return refused_block(state, number);
-        }
-        let after = lock_all(self, state, there, xs, ys, fs);
-        ProcessedBlock {
-            state: after,
-            verdict: Verdict::Done,
-        }
-    }
-}
-
-// The state as it was, and the number.
-fn refused_block(state: RPLL, number: u32) -> ProcessedBlock
-    ensures { (result.state ≡ state) × (result.verdict ≡ Refused number) }
-{
-    ProcessedBlock {
-        state,
-        verdict: Verdict::Refused(number),
-    }
-}
-
-// The steps of a block, the state's four numbers as locals.
-fn lock_all(
-    c: RPLLConfig,
-    s: RPLL,
-    there: &[bool],
-    xs: &[i32],
-    ys: &mut [i32],
-    fs: &mut [i32],
-) -> RPLL
-    requires { (config_number c ≡ 0) × (length there.now ≡ length xs.now) × (length xs.now ≡ length ys.old)
-        × (length ys.old ≡ length fs.old) }
-    ensures { (result ≡ ends (phase_after c) (updated_of c) s (stamps there.now xs.now))
-        × (ys.new ≡ scan (phase_after c) (updated_of c) s (stamps there.now xs.now))
-        × (fs.new ≡ scan (frequency_after c) (updated_of c) s (stamps there.now xs.now)) }
-{
-    let mut last = s.x;
-    let mut ff = s.ff;
-    let mut f = s.f;
-    let mut y = s.y;
-    let mut i: usize = 0;
-    while i < xs.len() {
-        let before = RPLL { x: last, ff, f, y };
-        let t = c.updated(before, there[i], xs[i]);
-        last = t.x;
-        ff = t.ff;
-        f = t.f;
-        y = t.y;
-        ys[i] = y;
-        fs[i] = u32_as_i32(f);
-        i += 1;
-    }
-    RPLL { x: last, ff, f, y }
-}
-
-// The state with its phase and its frequency, the latter read as signed.
-fn given(state: RPLL) -> Processed
-    ensures { result ≡ estimated_of state }
-{
-    Processed {
-        state,
-        estimate: Estimate::Given(state.y, u32_as_i32(state.f)),
+        Ok(())
     }
 }

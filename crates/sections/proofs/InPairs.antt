@@ -13,7 +13,7 @@ use mir.Syntax.{w32}
 use mir.Val.{to_z, of_z, hbits}
 use lib.Signed.{mag}
 use Rattle.words.proofs.Reading.{read}
-use Rattle.blocks.specs.declared.Verdict.TheVariants.{Done}
+use Rattle.std.specs.Prelude.{Ok}
 use Rattle.blocks.specs.Scan.{scan, ends}
 use Rattle.blocks.specs.Blocks.{Blocked}
 use Rattle.blocks.proofs.Turns.{Going, turn}
@@ -216,7 +216,7 @@ eight_cells = eight_of_law (λ (z : List ℤ). at z 0 ∷ at z 1 ∷ at z 2 ∷ 
 -- ---- a block that ran, as the call that it is of
 
 pub ran_blocked : (n m : ℕ) (a z w : Eight) (cs zs xs ys ws out : List ℤ) → list_of a ≡ cs → list_of z ≡ zs → out ≡ list_of w
-    → length xs ≡ length ys → Ran n m a z xs w ws → Blocked 0 (chain_answer n m cs) (chain_next n m cs) zs xs ys out Done ws
+    → length xs ≡ length ys → Ran n m a z xs w ws → Blocked 0 (chain_answer n m cs) (chain_next n m cs) zs xs ys out (Ok tt) ws
 ran_blocked n m a z w cs zs xs ys ws out e f g h r =
     taken 0 (chain_answer n m cs) (chain_next n m cs) zs xs ys out ws h refl
     (g ∙ r.0 ∙ ap (λ (l : List ℤ). ends (chain_answer n m l) (chain_next n m l) (list_of z) xs) e

@@ -92,8 +92,8 @@ pub(crate) fn codes_of(architecture: u32) -> Codes
     Codes { k0, k1, k2, k3 }
 }
 
-// The sections of such a number.
-pub(crate) fn through(code: u32, w: Given) -> Two
+// The sections of such a number. COPY makes a function of its own of each: what the last arm below calls shares no text with the others.
+pub(crate) fn through<const COPY: usize>(code: u32, w: Given) -> Two
     ensures { result ≡ coded code w }
 {
     let p = kind(code % 6).adapt(w.x, w.z0, w.a0);
@@ -105,195 +105,50 @@ pub(crate) fn through(code: u32, w: Given) -> Two
     }
 }
 
-// The same of a number that no arm below has: never run, and a function of its own so that the arms stay apart.
-fn through_any(code: u32, w: Given) -> Two
+// The same by arms: in each the number is known, and one jump leads to two adapters. PLACE makes one such function for each place
+// where a block calls one: what is called from one place alone is compiled into it.
+pub(crate) fn through_at<const PLACE: usize>(code: u32, w: Given) -> Two
     ensures { result ≡ coded code w }
 {
-    let low = kind(code % 6);
-    let high = kind(code / 6);
-    let p = low.adapt(w.x, w.z0, w.a0);
-    let q = high.adapt(p.1, w.z1, w.a1);
-    Two {
-        back: p.0,
-        cell: q.0,
-        on: q.1,
-    }
-}
-
-// The same by arms: in each the number is known, and one jump leads to two adapters. Four such functions, one for each place where
-// a block calls one: what is called from one place alone is compiled into it.
-pub(crate) fn through0(code: u32, w: Given) -> Two
-    ensures { result ≡ coded code w }
-{
+    // Kept: an arm for each number. A table of adapters would be read at run time.
     match code {
-        0 => through(code, w),
-        1 => through(code, w),
-        2 => through(code, w),
-        3 => through(code, w),
-        4 => through(code, w),
-        5 => through(code, w),
-        6 => through(code, w),
-        7 => through(code, w),
-        8 => through(code, w),
-        9 => through(code, w),
-        10 => through(code, w),
-        11 => through(code, w),
-        12 => through(code, w),
-        13 => through(code, w),
-        14 => through(code, w),
-        15 => through(code, w),
-        16 => through(code, w),
-        17 => through(code, w),
-        18 => through(code, w),
-        19 => through(code, w),
-        20 => through(code, w),
-        21 => through(code, w),
-        22 => through(code, w),
-        23 => through(code, w),
-        24 => through(code, w),
-        25 => through(code, w),
-        26 => through(code, w),
-        27 => through(code, w),
-        28 => through(code, w),
-        29 => through(code, w),
-        30 => through(code, w),
-        31 => through(code, w),
-        32 => through(code, w),
-        33 => through(code, w),
-        34 => through(code, w),
-        35 => through(code, w),
-        _ => through_any(code, w),
-    }
-}
-
-pub(crate) fn through1(code: u32, w: Given) -> Two
-    ensures { result ≡ coded code w }
-{
-    match code {
-        0 => through(code, w),
-        1 => through(code, w),
-        2 => through(code, w),
-        3 => through(code, w),
-        4 => through(code, w),
-        5 => through(code, w),
-        6 => through(code, w),
-        7 => through(code, w),
-        8 => through(code, w),
-        9 => through(code, w),
-        10 => through(code, w),
-        11 => through(code, w),
-        12 => through(code, w),
-        13 => through(code, w),
-        14 => through(code, w),
-        15 => through(code, w),
-        16 => through(code, w),
-        17 => through(code, w),
-        18 => through(code, w),
-        19 => through(code, w),
-        20 => through(code, w),
-        21 => through(code, w),
-        22 => through(code, w),
-        23 => through(code, w),
-        24 => through(code, w),
-        25 => through(code, w),
-        26 => through(code, w),
-        27 => through(code, w),
-        28 => through(code, w),
-        29 => through(code, w),
-        30 => through(code, w),
-        31 => through(code, w),
-        32 => through(code, w),
-        33 => through(code, w),
-        34 => through(code, w),
-        35 => through(code, w),
-        _ => through_any(code, w),
-    }
-}
-
-pub(crate) fn through2(code: u32, w: Given) -> Two
-    ensures { result ≡ coded code w }
-{
-    match code {
-        0 => through(code, w),
-        1 => through(code, w),
-        2 => through(code, w),
-        3 => through(code, w),
-        4 => through(code, w),
-        5 => through(code, w),
-        6 => through(code, w),
-        7 => through(code, w),
-        8 => through(code, w),
-        9 => through(code, w),
-        10 => through(code, w),
-        11 => through(code, w),
-        12 => through(code, w),
-        13 => through(code, w),
-        14 => through(code, w),
-        15 => through(code, w),
-        16 => through(code, w),
-        17 => through(code, w),
-        18 => through(code, w),
-        19 => through(code, w),
-        20 => through(code, w),
-        21 => through(code, w),
-        22 => through(code, w),
-        23 => through(code, w),
-        24 => through(code, w),
-        25 => through(code, w),
-        26 => through(code, w),
-        27 => through(code, w),
-        28 => through(code, w),
-        29 => through(code, w),
-        30 => through(code, w),
-        31 => through(code, w),
-        32 => through(code, w),
-        33 => through(code, w),
-        34 => through(code, w),
-        35 => through(code, w),
-        _ => through_any(code, w),
-    }
-}
-
-pub(crate) fn through3(code: u32, w: Given) -> Two
-    ensures { result ≡ coded code w }
-{
-    match code {
-        0 => through(code, w),
-        1 => through(code, w),
-        2 => through(code, w),
-        3 => through(code, w),
-        4 => through(code, w),
-        5 => through(code, w),
-        6 => through(code, w),
-        7 => through(code, w),
-        8 => through(code, w),
-        9 => through(code, w),
-        10 => through(code, w),
-        11 => through(code, w),
-        12 => through(code, w),
-        13 => through(code, w),
-        14 => through(code, w),
-        15 => through(code, w),
-        16 => through(code, w),
-        17 => through(code, w),
-        18 => through(code, w),
-        19 => through(code, w),
-        20 => through(code, w),
-        21 => through(code, w),
-        22 => through(code, w),
-        23 => through(code, w),
-        24 => through(code, w),
-        25 => through(code, w),
-        26 => through(code, w),
-        27 => through(code, w),
-        28 => through(code, w),
-        29 => through(code, w),
-        30 => through(code, w),
-        31 => through(code, w),
-        32 => through(code, w),
-        33 => through(code, w),
-        34 => through(code, w),
-        35 => through(code, w),
-        _ => through_any(code, w),
+        0 => through::<0>(code, w),
+        1 => through::<0>(code, w),
+        2 => through::<0>(code, w),
+        3 => through::<0>(code, w),
+        4 => through::<0>(code, w),
+        5 => through::<0>(code, w),
+        6 => through::<0>(code, w),
+        7 => through::<0>(code, w),
+        8 => through::<0>(code, w),
+        9 => through::<0>(code, w),
+        10 => through::<0>(code, w),
+        11 => through::<0>(code, w),
+        12 => through::<0>(code, w),
+        13 => through::<0>(code, w),
+        14 => through::<0>(code, w),
+        15 => through::<0>(code, w),
+        16 => through::<0>(code, w),
+        17 => through::<0>(code, w),
+        18 => through::<0>(code, w),
+        19 => through::<0>(code, w),
+        20 => through::<0>(code, w),
+        21 => through::<0>(code, w),
+        22 => through::<0>(code, w),
+        23 => through::<0>(code, w),
+        24 => through::<0>(code, w),
+        25 => through::<0>(code, w),
+        26 => through::<0>(code, w),
+        27 => through::<0>(code, w),
+        28 => through::<0>(code, w),
+        29 => through::<0>(code, w),
+        30 => through::<0>(code, w),
+        31 => through::<0>(code, w),
+        32 => through::<0>(code, w),
+        33 => through::<0>(code, w),
+        34 => through::<0>(code, w),
+        35 => through::<0>(code, w),
+        // Never run.
+        _ => through::<1>(code, w),
     }
 }

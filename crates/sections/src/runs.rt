@@ -7,7 +7,7 @@ ghost use Rattle.sections.specs.Pairs.{pair_code, codes_of};
 
 use crate::pairs::{Codes, Eight, codes_of, pair_code};
 use crate::turns::{turn_eight, turn_two};
-use blocks::Verdict;
+use blocks::Refusal;
 
 // An array's numbers as a struct, which the compiler keeps in registers.
 fn eight_of(l: [i32; 8]) -> Eight
@@ -46,15 +46,10 @@ fn two(architecture: u32, code: u32, a: Eight, z: Eight, xs: &[i32], ys: &mut [i
     ensures { Ran 2 architecture a z xs.now result ys.new }
 {
     let mut cells = z;
-    let mut i: usize = 0;
-    while i < xs.len() {
-        let x = xs[i];
+    for (i, &x) in xs.iter().enumerate() {
         let t = turn_two(architecture, code, a, cells, x);
-        let y = t.y;
-        ys[i] = y;
-        let after = t.cells;
-        cells = after;
-        i += 1;
+        ys[i] = t.y;
+        cells = t.cells;
     }
     cells
 }
@@ -96,40 +91,35 @@ fn eight(architecture: u32, k: Codes, a: Eight, z: Eight, xs: &[i32], ys: &mut [
     ensures { Ran 8 architecture a z xs.now result ys.new }
 {
     let mut cells = z;
-    let mut i: usize = 0;
-    while i < xs.len() {
-        let x = xs[i];
+    for (i, &x) in xs.iter().enumerate() {
         let t = turn_eight(architecture, k, a, cells, x);
-        let y = t.y;
-        ys[i] = y;
-        let after = t.cells;
-        cells = after;
-        i += 1;
+        ys[i] = t.y;
+        cells = t.cells;
     }
     cells
 }
 
 // Takes the inputs in turn through the two sections of the lowest nibbles, writes their outputs and leaves the cells as they are after them.
-// 31 where the slices differ in length: nothing is written or changed.
+// `Lengths` where the slices differ in length: nothing is written or changed.
 pub fn run_two(
     architecture: u32,
     a: &[i32; 8],
     z: &mut [i32; 8],
     xs: &[i32],
     ys: &mut [i32],
-) -> Verdict
+) -> Result<(), Refusal>
     ensures { Blocked 0 (chain_answer 2 architecture a.now) (chain_next 2 architecture a.now)
         z.old xs.now ys.old z.new result ys.new }
 {
     if xs.len() != ys.len() {
-        return Verdict::Refused(31);
+        return Err(Refusal::Lengths);
     }
     let code = pair_code(architecture);
     let coefficients = eight_of(*a);
     let cells = eight_of(*z);
     let after = two_by_arm(architecture, code, coefficients, cells, xs, ys);
     *z = array_of(after);
-    Verdict::Done
+    Ok(())
 }
 
 // The same through the eight sections of all nibbles.
@@ -139,17 +129,17 @@ pub fn run_eight(
     z: &mut [i32; 8],
     xs: &[i32],
     ys: &mut [i32],
-) -> Verdict
+) -> Result<(), Refusal>
     ensures { Blocked 0 (chain_answer 8 architecture a.now) (chain_next 8 architecture a.now)
         z.old xs.now ys.old z.new result ys.new }
 {
     if xs.len() != ys.len() {
-        return Verdict::Refused(31);
+        return Err(Refusal::Lengths);
     }
     let k = codes_of(architecture);
     let coefficients = eight_of(*a);
     let cells = eight_of(*z);
     let after = eight(architecture, k, coefficients, cells, xs, ys);
     *z = array_of(after);
-    Verdict::Done
+    Ok(())
 }

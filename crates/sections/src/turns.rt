@@ -3,7 +3,7 @@ ghost use Rattle.std.specs.Prelude.{◌≡◌};
 ghost use Rattle.sections.specs.Lent.{Turns};
 ghost use Rattle.sections.specs.Pairs.{pair_code, codes_of};
 
-use crate::pairs::{Codes, Eight, Given, through, through0, through1, through2, through3};
+use crate::pairs::{Codes, Eight, Given, through, through_at};
 
 // A step's output, and the cells after it.
 #[derive(Clone, Copy)]
@@ -17,7 +17,7 @@ pub(crate) fn turn_two(architecture: u32, code: u32, a: Eight, z: Eight, x: i32)
     requires { code ≡ pair_code architecture }
     ensures { Turns 2 architecture a z x result }
 {
-    let p = through(
+    let p = through::<0>(
         code,
         Given {
             x,
@@ -47,7 +47,7 @@ pub(crate) fn turn_eight(architecture: u32, k: Codes, a: Eight, z: Eight, x: i32
     requires { k ≡ codes_of architecture }
     ensures { Turns 8 architecture a z x result }
 {
-    let p = through0(
+    let p = through_at::<0>(
         k.k0,
         Given {
             x,
@@ -57,7 +57,7 @@ pub(crate) fn turn_eight(architecture: u32, k: Codes, a: Eight, z: Eight, x: i32
             a1: a.e1,
         },
     );
-    let q = through1(
+    let q = through_at::<1>(
         k.k1,
         Given {
             x: p.on,
@@ -82,7 +82,7 @@ pub(crate) fn turn_eight(architecture: u32, k: Codes, a: Eight, z: Eight, x: i32
             },
         };
     }
-    let r = through2(
+    let r = through_at::<2>(
         k.k2,
         Given {
             x: q.on,
@@ -107,7 +107,7 @@ pub(crate) fn turn_eight(architecture: u32, k: Codes, a: Eight, z: Eight, x: i32
             },
         };
     }
-    let s = through3(
+    let s = through_at::<3>(
         k.k3,
         Given {
             x: r.on,

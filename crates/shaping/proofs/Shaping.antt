@@ -13,15 +13,15 @@ use lib.Pow.{pow_pos, pow-add}
 use lib.ListN.{length, take, get_or, replicate, length-replicate}
 use lib.Seq.{get_or-take}
 use borrow.Author.Tests.{le-ltb}
-use Rattle.blocks.specs.declared.Verdict.{Verdict}
-use Rattle.blocks.specs.Verdicts.{verdict_of}
+use Rattle.std.specs.Prelude.{Result, Ok}
+use Rattle.blocks.specs.declared.refusal.Refusal.{Refusal}
+use Rattle.blocks.specs.Refusals.{answer}
+use Rattle.blocks.proofs.Refusals.{taken_value}
 use Rattle.blocks.specs.Blocks.{unless}
 use Rattle.blocks.specs.Scan.{scan, ends}
 use Rattle.dsm.specs.declared.Dsm.{Dsm}
-use Rattle.dsm.specs.declared.Stepped.{Stepped}
-use Rattle.dsm.specs.declared.Output.{Output}
 use Rattle.dsm.specs.Modulator.{modulator_out, next_of, inside, inside_from}
-use Rattle.dsm.specs.Calls.{zeros_of, modulator_of, state_number, run_number, output_at, modulator_step}
+use Rattle.dsm.specs.Calls.{zeros_of, order_number, state_number, run_number, modulator_step}
 use Rattle.shaping.specs.Totals.{modulated, modulator_after}
 use Rattle.shaping.specs.Shaping.{took_in, gave_out, when_done, Called, OneList}
 use Rattle.shaping.specs.Shaping.{last_accumulator, accumulator_at, backwards, NoiseShaped, NearInput}
@@ -37,7 +37,7 @@ use Rattle.shaping.proofs.Tracking.{accs, At, at_zero, Follows, outs_along, ends
 abbrev One : Dsm → List ℕ → List ℤ → Dsm → Type 0
 One s xs ys t = (ys ≡ scan modulator_out next_of s xs) × (t ≡ ends modulator_out next_of s xs)
 
-one-step : (s : Dsm) (x : ℕ) (o : Output) (u t : Dsm) (xs : List ℕ) (ys : List ℤ) → o ≡ Output.Given (modulator_out s x) → u ≡ next_of s x
+one-step : (s : Dsm) (x : ℕ) (o : Result ℤ Refusal) (u t : Dsm) (xs : List ℕ) (ys : List ℤ) → o ≡ Ok (modulator_out s x) → u ≡ next_of s x
     → One u xs ys t → One s (took_in o x ++ xs) (gave_out o ++ ys) t
 one-step s x o u t xs ys e f h =
     let k : One (next_of s x) xs ys t = rw f at h in
@@ -50,10 +50,10 @@ then s (u ∷ us) xs ys t h =
     let k = then (next_of s u) us xs ys t h in
     (ap (λ (l : List ℤ). modulator_out s u ∷ l) k.0, k.1)
 
-one_block : (s : Dsm) (us xs : List ℕ) (lent zs ys : List ℤ) (v : Verdict) (u t : Dsm) (b : Bool) → v ≡ verdict_of (cond b 0 31)
+one_block : (s : Dsm) (us xs : List ℕ) (lent zs ys : List ℤ) (v : Result (Unit {0}) Refusal) (u t : Dsm) (b : Bool) → v ≡ answer (cond b 0 31) tt
     → u ≡ unless (cond b 0 31) s (ends modulator_out next_of s us) → zs ≡ unless (cond b 0 31) lent (scan modulator_out next_of s us)
     → One u xs ys t → One s (when_done v us ++ xs) (when_done v zs ++ ys) t
-unfolding verdict_of
+unfolding answer
 one_block s us xs lent zs ys v u t true e f g h = rw (e, g) (then s us xs ys t (rw f at h))
 one_block s us xs lent zs ys v u t false e f g h = rw e (rw f at h)
 
@@ -62,23 +62,20 @@ run-number : (s : Dsm) (xs : List ℕ) (ys : List ℤ) → state_number s ≡ 0 
 unfolding run_number
 run-number s xs ys ok = rw (le-ltb 8 s.order (Refusals.none-order s ok), Refusals.none_lying s ok)
 
-step_gives : (s : Dsm) (x : ℕ) → state_number s ≡ 0 → (modulator_step s x).out ≡ Output.Given (modulator_out s x)
-unfolding output_at
+step_gives : (s : Dsm) (x : ℕ) → state_number s ≡ 0 → (modulator_step s x).1 ≡ Ok (modulator_out s x)
+unfolding answer
 step_gives s x ok = rw ok
 
-step-leaves : (s : Dsm) (x : ℕ) → state_number s ≡ 0 → (modulator_step s x).state ≡ next_of s x
+step-leaves : (s : Dsm) (x : ℕ) → state_number s ≡ 0 → (modulator_step s x).0 ≡ next_of s x
 step-leaves s x ok = rw ok
 
 one : {s t : Dsm} {xs : List ℕ} {ys : List ℤ} → state_number s ≡ 0 → Called s xs ys t → One s xs ys t
 one ok Called.none = (refl, refl)
-one {s} {t} ok (Called.step {xs = xs} {ys = ys} x r p rest) =
-    one-step s x r.out r.state t xs ys
-    (ap (λ (a : Stepped). a.out) p.step ∙ step_gives s x ok)
-    (ap (λ (a : Stepped). a.state) p.step ∙ step-leaves s x ok)
-    (one (p.keeps.accepted ∙ ok) rest)
-one {s} {t} ok (Called.block {xs = xs} {ys = ys} us lent r zs p rest) =
+one {s} {t} ok (Called.step {xs = xs} {ys = ys} x u r p rest) =
+    one-step s x r u t xs ys (p.out ∙ step_gives s x ok) (p.state ∙ step-leaves s x ok) (one (p.keeps.accepted ∙ ok) rest)
+one {s} {t} ok (Called.block {xs = xs} {ys = ys} us lent u r zs p rest) =
     let k = run-number s us lent ok in
-    one_block s us xs lent zs ys r.verdict r.state t (eqb (length us) (length lent))
+    one_block s us xs lent zs ys r u t (eqb (length us) (length lent))
     (rw k at p.verdict) (rw k at p.state) (rw k at p.written) (one (p.keeps.accepted ∙ ok) rest)
 
 -- a new modulator is accepted
@@ -94,11 +91,10 @@ zeros_inside j (suc n) (suc k) h =
 new-accepted : (K : ℕ) → K ≤ 8 → state_number (zeros_of K) ≡ 0
 new-accepted K h = Refusals.none (zeros_of K) h (zeros_inside 0 (K - 1) 8 (omega arith))
 
-new-state : (K : ℕ) → K ≤ 8 → (modulator_of K).state ≡ zeros_of K
-new-state K h = rw (le-ltb 8 K h)
-
 pub one_list : OneList
-one_list K xs ys t h c = one (new-accepted K h) (subst (λ (s : Dsm). Called s xs ys t) (new-state K h) c)
+one_list K xs ys t h c =
+    let e = taken_value (order_number K) (zeros_of K) c.start (sym c.made) in
+    one (new-accepted K h) (subst (λ (s : Dsm). Called s xs ys t) e c.called)
 
 -- ---- the last accumulator
 

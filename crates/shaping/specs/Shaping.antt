@@ -1,38 +1,36 @@
 -- 02, A14: what the clock stage really does, said of the outputs that `Dsm::process` and `Dsm::block` give.
-use Rattle.std.specs.Prelude.{◌≡◌, List, [], ◌∷◌, ◌++◌, ℕ, zero, suc, ◌+◌, ◌-◌, ◌^◌, ◌≤◌, ◌<◌, ℤ, pos, nat_abs, ◌-ℤ◌, ◌*ℤ◌, length, take, get_or}
-use Rattle.blocks.specs.declared.Verdict.{Verdict}
-use Rattle.blocks.specs.declared.Verdict.TheVariants.{Done, Refused}
+use Rattle.std.specs.Prelude.{◌≡◌, List, [], ◌∷◌, ◌++◌, ℕ, zero, suc, ◌+◌, ◌-◌, ◌^◌, ◌≤◌, ◌<◌, ℤ, pos, nat_abs, ◌-ℤ◌, ◌*ℤ◌, length, take, get_or, Result, Ok, Err}
+use Rattle.blocks.specs.declared.refusal.Refusal.{Refusal}
 use Rattle.dsm.specs.declared.Dsm.{Dsm}
-use Rattle.dsm.specs.declared.Made.{Made}
-use Rattle.dsm.specs.declared.Stepped.{Stepped}
-use Rattle.dsm.specs.declared.Output.{Output}
 use Rattle.dsm.specs.Calls.{modulator_of, Steps, Runs}
 use Rattle.shaping.specs.Totals.{modulated, modulator_after}
 
 -- What a call took in and gave out, by its answer: a refused one nothing.
-abbrev pub took_in : Output → ℕ → List ℕ
-took_in (Output.Given y) x = x ∷ []
-took_in (Output.Refused k) x = []
+abbrev pub took_in : Result ℤ Refusal → ℕ → List ℕ
+took_in (Ok y) x = x ∷ []
+took_in (Err r) x = []
 
-abbrev pub gave_out : Output → List ℤ
-gave_out (Output.Given y) = y ∷ []
-gave_out (Output.Refused k) = []
+abbrev pub gave_out : Result ℤ Refusal → List ℤ
+gave_out (Ok y) = y ∷ []
+gave_out (Err r) = []
 
-abbrev pub when_done : {A : Type 0} → Verdict → List A → List A
-when_done Done l = l
-when_done (Refused k) l = []
+abbrev pub when_done : {A : Type 0} → Result (Unit {0}) Refusal → List A → List A
+when_done (Ok v) l = l
+when_done (Err r) l = []
 
 -- Steps and blocks in any mixture, each answered as its promise says: from the state s they took in xs, gave out ys and left t.
 pub data Called : Dsm → List ℕ → List ℤ → Dsm → Type 0 where
   none : {s : Dsm} → Called s [] [] s
-  step : {s t : Dsm} {xs : List ℕ} {ys : List ℤ} (x : ℕ) (r : Stepped) → Steps s x r → Called r.state xs ys t
-      → Called s (took_in r.out x ++ xs) (gave_out r.out ++ ys) t
-  block : {s t : Dsm} {xs : List ℕ} {ys : List ℤ} (us : List ℕ) (lent : List ℤ) (r : Made) (zs : List ℤ) → Runs s us lent r zs
-      → Called r.state xs ys t → Called s (when_done r.verdict us ++ xs) (when_done r.verdict zs ++ ys) t
+  step : {s t : Dsm} {xs : List ℕ} {ys : List ℤ} (x : ℕ) (u : Dsm) (r : Result ℤ Refusal) → Steps s x u r → Called u xs ys t
+      → Called s (took_in r x ++ xs) (gave_out r ++ ys) t
+  block : {s t : Dsm} {xs : List ℕ} {ys : List ℤ} (us : List ℕ) (lent : List ℤ) (u : Dsm) (r : Result (Unit {0}) Refusal) (zs : List ℤ)
+      → Runs s us lent u r zs → Called u xs ys t → Called s (when_done r us ++ xs) (when_done r zs ++ ys) t
 
 -- From zero: as `Dsm::new` gives it.
-abbrev pub FromZero : ℕ → List ℕ → List ℤ → Dsm → Type 0
-FromZero K xs ys t = Called (modulator_of K).state xs ys t
+pub record FromZero (K : ℕ) (xs : List ℕ) (ys : List ℤ) (t : Dsm) : Type 0 where
+  pub start : Dsm
+  pub made : modulator_of K ≡ Ok start
+  pub called : Called start xs ys t
 
 -- Whatever the mixture, the outputs and the state after are those of one list of steps.
 abbrev pub OneList : Type 0

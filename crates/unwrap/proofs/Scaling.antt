@@ -1,13 +1,14 @@
 -- saturating_scale in whole numbers: 2 ^ shift divides what hi adds, so the code's two shifts add up to the quotient of the
 -- whole, which fits 64 bits.
 use mathlib.Core.Path.{◌≡◌, refl, sym, ap, ◌∙◌}
-use mathlib.Core.Bool.{false}
-use Prim.Native.Nat.{ℕ, zero, suc, ◌+◌, ◌-◌, ◌*◌, ◌/◌, ◌%◌, ◌^◌, ◌<◌, ◌≤◌}
-use native.Mathlib.Nat.{mod-eq_of_lt, mul_assoc, div-lt_iff_lt-mul, mul-le-mul_left, zero-mul}
+use mathlib.Core.Bool.{Bool, true, false, cond}
+use lib.Dec.{ltb}
+use Prim.Native.Nat.{ℕ, zero, suc, ◌+◌, ◌-◌, ◌*◌, ◌/◌, ◌^◌, ◌<◌, ◌≤◌}
+use native.Mathlib.Nat.{mul_assoc, div-lt_iff_lt-mul, mul-le-mul_left, zero-mul}
 use native.Mathlib.Omega.{arith}
 use lib.Pow.{pow_pos, pow-add, pow_mono}
 use lib.IntN.{ℤ, pos, negsuc, neg_ℤ, ◌+ℤ◌, ◌*ℤ◌}
-use lib.Signed.{mag, lt_z}
+use lib.Signed.{mag}
 use borrow.Author.Tests.{ltb-false}
 use mir.Syntax.{w32, w64}
 use mir.Val.{SFits}
@@ -16,7 +17,9 @@ use Rattle.words.proofs.Reading.{wrap_is}
 use Rattle.words.proofs.Sums.{equal, wrapped, same_add, wrap-same}
 use Rattle.words.proofs.Sizes.{mag_add}
 use Rattle.words.proofs.Floors.{floor_turns}
-use Rattle.unwrap.specs.Scales.{wide_value}
+use Rattle.std.specs.Int.{int_max, int_min}
+use Rattle.unwrap.specs.Phases.{least_word, greatest_word}
+use Rattle.unwrap.specs.Scales.{wide_value, clamped}
 
 -- ---- the quotient fits 64 bits, though the whole may not
 
@@ -55,23 +58,38 @@ times-times (negsuc n) a b = neg_times (suc n * a) b ∙ ap (λ (m : ℕ). neg_�
     neg_times (suc m) b = refl
 
 pub divided_is : (lo hi : ℤ) (s : ℕ) → 1 ≤ s → s ≤ 32 → SFits w32 lo → SFits w32 hi
-    → wrap w64 (wrap w64 (hi *ℤ pos (2 ^ ((32 - s) % 64))) +ℤ floor_div lo (2 ^ (s % 64))) ≡ floor_div (wide_value lo hi) (2 ^ s)
+    → wrap w64 (wrap w64 (hi *ℤ pos (2 ^ (32 - s))) +ℤ floor_div lo (2 ^ s)) ≡ floor_div (wide_value lo hi) (2 ^ s)
 divided_is lo hi s h k fl fh =
     let q = 2 ^ (32 - s) in let m = 2 ^ s in
-    let u : (32 - s) % 64 ≡ 32 - s = mod-eq_of_lt (omega arith) in
-    let v : s % 64 ≡ s = mod-eq_of_lt (omega arith) in
     let t : 32 - s + s ≡ 32 = omega arith in
     let p : q * m ≡ 2 ^ 32 = sym (pow-add 2 (32 - s) s) ∙ ap (λ (n : ℕ). 2 ^ n) t in
     let whole : hi *ℤ pos q *ℤ pos m ≡ hi *ℤ pos (2 ^ 32) = times-times hi q m ∙ ap (λ (n : ℕ). hi *ℤ pos n) p in
     let sum : hi *ℤ pos q +ℤ floor_div lo m ≡ floor_div (wide_value lo hi) m =
     sym (floor_turns (hi *ℤ pos q) lo m (pow_pos s)) ∙ ap (λ (z : ℤ). floor_div (z +ℤ lo) m) whole in
-    rw (u, v)
-    (wrap-same (same_add (wrapped w64 (hi *ℤ pos q)) (equal {a = floor_div lo m} refl))
+    wrap-same (same_add (wrapped w64 (hi *ℤ pos q)) (equal {a = floor_div lo m} refl))
     ∙ ap (wrap w64) sum
-    ∙ wrap_is w64 (floor_div (wide_value lo hi) m) (divided_fits lo hi s h fl fh))
+    ∙ wrap_is w64 (floor_div (wide_value lo hi) m) (divided_fits lo hi s h fl fh)
 
--- ---- what the clamp leaves fits a word
+-- ---- the clamp of std is the definition's, and what it leaves fits a word
 
-pub inside : (v : ℤ) → lt_z v (negsuc 2147483647) ≡ false → lt_z (pos 2147483647) v ≡ false → SFits w32 v
-inside (pos n) e f = let h = ltb-false 2147483647 n f in record { sfits = omega arith }
-inside (negsuc n) e f = let h = ltb-false 2147483647 n e in record { sfits = omega arith }
+pub held : (v : ℤ) → int_max least_word (int_min v greatest_word) ≡ clamped v
+unfolding clamped
+held (pos n) = pick (ltb 2147483647 n)
+  where
+    pick : (b : Bool) → int_max least_word (cond b (pos 2147483647) (pos n)) ≡ cond b (pos 2147483647) (pos n)
+    pick true = refl
+    pick false = refl
+held (negsuc n) = refl
+
+pub clamped_fits : (v : ℤ) → SFits w32 (clamped v)
+unfolding clamped
+clamped_fits (pos n) = pick (ltb 2147483647 n) refl
+  where
+    pick : (b : Bool) → ltb 2147483647 n ≡ b → SFits w32 (cond b (pos 2147483647) (pos n))
+    pick true e = record { sfits = omega arith }
+    pick false e = let h = ltb-false 2147483647 n e in record { sfits = omega arith }
+clamped_fits (negsuc n) = pick (ltb 2147483647 n) refl
+  where
+    pick : (b : Bool) → ltb 2147483647 n ≡ b → SFits w32 (cond b (negsuc 2147483647) (negsuc n))
+    pick true e = record { sfits = omega arith }
+    pick false e = let h = ltb-false 2147483647 n e in record { sfits = omega arith }

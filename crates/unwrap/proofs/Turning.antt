@@ -7,14 +7,16 @@ use lib.Dec.{ltb, leb-suc-suc}
 use lib.IntN.{ℤ, pos, negsuc, sub_ℕ, ◌-ℤ◌, ◌*ℤ◌, +ℤ_invr}
 use lib.Signed.{mag, lt_z}
 use mir.Syntax.{w32}
-use mir.Val.{SFits}
-use mir.ValLaws.{to_z_pos}
+use mir.Val.{SFits, to_z, of_z}
+use mir.ValLaws.{to_z_pos, to_z-of_z}
 use borrow.Author.Tests.{ltb-true, ltb-false, lt-ltb, le-ltb}
 use Rattle.words.specs.Words as W
 use Rattle.words.specs.Words.{wrap}
 use Rattle.words.proofs.Reading.{wrap_is}
 use Rattle.words.proofs.Sizes.{mag_minus}
+use Rattle.words.proofs.Std.{sub_bits}
 use Rattle.unwrap.specs.declared.wrapping.Wrap.{Wrap}
+use Rattle.unwrap.specs.declared.wrapping.Difference.{Difference}
 use Rattle.unwrap.specs.declared.wrapping.Wrap.TheVariants.{Negative, None, Positive}
 use Rattle.unwrap.specs.Phases.{sign_of, case_of, difference_of}
 
@@ -105,6 +107,16 @@ module _ (y x : ℤ) (hy : SFits w32 y) (hx : SFits w32 x) where
   sign_is = ap case_of (wraps (y -ℤ x) within).apart ∙ case_turns (wraps (y -ℤ x) within).sign
 
   -- what the code finds by its tests is the sign
-  pub tested : (b d : Bool) → lt_z (wrap w32 (y -ℤ x)) (pos 0) ≡ b → lt_z y x ≡ d
+  tested : (b d : Bool) → lt_z (wrap w32 (y -ℤ x)) (pos 0) ≡ b → lt_z y x ≡ d
       → ◌≡◌ {A = Wrap} (by_tests b d) (difference_of y x).wrap
   tested b d p q = sym (sign_is ∙ sym (wraps (y -ℤ x) within).tests ∙ rw (p, minus-below y x, q))
+
+  -- delta and wrap, as the code has them from the machine's difference
+  pub classified : (b d : Bool) → lt_z (to_z w32 ((of_z w32 y + (2 ^ 32 - of_z w32 x)) % 2 ^ 32)) (pos 0) ≡ b
+      → lt_z (to_z w32 (of_z w32 y)) (to_z w32 (of_z w32 x)) ≡ d
+      → ◌≡◌ {A = Difference} (record { delta = to_z w32 ((of_z w32 y + (2 ^ 32 - of_z w32 x)) % 2 ^ 32); wrap = by_tests b d })
+      (difference_of y x)
+  unfolding difference_of
+  classified b d p q =
+      let e = sub_bits w32 y x hy hx in
+      rw (e, tested b d (rw e at p) (rw (to_z-of_z w32 y hy, to_z-of_z w32 x hx) at q)) refl

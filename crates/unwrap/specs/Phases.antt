@@ -6,9 +6,7 @@ use Rattle.unwrap.specs.declared.wrapping.Wrap.{Wrap}
 use Rattle.unwrap.specs.declared.wrapping.Wrap.TheVariants.{Negative, None, Positive}
 use Rattle.unwrap.specs.declared.wrapping.Difference.{Difference}
 use Rattle.unwrap.specs.declared.unwrapper.Unwrapper.{Unwrapper}
-use Rattle.unwrap.specs.declared.unwrapper.Unwrapped.{Unwrapped}
 use Rattle.unwrap.specs.declared.clamp_wrap.ClampWrap.{ClampWrap}
-use Rattle.unwrap.specs.declared.clamp_wrap.Clamped.{Clamped}
 
 -- the sign that each case stands for
 abbrev pub sign_of : Wrap → ℤ
@@ -40,9 +38,6 @@ step_of u x = wrap w32 (x -ℤ phase_of u.y)
 abbrev pub grown : Unwrapper → ℤ → Unwrapper
 grown u x = record { y = wrap w64 (u.y +ℤ step_of u x) }
 
-abbrev pub unwrapped_of : Unwrapper → ℤ → Unwrapped
-unwrapped_of u x = record { state = grown u x; dx = step_of u x }
-
 -- the turn count: what is left of y without its phase, over 2 ^ 32, modulo 2 ^ 32
 unfoldable pub turns_of : ℤ → ℤ
 turns_of y = wrap w32 (floor_div (y -ℤ phase_of y) (2 ^ 32))
@@ -68,6 +63,3 @@ clamp_out s x = clamped_by (clamp_after s x) x
 
 abbrev pub clamp_next : ClampWrap → ℤ → ClampWrap
 clamp_next s x = record { x0 = x; clamp = clamp_after s x }
-
-abbrev pub clamped_of : ClampWrap → ℤ → Clamped
-clamped_of s x = record { state = clamp_next s x; y = clamp_out s x }

@@ -1,11 +1,9 @@
 // Wrap classification, and the difference that tells its wrap.
 ghost use Rattle.std.specs.Prelude.{◌≡◌};
-ghost use Rattle.unwrap.specs.Phases.{sign_of, joined, difference_of};
-
-use words::signed::sub_i32;
+ghost use Rattle.unwrap.specs.Phases.{joined, difference_of};
 
 // The direction of a wrap.
-#[derive(Clone, Copy)]
+#[derive(Clone, Copy, Debug, PartialEq, Eq)]
 pub enum Wrap {
     Negative,
     None,
@@ -17,53 +15,31 @@ impl Wrap {
     pub fn add(self, rhs: Wrap) -> Wrap
         ensures { result ≡ joined self rhs }
     {
-        match rhs {
-            Wrap::None => self,
-            Wrap::Negative => match self {
-                Wrap::Negative => Wrap::Negative,
-                Wrap::None => Wrap::Negative,
-                Wrap::Positive => Wrap::None,
-            },
-            Wrap::Positive => match self {
-                Wrap::Negative => Wrap::None,
-                Wrap::None => Wrap::Positive,
-                Wrap::Positive => Wrap::Positive,
-            },
+        match (self, rhs) {
+            (Wrap::None, sign) | (sign, Wrap::None) => sign,
+            (Wrap::Negative, Wrap::Negative) => Wrap::Negative,
+            (Wrap::Positive, Wrap::Positive) => Wrap::Positive,
+            _ => Wrap::None,
         }
     }
 }
 
-#[derive(Clone, Copy)]
+#[derive(Clone, Copy, Debug, PartialEq, Eq)]
 pub struct Difference {
     pub delta: i32,
     pub wrap: Wrap,
 }
 
 // y - x modulo 2^32, and the sign of what the wrap added.
+#[tactic(auto, using(crate::proofs::Turning::classified))]
 pub fn overflowing_sub(y: i32, x: i32) -> Difference
     ensures { result ≡ difference_of y x }
 {
-    let delta = sub_i32(y, x);
-    if delta < 0 {
-        if y < x {
-            return Difference {
-                delta,
-                wrap: Wrap::None,
-            };
-        }
-        return Difference {
-            delta,
-            wrap: Wrap::Negative,
-        };
-    }
-    if y < x {
-        return Difference {
-            delta,
-            wrap: Wrap::Positive,
-        };
-    }
-    Difference {
-        delta,
-        wrap: Wrap::None,
-    }
+    let delta = y.wrapping_sub(x);
+    let wrap = match (delta < 0, y < x) {
+        (true, false) => Wrap::Negative,
+        (false, true) => Wrap::Positive,
+        _ => Wrap::None,
+    };
+    Difference { delta, wrap }
 }

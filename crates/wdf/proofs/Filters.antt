@@ -7,13 +7,11 @@ use borrow.Author.Tests.{eq-eqb}
 use lib.IntN.{ℤ, pos}
 use lib.ListN.{length, take, drop}
 use lib.Seq.{take-nil, get_or-take, take_at, drop_at}
-use Rattle.blocks.specs.declared.Verdict.{Verdict}
+use Rattle.std.specs.Prelude.{Result, Ok}
+use Rattle.blocks.specs.declared.refusal.Refusal.{Refusal}
 use Rattle.blocks.specs.Scan.{scan, ends}
 use Rattle.blocks.specs.Blocks.{lengths_number, Blocked}
 use Rattle.wdf.specs.declared.filter.Wdf.{Wdf}
-use Rattle.wdf.specs.declared.filter.Out.{Out}
-use Rattle.wdf.specs.declared.filter.Out.TheVariants.{Given}
-use Rattle.wdf.specs.declared.filter.Stepped.{Stepped}
 use Rattle.sections.specs.Sections.{Section, sections_of, Passed, passed}
 use Rattle.wdf.specs.Calls.{number, filter, run, answer, next, stepped}
 use Rattle.sections.proofs.Padded.{sections-length, cells-length}
@@ -83,20 +81,23 @@ alike-scan s t h [] = refl
 alike-scan s t h (x ∷ xs) = rw (alike-answer s t h x, alike-scan (next s x) (next t x) (alike_next s t h x) xs)
 
 -- a step's output and state, to be run in turn
-abbrev pub step_out : Wdf → ℤ → Out
+abbrev pub step_out : Wdf → ℤ → Result ℤ Refusal
 step_out s x = (stepped s x).out
 
 abbrev pub step_state : Wdf → ℤ → Wdf
 step_state s x = (stepped s x).state
 
+abbrev pub given : ℤ → Result ℤ Refusal
+given y = Ok y
+
 module _ (s : Wdf) (e : number s ≡ 0) where
-  step-out : (x : ℤ) → step_out s x ≡ Given (answer s x)
-  step-out x = ap (λ (r : Stepped). r.out) (sym (gives s x e))
+  step-out : (x : ℤ) → step_out s x ≡ given (answer s x)
+  step-out x = sym (gives s x e).1
 
   step-state : (x : ℤ) → step_state s x ≡ next s x
-  step-state x = ap (λ (r : Stepped). r.state) (sym (gives s x e))
+  step-state x = sym (gives s x e).0
 
-steps_out : (s : Wdf) (xs : List ℤ) → number s ≡ 0 → scan step_out step_state s xs ≡ map Given (scan answer next s xs)
+steps_out : (s : Wdf) (xs : List ℤ) → number s ≡ 0 → scan step_out step_state s xs ≡ map given (scan answer next s xs)
 steps_out s [] e = refl
 steps_out s (x ∷ xs) e = rw (step-out s e x, step-state s e x, steps_out (next s x) xs e)
 
@@ -105,9 +106,9 @@ steps_state s [] e = refl
 steps_state s (x ∷ xs) e = rw (step-state s e x) (steps_state (next s x) xs e)
 
 -- a block gives what its steps in turn would give
-pub block_steps : (s : Wdf) (xs ys : List ℤ) (t : Wdf) (v : Verdict) (zs : List ℤ) → number s ≡ 0 → length xs ≡ length ys
+pub block_steps : (s : Wdf) (xs ys : List ℤ) (t : Wdf) (v : Result (Unit {0}) Refusal) (zs : List ℤ) → number s ≡ 0 → length xs ≡ length ys
     → Blocked (number s) answer next s xs ys t v zs
-    → (map Given zs ≡ scan step_out step_state s xs) × (t ≡ ends step_out step_state s xs)
+    → (map given zs ≡ scan step_out step_state s xs) × (t ≡ ends step_out step_state s xs)
 block_steps s xs ys t v zs e l b =
     let k : lengths_number (number s) xs ys ≡ 0 = rw (eq-eqb (length xs) (length ys) l) e in
-    (ap (map Given) (rw k at b.written) ∙ sym (steps_out s xs e), rw k at b.state ∙ sym (steps_state s xs e))
+    (ap (map given) (rw k at b.written) ∙ sym (steps_out s xs e), rw k at b.state ∙ sym (steps_state s xs e))

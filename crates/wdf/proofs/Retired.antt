@@ -2,22 +2,23 @@
 use mathlib.Core.Path.{◌≡◌, refl, sym, ap, ◌∙◌}
 use mathlib.Core.Bool.{Bool, true, false, cond, ◌||◌, true≢false}
 use mathlib.Core.List.{List, [], ◌∷◌, ◌++◌}
-use Prim.Native.Nat.{ℕ, zero, suc, ◌+◌, ◌*◌, ◌/◌, ◌%◌, ◌-◌, ◌^◌, ◌≤◌, ◌<◌}
+use Prim.Native.Nat.{ℕ, zero, suc, ◌+◌, ◌*◌, ◌/◌, ◌%◌, ◌-◌, ◌^◌, ◌≤◌, ◌<◌, min}
 use native.Mathlib.Nat.{pow-suc, pow-succ', sub_self, sub-zero, div-one, div-le_self, div-div-eq-div-mul}
 use native.Mathlib.Omega.{arith}
-use borrow.Author.Tests.{eqb-true, eqb-false, ne_eqb}
-use lib.Dec.{eqb}
+use borrow.Author.Tests.{eqb-true, eqb-false, ne_eqb, ltb-true, ltb-false}
+use lib.Dec.{eqb, ltb}
 use lib.ListN.{drop, get_or, replicate}
 use lib.IntN.{ℤ, pos}
-use Rattle.blocks.specs.declared.Verdict.{Verdict}
-use Rattle.blocks.specs.Verdicts.{verdict_of}
+use Rattle.std.specs.Prelude.{Result}
+use Rattle.blocks.specs.declared.refusal.Refusal.{Refusal}
+use Rattle.blocks.specs.Refusals as refusals
 use Rattle.blocks.specs.Scan.{scan, ends}
 use Rattle.blocks.specs.Blocks.{unless, lengths_number, Blocked}
 use Rattle.adapters.specs.declared.tpa.Tpa.TheVariants.{Z, A, B, X, C, D}
 use Rattle.wdf.specs.declared.filter.Wdf.{Wdf}
 use Rattle.adapters.specs.Adapters.{adapted, code_of, retired}
 use Rattle.sections.specs.Sections.{Section, section_of, sections_of, Passed, passed}
-use Rattle.wdf.specs.Calls.{sections_number, holds_retired, new_number, number, filter, none}
+use Rattle.wdf.specs.Calls.{sections_number, holds_retired, new_number, number, filter}
 use Rattle.wdf.specs.Calls.{made_unless, made, made_form1, run, answer, next, stepped}
 use Rattle.wdf.specs.Retired.{current, moved, moved_wdf, moved_answer, moved_stepped, SameFilter}
 use Rattle.adapters.proofs.Adapters.{b1_is_b, c1_is_c}
@@ -150,8 +151,16 @@ moved-few (suc n) k m l =
     let p = pow-suc 16 n in let f : suc n + k ≡ suc (n + k) = omega arith in
     rw (f, moved-few n k (m / 16) (omega arith))
 
-pub moved-eight : (n m : ℕ) → m < 16 ^ 8 → 8 < n → moved 8 m ≡ moved n m
+moved-eight : (n m : ℕ) → m < 16 ^ 8 → 8 < n → moved 8 m ≡ moved n m
 moved-eight n m l h = let e : 8 + (n - 8) ≡ n = omega arith in sym (rw e at (moved-few 8 (n - 8) m l))
+
+-- no more than eight need to be moved
+pub moved_min : (n m k : ℕ) → m < 16 ^ 8 → k ≡ min n 8 → moved k m ≡ moved n m
+moved_min n m k l e = pick (ltb 8 n) refl
+  where
+    pick : (b : Bool) → ltb 8 n ≡ b → moved k m ≡ moved n m
+    pick true t = let h = ltb-true 8 n t in let f : k ≡ 8 = omega arith in rw f (moved-eight n m l h)
+    pick false t = let h = ltb-false 8 n t in let f : k ≡ n = omega arith in rw f
 
 -- the nibbles from place i on are moved
 pub record Moving (n m i made : ℕ) : Type 0 where
@@ -237,7 +246,7 @@ unfolding stepped
 moved-step s x =
     rw (moved-number s.sections s.architecture, moved-answer s x, moved-next s x, moved-unless (number s) s (next s x))
 
-moved-block : (s t u : Wdf) (xs ys zs ws : List ℤ) (v w : Verdict)
+moved-block : (s t u : Wdf) (xs ys zs ws : List ℤ) (v w : Result (Unit {0}) Refusal)
     → Blocked (number s) answer next s xs ys t v zs → Blocked (number (moved_wdf s)) answer next (moved_wdf s) xs ys u w ws
     → (u ≡ moved_wdf t) × ((w ≡ v) × (ws ≡ zs))
 moved-block s t u xs ys zs ws v w p q =
@@ -256,11 +265,14 @@ new-moved n m = rw (moved-number n m, moved_none n m) (by (sections_number n m) 
     by k true e = sym (eqb-true k 0 e)
     by k false e = refl
 
+moved-made : (k : ℕ) (s : Wdf) → refusals.answer k (moved_wdf s) ≡ moved_answer (refusals.answer k s)
+unfolding refusals.answer
+moved-made zero s = refl
+moved-made (suc k) s = refl
+
 moved_new : (n m : ℕ) (a : List ℤ) → made n (moved n m) a ≡ moved_answer (made_form1 n m a)
-unfolding made_unless moved
-moved_new n m a =
-    rw (new-moved n m) (ap (λ (s : Wdf). record { state = s; verdict = verdict_of (sections_number n m) })
-    (moved-unless (sections_number n m) none (filter n m a (replicate 8 (pos 0)))))
+unfolding made_unless
+moved_new n m a = rw (new-moved n m) (moved-made (sections_number n m) (filter n m a (replicate 8 (pos 0))))
 
 pub same-filter : SameFilter
 same-filter = record { new = moved_new; step = moved-step; block = moved-block }

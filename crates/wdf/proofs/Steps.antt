@@ -1,16 +1,17 @@
 -- How a step ends, refused or not, and what it leaves as it was.
 use mathlib.Core.Path.{◌≡◌, refl}
 use mathlib.Core.Bool.{Bool, true, false}
-use Prim.Native.Nat.{ℕ, zero, suc, ◌/◌, ◌^◌, ◌≤◌}
+use Prim.Native.Nat.{ℕ, ◌/◌, ◌^◌, ◌≤◌}
 use native.Mathlib.Omega.{arith}
 use borrow.Author.Tests.{eqb-true, ltb-false}
 use lib.Dec.{eqb, ltb}
 use lib.IntN.{ℤ}
-use Rattle.blocks.proofs.Ways.{kept}
+use Rattle.blocks.proofs.Ways.{never, kept}
 use Rattle.wdf.specs.declared.filter.Wdf.{Wdf}
-use Rattle.wdf.specs.declared.filter.Stepped.{Stepped}
-use Rattle.wdf.specs.declared.filter.Out.TheVariants.{Given, Refused}
-use Rattle.wdf.specs.Calls.{sections_number, number, answer, next, out_at, stepped}
+use Rattle.std.specs.Prelude.{Result, Ok, Err}
+use Rattle.blocks.specs.declared.refusal.Refusal.{Refusal}
+use Rattle.blocks.proofs.Refusals.{accepted, refused_too}
+use Rattle.wdf.specs.Calls.{sections_number, number, answer, next, told, Steps, stepped}
 
 -- a filter that is not refused has at most 8 sections
 pub few : (n m : ℕ) → sections_number n m ≡ 0 → n ≤ 8
@@ -31,15 +32,12 @@ clean n m e = pick (ltb 8 n) refl (eqb (m / 16 ^ n) 0) refl
     pick false t true u = eqb-true (m / 16 ^ n) 0 u
     pick false t false u = absurd (let z : ◌≡◌ {A = ℕ} 51 0 = rw (t, u) at e in omega arith)
 
-out-refused : (k : ℕ) (y : ℤ) → (k ≡ 0 → ⊥) → Refused k ≡ out_at k y
-out-refused zero y h = absurd (h refl)
-out-refused (suc k) y h = refl
-
 module _ (s : Wdf) (x : ℤ) where
-  pub refuses : (number s ≡ 0 → ⊥) → ◌≡◌ {A = Stepped} (record { state = s; out = Refused (number s) }) (stepped s x)
+  -- r is the filter's refusal
+  pub refuses : (r : Refusal) → ◌≡◌ {A = Result (Unit {0}) Refusal} (Err r) (told (number s)) → Steps s x s (Err r)
   unfolding stepped
-  refuses h = rw (← kept (number s) s (next s x) h, ← out-refused (number s) (answer s x) h)
+  refuses r e = (kept (number s) s (next s x) (never (number s) tt r e), refused_too (number s) tt (answer s x) r e)
 
-  pub gives : number s ≡ 0 → ◌≡◌ {A = Stepped} (record { state = next s x; out = Given (answer s x) }) (stepped s x)
+  pub gives : number s ≡ 0 → Steps s x (next s x) (Ok (answer s x))
   unfolding stepped
-  gives e = rw e
+  gives e = (rw e, accepted (number s) (answer s x) e)

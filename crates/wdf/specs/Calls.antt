@@ -1,12 +1,9 @@
 -- The calls on a filter: what each refuses, answers and leaves.
-use Rattle.std.specs.Prelude.{Bool, false, cond, ◌||◌, List, ◌++◌, ℕ, zero, suc, ◌/◌, ◌%◌, ◌^◌, eqb, ltb, drop, replicate, ℤ, pos}
+use Rattle.std.specs.Prelude.{◌≡◌, Result, Bool, false, cond, ◌||◌, List, ◌++◌, ℕ, zero, suc, ◌/◌, ◌%◌, ◌^◌, eqb, ltb, drop, replicate, ℤ, pos}
 use Rattle.blocks.specs.Blocks.{unless}
-use Rattle.blocks.specs.Verdicts.{verdict_of}
+use Rattle.blocks.specs.declared.refusal.Refusal.{Refusal}
+use Rattle.blocks.specs.Refusals as refusals
 use Rattle.wdf.specs.declared.filter.Wdf.{Wdf}
-use Rattle.wdf.specs.declared.filter.Answer.{Answer}
-use Rattle.wdf.specs.declared.filter.Out.{Out}
-use Rattle.wdf.specs.declared.filter.Out.TheVariants.{Given, Refused}
-use Rattle.wdf.specs.declared.filter.Stepped.{Stepped}
 use Rattle.adapters.specs.Adapters.{code_of, retired}
 use Rattle.sections.specs.Sections.{sections_of, Passed, passed}
 
@@ -30,23 +27,24 @@ number s = sections_number s.sections s.architecture
 abbrev pub filter : ℕ → ℕ → List ℤ → List ℤ → Wdf
 filter sections architecture a z = record { sections = sections; architecture = architecture; a = a; z = z }
 
--- 01: a refused maker gives its number and an all-zero state
+-- the filter of no sections and of zeros, `Wdf::EMPTY`, which callers put in a refused maker's place
 abbrev pub none : Wdf
 none = filter 0 0 (replicate 8 (pos 0)) (replicate 8 (pos 0))
 
+-- what the number of a filter's first failed test is told as
+abbrev pub told : ℕ → Result (Unit {0}) Refusal
+told k = refusals.answer k tt
+
 -- a filter whose cells are zero, unless the number k refuses it
-unfoldable pub made_unless : ℕ → ℕ → ℕ → List ℤ → Answer
-made_unless k sections architecture a = record {
-  state = unless k none (filter sections architecture a (replicate 8 (pos 0)));
-  verdict = verdict_of k;
-}
+unfoldable pub made_unless : ℕ → ℕ → ℕ → List ℤ → Result Wdf Refusal
+made_unless k sections architecture a = refusals.answer k (filter sections architecture a (replicate 8 (pos 0)))
 
 -- a new filter
-abbrev pub made : ℕ → ℕ → List ℤ → Answer
+abbrev pub made : ℕ → ℕ → List ℤ → Result Wdf Refusal
 made sections architecture a = made_unless (new_number sections architecture) sections architecture a
 
 -- 02, A13: form 1 settings that hold retired adapters are still read and run
-abbrev pub made_form1 : ℕ → ℕ → List ℤ → Answer
+abbrev pub made_form1 : ℕ → ℕ → List ℤ → Result Wdf Refusal
 made_form1 sections architecture a = made_unless (sections_number sections architecture) sections architecture a
 
 -- what x does to the sections of s
@@ -61,10 +59,18 @@ abbrev pub next : Wdf → ℤ → Wdf
 next s x = filter s.sections s.architecture s.a ((run s x).cells ++ drop s.sections s.z)
 
 -- the answer y, unless there is a refusal's number
-abbrev pub out_at : ℕ → ℤ → Out
-out_at zero y = Given y
-out_at (suc k) y = Refused (suc k)
+abbrev pub out_at : ℕ → ℤ → Result ℤ Refusal
+out_at k y = refusals.answer k y
+
+-- a step's output, and the filter after it
+pub record Stepped : Type 0 where
+  pub state : Wdf
+  pub out : Result ℤ Refusal
 
 -- 01: a refused call hands back the given state and is no step
 unfoldable pub stepped : Wdf → ℤ → Stepped
 stepped s x = record { state = unless (number s) s (next s x); out = out_at (number s) (answer s x) }
+
+-- The step x from s leaves t and answers r.
+abbrev pub Steps : Wdf → ℤ → Wdf → Result ℤ Refusal → Type 0
+Steps s x t r = (t ≡ (stepped s x).state) × (r ≡ (stepped s x).out)

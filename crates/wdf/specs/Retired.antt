@@ -1,11 +1,9 @@
 -- 02, A13: the retired adapters compute what B and C compute (adapters `SameAdapters`), so b and c may stand in the places of e and f.
-use Rattle.std.specs.Prelude.{◌≡◌, cond, List, ℕ, zero, suc, ◌+◌, ◌*◌, ◌/◌, ◌%◌, eqb, ℤ}
-use Rattle.blocks.specs.declared.Verdict.{Verdict}
+use Rattle.std.specs.Prelude.{◌≡◌, cond, List, ℕ, zero, suc, ◌+◌, ◌*◌, ◌/◌, ◌%◌, eqb, ℤ, Result, Ok, Err}
+use Rattle.blocks.specs.declared.refusal.Refusal.{Refusal}
 use Rattle.blocks.specs.Blocks.{Blocked}
 use Rattle.wdf.specs.declared.filter.Wdf.{Wdf}
-use Rattle.wdf.specs.declared.filter.Answer.{Answer}
-use Rattle.wdf.specs.declared.filter.Stepped.{Stepped}
-use Rattle.wdf.specs.Calls.{number, filter, made, made_form1, answer, next, stepped}
+use Rattle.wdf.specs.Calls.{number, filter, made, made_form1, answer, next, Stepped, stepped}
 
 -- b in the place of e and c in the place of f
 unfoldable pub current : ℕ → ℕ
@@ -20,8 +18,9 @@ moved (suc n) m = current (m % 16) + 16 * moved n (m / 16)
 abbrev pub moved_wdf : Wdf → Wdf
 moved_wdf s = filter s.sections (moved s.sections s.architecture) s.a s.z
 
-abbrev pub moved_answer : Answer → Answer
-moved_answer r = record { state = moved_wdf r.state; verdict = r.verdict }
+abbrev pub moved_answer : Result Wdf Refusal → Result Wdf Refusal
+moved_answer (Ok s) = Ok (moved_wdf s)
+moved_answer (Err r) = Err r
 
 abbrev pub moved_stepped : Stepped → Stepped
 moved_stepped r = record { state = moved_wdf r.state; out = r.out }
@@ -31,7 +30,7 @@ moved_stepped r = record { state = moved_wdf r.state; out = r.out }
 pub record SameFilter : Type 0 where
   pub new : (n m : ℕ) (a : List ℤ) → made n (moved n m) a ≡ moved_answer (made_form1 n m a)
   pub step : (s : Wdf) (x : ℤ) → stepped (moved_wdf s) x ≡ moved_stepped (stepped s x)
-  pub block : (s t u : Wdf) (xs ys zs ws : List ℤ) (v w : Verdict)
+  pub block : (s t u : Wdf) (xs ys zs ws : List ℤ) (v w : Result (Unit {0}) Refusal)
       → Blocked (number s) answer next s xs ys t v zs
       → Blocked (number (moved_wdf s)) answer next (moved_wdf s) xs ys u w ws
       → (u ≡ moved_wdf t) × ((w ≡ v) × (ws ≡ zs))

@@ -5,5 +5,4 @@
 #![tactic(auto)]
 
 pub mod filter;
-pub mod quantize;
 pub mod tpa;

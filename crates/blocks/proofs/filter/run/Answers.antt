@@ -1,4 +1,4 @@
-use Rattle.std.proofs.Common.{rules, sym, ◌≡◌}
+use Rattle.std.proofs.Common.{sym}
 use Rattle.blocks.proofs.Turns.{start, turn, done}
 use Rattle.blocks.proofs.filter.run.Goals as goal
 

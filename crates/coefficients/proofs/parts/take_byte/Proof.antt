@@ -5,7 +5,8 @@ use lib.ListN.{length-set}
 use lib.Seq.{length-take-le}
 use borrow.Author.Rules.{rules}
 use Rattle.text.proofs.Putting.{wrote-same, nothing}
-use Rattle.adapters.specs.declared.quantize.Quantized.TheVariants.{Refused}
+use Rattle.std.specs.Prelude.{Err}
+use Rattle.blocks.specs.declared.refusal.Refusal.{Refusal}
 use Rattle.coefficients.specs.declared.parts.Place.{Place}
 use Rattle.coefficients.proofs.Stepping.{ends-newline, ends-long, ended-place, ended-given, longer-place, longer-given}
 use Rattle.coefficients.proofs.parts.take_byte.Statement.{statement}
@@ -42,8 +43,8 @@ returns-2 c =
     let a = begin.args in let l = a.line.now in
     let x = at-end.end_line-then-len-eq64.ensures in
     let e = ends-long a.p l a.b other.if-b-eq10.false full.if-len-eq64.true begin.requires.1 in (
-      ended-place a.p l a.b (Refused 72) at-end.end_line-then-len-eq64.result.place l e x.0,
-      wrote-same (ended-given a.p l a.b (Refused 72) e) x.1,
+      ended-place a.p l a.b (Err Refusal.LongLine) at-end.end_line-then-len-eq64.result.place l e x.0,
+      wrote-same (ended-given a.p l a.b (Err Refusal.LongLine) e) x.1,
       rw x.0 (omega arith),
       begin.requires.1,
       x.2,

@@ -1,24 +1,22 @@
--- The number's test, then the promise of the loop that the timestamp asks for.
-use Rattle.std.proofs.Common.{w32, arith}
-use borrow.Author.Tests.{eq-eqb, ne_eqb}
-use Rattle.words.proofs.Reading.{read}
-use Rattle.rpll.specs.Loops.{processed_of}
+-- A refusal by the configuration's number, or the step and its estimate.
+use Rattle.std.proofs.lemmas.Result.{err_from_is_err_and}
+use Rattle.blocks.proofs.Refusals.{accepted, refused_too, taken_number}
+use Rattle.blocks.proofs.Ways.{never, kept, came}
+use Rattle.rpll.specs.Loops.{config_number}
 use Rattle.rpll.proofs.RPLLConfig.process.Goals as goal
 
-pub returns-then-number-ne0 : goal.returns-then-number-ne0
-unfolding processed_of
-returns-then-number-ne0 c =
-    let r = c.refusal-number in
-    rw (← r.ensures, ne_eqb r.result 0 c.if-number-ne0.true)
+pub returns-in_err-accepted : goal.returns-in_err-accepted
+returns-in_err-accepted c =
+    let p = err_from_is_err_and c.from_residual.result c.from_residual.ensures.1 in
+    let k = config_number c.args.self in
+    let e = c.in_err-accepted.ensures in
+    rw (p.1, p.2) (refused_too k tt _ _ e, kept k _ _ (never k tt _ e))
 
-pub returns-in_default : goal.returns-in_default
-unfolding processed_of
-returns-in_default c =
-    let r = c.refusal-number in
-    rw (c.given.ensures, c.advanced-ahead.ensures, ← r.ensures, eq-eqb r.result 0 c.if-number-ne0.false, c.in_default.is)
+pub update-requires : goal.update-requires
+update-requires c = taken_number (config_number c.args.self) tt _ c.in_ok-accepted.ensures
 
 pub returns : goal.returns
-unfolding processed_of
 returns c =
-    let r = c.refusal-number in
-    rw (c.given-2.ensures, c.taken.ensures, c.advanced-ahead.ensures, ← r.ensures, eq-eqb r.result 0 c.if-number-ne0.false, c.in-At.is, read w32 c.in-At.x (omega arith))
+    let k = config_number c.args.self in
+    let e = taken_number k tt _ c.in_ok-accepted.ensures in
+    rw (c.estimate.ensures, c.update.ensures) (accepted k _ e, came k _ _ e)

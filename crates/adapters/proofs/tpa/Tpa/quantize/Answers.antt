@@ -4,6 +4,7 @@ use lib.Ieee.{of_bits, neg}
 use Rattle.words.proofs.Reading.{read}
 use Rattle.adapters.specs.Quantize.{quantized}
 use Rattle.adapters.proofs.tpa.Tpa.quantize.Goals as goal
+use Rattle.adapters.proofs.tpa.Tpa.quantize.Goals.{else-a-via-then-a+else-a-2, else-a-via-else-a}
 
 pub nearest_bits-requires : goal.nearest_bits-requires
 unfolding of_bits neg
@@ -22,6 +23,10 @@ returns-then-a-2 c =
       c.if-a-2.true,
     )
 
-pub returns-else-a : goal.returns-else-a
+pub returns : goal.returns
 unfolding of_bits neg quantized
-returns-else-a c = rw (← c.is_retired.ensures, c.if-is_retired.false, ← c.coefficient-a.ensures, c.if-a.false)
+returns c =
+    elim c.else-a.branch [
+      | else-a-via-then-a+else-a-2 w ↦ rw (← c.is_retired.ensures, c.if-is_retired.false, ← c.coefficient-a.ensures, w.if-a.true, w.if-a-2.false)
+      | else-a-via-else-a w ↦ rw (← c.is_retired.ensures, c.if-is_retired.false, ← c.coefficient-a.ensures, w.if-a.false)
+    ]

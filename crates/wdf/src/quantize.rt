@@ -1,2 +1,0 @@
-// Coefficients from poles: `Tpa::quantize`.
-pub use adapters::quantize::Quantized;
