@@ -1,17 +1,8 @@
 // Numbers 90 and 91, and 20 of the WAV calls.
-use crate::print::row;
-use blocks::Refusal;
+use crate::print::{refused, row};
 use std::io;
 use wav::header::{read_header, write_header};
 use wav::samples::{read_part, write_part};
-
-// The number of an answer's refusal, 0 for none.
-fn refused<T: Copy>(answer: Result<T, Refusal>) -> u32 {
-    match answer {
-        Ok(_) => 0,
-        Err(refusal) => refusal.number(),
-    }
-}
 
 fn asked(rate: u32, size: u32) -> u32 {
     let mut out = [0u8; 44];
