@@ -28,7 +28,7 @@ use Rattle.store_read.specs.Reading.{found, settings_of}
 use Rattle.store_write.specs.Saving.{SavesAs, saved, save_answer, text_as}
 use Rattle.store.specs.Moving.{Moves}
 use Rattle.capi_settings.specs.Fields.{Fields, version_at, fields_of}
-use Rattle.capi_settings.specs.Calls.{read_in, number_found, line_found, settings_found, record_at, placed, put_number, put_count, slice_as, Counts, Tells, Puts, Sends}
+use Rattle.capi_settings.specs.Calls.{read_in, number_found, line_found, settings_found, record_at, placed, slice_as, Counts, Tells, Puts, Sends}
 
 stays : {A : Type 0} (k : ℕ) (s t : A) → (k ≡ 0 → ⊥) → s ≡ unless k s t
 stays k s t h = rw (ne_eqb k 0 h)
