@@ -7,6 +7,7 @@ use entries::settings::{Entry, Kind, Name, Settings, no_entry};
 use settings_text::version::Version;
 
 // A record's kind and all its numbers but its coefficients; those that its kind has not are 0.
+// Kept: the C interface has a number for the kind and a parameter for each field.
 #[derive(Clone, Copy)]
 pub(crate) struct Numbers {
     pub kind: u32,
