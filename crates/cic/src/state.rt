@@ -3,7 +3,7 @@ ghost use Rattle.std.specs.Prelude.{◌≡◌, eqb, replicate};
 ghost use Rattle.blocks.specs.Refusals.{answer};
 ghost use Rattle.sums.specs.State.{refusal, zeroed};
 ghost use Rattle.sums.specs.Calls.{new_number, resume_number, rate_number};
-ghost use Rattle.sums.specs.Counted.{new_counted, resume_counted, rate_counted, clear_counted};
+ghost use Rattle.sums.specs.Counted.{blank_counted, new_counted, resume_counted, rate_counted, clear_counted};
 ghost use Rattle.lent.specs.Reading.{counted};
 ghost use Rattle.cic.specs.Reading.{state_of, counted_of, cic_of, numbers_of, shape_of};
 ghost use Rattle.cic.specs.Answers.{made_of};
@@ -37,6 +37,13 @@ pub(crate) fn nils<W: Word, const N: usize>() -> [W; N]
 }
 
 impl<W: Word> Cic<W> {
+    // What stands where no state was made: order 0, M 1, rate 0, and all else zero. It is accepted, and gives back its inputs.
+    pub fn blank() -> Cic<W>
+        ensures { result ≡ cic_of (blank_counted W.ops) }
+    {
+        Cic::zeros(0, 1, 0)
+    }
+
     // A state of zeros, settled, whose first step gives an output and is input number 1. Outputs up to input
     // N·(R.M - 1) have zeros in them for what was before.
     pub fn new(order: usize, delay: usize, rate: u32) -> Result<Cic<W>, Refusal>

@@ -10,7 +10,6 @@ use lib.IntN.{ℤ}
 use lib.ListN.{length}
 use borrow.Author.Tests.{eqb-false}
 use Rattle.blocks.specs.Blocks.{unless}
-use Rattle.blocks.specs.Verdicts.{verdict_of}
 use Rattle.sums.specs.Ops.{Ops}
 use Rattle.sums.specs.State.{refusal_of, refusal}
 use Rattle.sums.specs.Calls.{new_number, rate_number}
@@ -138,7 +137,6 @@ either true x y h k = h
 either false x y h k = k
 
 ordered_answers : (s : Session) (wide : Bool) (number : ℕ) (t : Counted ℤ) → number ≤ 16 → Answers (ordered s wide number t).reply
-unfolding verdict_of
 ordered_answers s wide zero t h = tt
 ordered_answers s wide (suc k) t h = parameter (suc k) h
 
