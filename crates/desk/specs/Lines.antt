@@ -4,7 +4,8 @@ use Rattle.std.specs.Prelude.{cond, List, ℕ, ◌/◌, ◌%◌, eqb, length, ge
 use Rattle.blocks.specs.declared.refusal.Refusal.{Refusal}
 use Rattle.text.specs.Letters.{byte, newline}
 use Rattle.text.specs.Hex.{pattern_of}
-use Rattle.text.specs.declared.hex.Pattern.{Pattern}
+use Rattle.std.specs.Prelude as std
+use Rattle.std.specs.Prelude.{Some, None}
 use Rattle.desk.specs.declared.lines.Kind.{Kind}
 use Rattle.desk.specs.declared.lines.Kind.TheVariants.{Word, Open, Rate, Pull, Push, Save, Unknown}
 use Rattle.desk.specs.declared.lines.Record.{Record}
@@ -20,9 +21,9 @@ kind_of b =
     (cond (eqb b (byte "s")) Save Unknown)))))
 
 -- 75: a digit is none
-abbrev pub bits_record : Kind → Pattern → Record
-bits_record kind (Pattern.Bits v) = Is kind (v / 4294967296) (v % 4294967296)
-bits_record kind Pattern.Wrong = Bad Refusal.Malformed
+abbrev pub bits_record : Kind → std.Option ℕ → Record
+bits_record kind (Some v) = Is kind (v / 4294967296) (v % 4294967296)
+bits_record kind None = Bad Refusal.Malformed
 
 -- 72: the line isn't ended by its newline after 17 bytes
 unfoldable pub record_of : List ℕ → Record
