@@ -181,14 +181,14 @@ pub extern "C" fn bench_wide(
     ensures { ys.new ≡ block_left_by (fraction_number 0) wide_out wide_next (word_biquad b0 b1 b2 a1 a2 f) zero_wide
         xs.now ys.old }
 {
-    let state = DirectForm1Wide {
+    let mut state = DirectForm1Wide {
         x1: 0,
         x2: 0,
         y1: 0,
         y2: 0,
     };
     let coeff = coefficients(b0, b1, b2, a1, a2, f);
-    state.block(coeff, xs, ys);
+    let _ran = state.block(coeff, xs, ys);
 }
 
 #[unsafe(no_mangle)]
@@ -205,7 +205,7 @@ pub extern "C" fn bench_dither(
     ensures { ys.new ≡ block_left_by (fraction_number 1) dither_out dither_next (word_biquad b0 b1 b2 a1 a2 f) zero_dither
         xs.now ys.old }
 {
-    let state = DirectForm1Dither {
+    let mut state = DirectForm1Dither {
         x1: 0,
         x2: 0,
         y1: 0,
@@ -213,7 +213,7 @@ pub extern "C" fn bench_dither(
         e: 0,
     };
     let coeff = coefficients(b0, b1, b2, a1, a2, f);
-    state.block(coeff, xs, ys);
+    let _ran = state.block(coeff, xs, ys);
 }
 
 #[unsafe(no_mangle)]
@@ -233,7 +233,7 @@ pub extern "C" fn bench_wide_clamp(
     ensures { ys.new ≡ block_left_by (clamp_number 0) wide_held wide_onward
         (word_clamp (word_biquad b0 b1 b2 a1 a2 f) u min max) zero_wide xs.now ys.old }
 {
-    let state = DirectForm1Wide {
+    let mut state = DirectForm1Wide {
         x1: 0,
         x2: 0,
         y1: 0,
@@ -261,7 +261,7 @@ pub extern "C" fn bench_dither_clamp(
     ensures { ys.new ≡ block_left_by (clamp_number 1) dither_held dither_onward
         (word_clamp (word_biquad b0 b1 b2 a1 a2 f) u min max) zero_dither xs.now ys.old }
 {
-    let state = DirectForm1Dither {
+    let mut state = DirectForm1Dither {
         x1: 0,
         x2: 0,
         y1: 0,

@@ -29,7 +29,7 @@ pub extern "C" fn bench_clamp_wrap(xs: &[i32], ys: &mut [i32])
     ensures { ys.new ≡ block_left 0 clamp_out clamp_next zero_clamp xs.now ys.old }
 {
     let mut state = unclamped_wrap();
-    state.block(xs, ys);
+    let _ = state.block(xs, ys);
 }
 
 // An unwrapper's block.
@@ -38,7 +38,7 @@ pub extern "C" fn bench_unwrapper(xs: &[i32], ys: &mut [i32])
     ensures { ys.new ≡ block_left 0 step_of grown zero_unwrapper xs.now ys.old }
 {
     let mut state = Unwrapper { y: 0 };
-    state.block(xs, ys);
+    let _ = state.block(xs, ys);
 }
 
 // A loop's coefficients.
@@ -62,7 +62,7 @@ pub extern "C" fn bench_pll(b0: i32, b1: i32, a1: i32, xs: &[i32], ys: &mut [i32
         f: 0,
         y: 0,
     };
-    lead_lag(b0, b1, a1).block(&mut state, xs, ys);
+    let _ = lead_lag(b0, b1, a1).block(&mut state, xs, ys);
 }
 
 // A reciprocal loop's block.
@@ -92,7 +92,7 @@ pub extern "C" fn bench_rpll(
         f: 0,
         y: 0,
     };
-    config.block(&mut state, there, xs, ys, fs);
+    let _ = config.block(&mut state, there, xs, ys, fs);
 }
 
 fn scale_all(hi: i32, shift: u32, xs: &[i32], ys: &mut [i32])

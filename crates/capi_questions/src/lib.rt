@@ -7,58 +7,34 @@ ghost use Rattle.std.specs.Prelude.{◌≡◌};
 ghost use Rattle.sums.specs.State.{refusal_of};
 ghost use Rattle.sums.specs.Runs.{needed};
 ghost use Rattle.sums.specs.Calls.{gain_number_of, gain_of, gain_log2_of, response_length_of, fit_number_of, fits_of};
-ghost use Rattle.shape.specs.Answers.{told_of, fitting_of};
-ghost use Rattle.capi_questions.specs.Answers.{told_number, told_or, fitting_number, fitting_or, Tells, Fits};
+ghost use Rattle.blocks.specs.Refusals.{number_in};
+ghost use Rattle.capi_questions.specs.Answers.{told_or, Tells, Fits};
 
-use shape::numbers::refusal_of;
-use shape::questions::{Fitting, Told, fit, gain, gain_log2, low_rate_length, response_length};
+use blocks::Refusal;
+use shape::numbers::Numbers;
 
-#[tactic(auto, unfolding(crate::specs::Answers::told_number))]
-fn told_number(t: Told) -> u32
-    ensures { result ≡ told_number t }
+// The number of an answer's refusal, or 0.
+fn number<T: Copy>(answer: Result<T, Refusal>) -> u32
+    ensures { result ≡ number_in answer }
 {
-    match t {
-        Told::Number(_) => 0,
-        Told::Refused(k) => k,
+    match answer {
+        Ok(_) => 0,
+        Err(r) => r.number(),
     }
 }
 
-#[tactic(auto, unfolding(crate::specs::Answers::told_or))]
-fn told_or(t: Told, old: u64) -> u64
-    ensures { result ≡ told_or t old }
+// Writes a question's value, if there is one, and answers its number.
+fn tell(answer: Result<u64, Refusal>, value: &mut u64) -> u32
+    ensures { (result ≡ number_in answer) × (value.new ≡ told_or answer value.old) }
 {
-    match t {
-        Told::Number(v) => v,
-        Told::Refused(_) => old,
+    if let Ok(v) = answer {
+        *value = v;
     }
-}
-
-#[tactic(auto, unfolding(crate::specs::Answers::fitting_number))]
-fn fitting_number(t: Fitting) -> u32
-    ensures { result ≡ fitting_number t }
-{
-    match t {
-        Fitting::Fits(_) => 0,
-        Fitting::Refused(k) => k,
-    }
-}
-
-#[tactic(auto, unfolding(crate::specs::Answers::fitting_or))]
-fn fitting_or(t: Fitting, old: u32) -> u32
-    ensures { result ≡ fitting_or t old }
-{
-    match t {
-        Fitting::Fits(yes) => {
-            if yes {
-                return 1;
-            }
-            0
-        }
-        Fitting::Refused(_) => old,
-    }
+    number(answer)
 }
 
 // The number of the first test that such a state fails, or 0.
+#[tactic(auto, using(shape::proofs::Known::known, shape::proofs::Known::known_refusal))]
 #[unsafe(no_mangle)]
 pub extern "C" fn mittenload_refusal(
     order: usize,
@@ -69,7 +45,14 @@ pub extern "C" fn mittenload_refusal(
 ) -> u32
     ensures { result ≡ refusal_of order delay rate countdown unsettled }
 {
-    refusal_of(order, delay, rate, countdown, unsettled)
+    let numbers = Numbers {
+        order,
+        delay,
+        rate,
+        countdown,
+        unsettled,
+    };
+    number(numbers.check())
 }
 
 // The gain (R.M)^N. 14 above 2^63 - 1.
@@ -82,12 +65,16 @@ pub extern "C" fn mittenload_gain(
     unsettled: usize,
     value: &mut u64,
 ) -> u32
-    ensures { Tells (told_of (gain_number_of order delay rate countdown unsettled) (gain_of order delay rate)) value.old value.new result }
+    ensures { Tells (gain_number_of order delay rate countdown unsettled) (gain_of order delay rate) value.old value.new result }
 {
-    let t = gain(order, delay, rate, countdown, unsettled);
-    let v = told_or(t, *value);
-    *value = v;
-    told_number(t)
+    let numbers = Numbers {
+        order,
+        delay,
+        rate,
+        countdown,
+        unsettled,
+    };
+    tell(numbers.gain(), value)
 }
 
 // The right shift that undoes the gain.
@@ -100,12 +87,16 @@ pub extern "C" fn mittenload_gain_log2(
     unsettled: usize,
     value: &mut u64,
 ) -> u32
-    ensures { Tells (told_of (refusal_of order delay rate countdown unsettled) (gain_log2_of order delay rate)) value.old value.new result }
+    ensures { Tells (refusal_of order delay rate countdown unsettled) (gain_log2_of order delay rate) value.old value.new result }
 {
-    let t = gain_log2(order, delay, rate, countdown, unsettled);
-    let v = told_or(t, *value);
-    *value = v;
-    told_number(t)
+    let numbers = Numbers {
+        order,
+        delay,
+        rate,
+        countdown,
+        unsettled,
+    };
+    tell(numbers.gain_log2(), value)
 }
 
 // The steps at the high rate until an input's answer is over.
@@ -118,12 +109,16 @@ pub extern "C" fn mittenload_response_length(
     unsettled: usize,
     value: &mut u64,
 ) -> u32
-    ensures { Tells (told_of (refusal_of order delay rate countdown unsettled) (response_length_of order delay rate)) value.old value.new result }
+    ensures { Tells (refusal_of order delay rate countdown unsettled) (response_length_of order delay rate) value.old value.new result }
 {
-    let t = response_length(order, delay, rate, countdown, unsettled);
-    let v = told_or(t, *value);
-    *value = v;
-    told_number(t)
+    let numbers = Numbers {
+        order,
+        delay,
+        rate,
+        countdown,
+        unsettled,
+    };
+    tell(numbers.response_length(), value)
 }
 
 // The low-rate samples of a block of len at the high rate.
@@ -137,12 +132,16 @@ pub extern "C" fn mittenload_low_rate_length(
     len: usize,
     value: &mut u64,
 ) -> u32
-    ensures { Tells (told_of (refusal_of order delay rate countdown unsettled) (needed len countdown rate)) value.old value.new result }
+    ensures { Tells (refusal_of order delay rate countdown unsettled) (needed len countdown rate) value.old value.new result }
 {
-    let t = low_rate_length(order, delay, rate, countdown, unsettled, len);
-    let v = told_or(t, *value);
-    *value = v;
-    told_number(t)
+    let numbers = Numbers {
+        order,
+        delay,
+        rate,
+        countdown,
+        unsettled,
+    };
+    tell(numbers.low_rate_length(len), value)
 }
 
 // Whether inputs of b signed bits make no output of so wide words wrap: 1 or 0. 17.
@@ -157,11 +156,21 @@ pub extern "C" fn mittenload_fit(
     b: u32,
     yes: &mut u32,
 ) -> u32
-    ensures { Fits (fitting_of (fit_number_of (refusal_of order delay rate countdown unsettled) width b)
-        (fits_of (gain_of order delay rate) width b)) yes.old yes.new result }
+    ensures { Fits (fit_number_of (refusal_of order delay rate countdown unsettled) width b)
+        (fits_of (gain_of order delay rate) width b) yes.old yes.new result }
 {
-    let t = fit(order, delay, rate, countdown, unsettled, width, b);
-    let v = fitting_or(t, *yes);
-    *yes = v;
-    fitting_number(t)
+    let numbers = Numbers {
+        order,
+        delay,
+        rate,
+        countdown,
+        unsettled,
+    };
+    match numbers.fit(width, b) {
+        Ok(fits) => {
+            *yes = u32::from(fits);
+            0
+        }
+        Err(r) => r.number(),
+    }
 }

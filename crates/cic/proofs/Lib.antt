@@ -1,3 +1,2 @@
 pub mod Ways
-pub mod Joined
 pub mod InTurn

@@ -1,23 +1,30 @@
 -- What a caller gets who calls `decimate` on inputs in turn, by its promise.
-use Rattle.std.specs.Prelude.{List, [], ◌∷◌, ◌++◌, ℤ}
-use Rattle.sums.specs.Counted.{Numbered}
+use Rattle.std.specs.Prelude.{List, [], ◌∷◌, ◌++◌, Result, Ok, Err, Option, Some, None}
+use Rattle.blocks.specs.declared.refusal.Refusal.{Refusal}
+use Rattle.sums.specs.Ops.{Ops}
+use Rattle.sums.specs.Counted.{Numbered, take_state}
+use Rattle.lent.specs.declared.steps.Output as declared
+use Rattle.lent.specs.Answers.{step_out}
 use Rattle.cic.specs.declared.state.Cic.{Cic}
-use Rattle.lent.specs.declared.steps.Out.{Out}
-use Rattle.lent.specs.declared.steps.Out.TheVariants.{Given, Nothing, Refused}
-use Rattle.cic.specs.Answers.{stepped_of}
+use Rattle.cic.specs.Reading.{counted_of, cic_of}
 
--- The state at the end,
-unfoldable pub in_turn : Cic → List ℤ → Cic
-in_turn s [] = s
-in_turn s (x ∷ xs) = in_turn (stepped_of s x).state xs
+-- One call's output, if any,
+abbrev pub output_of : {A : Type 0} → Result (Option (declared.Output A)) Refusal → List (Numbered A)
+output_of (Ok (Some y)) = record { value = y.value; told = y.told; number = y.number } ∷ []
+output_of (Ok None) = []
+output_of (Err r) = []
 
--- one call's output, if any,
-abbrev pub output_of : Out → List (Numbered ℤ)
-output_of (Given y) = record { value = y.value; told = y.told; number = y.number } ∷ []
-output_of Nothing = []
-output_of (Refused k) = []
+module _ {A : Type 0} (o : Ops A) where
+  -- the state after it,
+  abbrev pub stepped : Cic A → A → Cic A
+  stepped s x = cic_of (take_state o (counted_of s) x)
 
--- and the outputs with what each tells.
-unfoldable pub outputs_in_turn : Cic → List ℤ → List (Numbered ℤ)
-outputs_in_turn s [] = []
-outputs_in_turn s (x ∷ xs) = output_of (stepped_of s x).out ++ outputs_in_turn (stepped_of s x).state xs
+  -- the state at the end,
+  unfoldable pub in_turn : Cic A → List A → Cic A
+  in_turn s [] = s
+  in_turn s (x ∷ xs) = in_turn (stepped s x) xs
+
+  -- and the outputs with what each tells.
+  unfoldable pub outputs_in_turn : Cic A → List A → List (Numbered A)
+  outputs_in_turn s [] = []
+  outputs_in_turn s (x ∷ xs) = output_of (step_out o (counted_of s) x) ++ outputs_in_turn (stepped s x) xs

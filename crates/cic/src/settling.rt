@@ -1,76 +1,59 @@
 // The state in which an interpolator has been fed one sample for ever.
-ghost use Rattle.std.specs.Prelude.{◌≡◌, ◌++◌, ◌-◌, ◌^◌, ◌≤◌, pos, replicate};
+ghost use Rattle.std.specs.Prelude.{◌≡◌, ◌++◌, ◌-◌, ◌^◌, ◌≤◌, replicate};
+ghost use Rattle.blocks.specs.Refusals.{answer};
 ghost use Rattle.sums.specs.Ops.{times};
 ghost use Rattle.sums.specs.State.{refusal};
 ghost use Rattle.sums.specs.Counted.{settle_counted};
-ghost use Rattle.cic.specs.Word.{word_ops};
 ghost use Rattle.cic.specs.Reading.{state_of, counted_of};
-ghost use Rattle.cic.specs.Answers.{made_of};
 
-use crate::state::{Cic, Made, kept, zeros};
-use crate::word::{Word, mul};
-use blocks::Verdict;
+use crate::state::{Cic, nils};
+use crate::word::Word;
+use blocks::Refusal;
 use shape::numbers::span;
 
-// x times by^n, modulo the word.
-fn scaled(x: Word, by: u64, n: usize) -> Word
-    requires { by ≤ 524288 }
-    ensures { result ≡ times word_ops (by ^ n) x }
+// x times by^n, as a sum of words.
+fn scaled<W: Word>(x: W, by: u32, n: usize) -> W
+    requires { 1 ≤ n }
+    ensures { result ≡ times W.ops (by ^ n) x }
 {
-    let factor = by as Word;
-    let mut r = x;
-    let mut i: usize = 0;
-    while i < n {
-        r = mul(r, factor);
-        i += 1;
+    let mut r = x.times(by);
+    for _turn in 1..n {
+        r = r.times(by);
     }
     r
 }
 
 // The first m cells x, the others 0.
-fn level(m: usize, x: Word) -> [Word; 64]
+fn level<W: Word>(m: usize, x: W) -> [W; 64]
     requires { m ≤ 64 }
-    ensures { result ≡ replicate m x ++ replicate (64 - m) (pos 0) }
+    ensures { result ≡ replicate m x ++ replicate (64 - m) W.ops.nil }
 {
-    let mut cells: [Word; 64] = [0; 64];
-    let mut i: usize = 0;
-    while i < m {
+    let mut cells: [W; 64] = nils();
+    for i in 0..m {
         cells[i] = x;
-        i += 1;
     }
     cells
 }
 
-impl Cic {
+impl<W: Word> Cic<W> {
     // The state of zeros but for the first delay line, all x, and the last integrator, x times the gain
     // modulo the word; where N is 0, but for the hold, x. A refused call changes nothing.
-    pub fn settle_interpolate(self, x: Word) -> Made
-        ensures { result ≡ made_of (refusal (state_of self)) (settle_counted word_ops (counted_of self) x) }
+    pub fn settle_interpolate(&mut self, x: W) -> Result<(), Refusal>
+        ensures { (counted_of self.new ≡ settle_counted W.ops (counted_of self.old) x)
+            × (result ≡ answer (refusal (state_of self.old)) tt) }
     {
-        let number = self.refusal();
-        if number != 0 {
-            return kept(self, number);
-        }
+        self.check()?;
         let order = self.order;
         let delay = self.delay;
         let rate = self.rate;
-        let mut state = zeros(order, delay, rate);
+        *self = Cic::zeros(order, delay, rate);
         if order == 0 {
-            state.hold = x;
-            return Made {
-                state,
-                verdict: Verdict::Done,
-            };
+            self.hold = x;
+            return Ok(());
         }
-        let last = order - 1;
-        let mut integrators: [Word; 8] = [0; 8];
-        integrators[last] = scaled(x, span(rate, delay as u32), order);
-        let combs = level(delay, x);
-        state.integrators = integrators;
-        state.combs = combs;
-        Made {
-            state,
-            verdict: Verdict::Done,
-        }
+        let factor = span(rate, delay as u32) as u32;
+        self.integrators[order - 1] = scaled(x, factor, order);
+        self.combs = level(delay, x);
+        Ok(())
     }
 }

@@ -1,3 +1,2 @@
-// The word of the steps on lent arrays, and its width, to be asked of `fit`.
-pub(crate) use lent::word::mul;
-pub use lent::word::{BITS, Word};
+// The words of the steps on lent arrays.
+pub use lent::word::Word;

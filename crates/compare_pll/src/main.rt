@@ -182,7 +182,11 @@ fn turn(r: &mut Running, w: [u32; 40], i: u32) {
     match w[0] {
         4 => spread_turn(r, coefficients(w, 3)),
         5 => drawn_turn(r),
-        _ => steady_turn(r, coefficients(w, 3), w[1].wrapping_add(i.wrapping_mul(w[8]))),
+        _ => steady_turn(
+            r,
+            coefficients(w, 3),
+            w[1].wrapping_add(i.wrapping_mul(w[8])),
+        ),
     }
 }
 

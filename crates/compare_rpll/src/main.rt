@@ -50,7 +50,12 @@ fn zero() -> RPLL {
 
 // The four words of a state, in the order of a line.
 fn words_of(s: RPLL) -> [u32; 4] {
-    [s.x.cast_unsigned(), s.ff, s.frequency(), s.phase().cast_unsigned()]
+    [
+        s.x.cast_unsigned(),
+        s.ff,
+        s.frequency(),
+        s.phase().cast_unsigned(),
+    ]
 }
 
 // The digest d grown by phase and frequency, or by the number of a refusal.
@@ -118,7 +123,7 @@ fn steady_turn(r: &mut Running, c: RPLLConfig, now: u32, period: u32) {
 
 // The length of a step.
 fn interval(c: RPLLConfig) -> u32 {
-    words::shifts::shl_u32(1, u32::from(c.dt2))
+    1u32.wrapping_shl(u32::from(c.dt2))
 }
 
 // Step number i of a line's run.
@@ -216,7 +221,7 @@ fn drawn_block(r: &mut Running, c: RPLLConfig) {
     let mut ys = [0i32; BLOCK];
     let mut fs = [0i32; BLOCK];
     r.draws = fill(&mut there, &mut xs, r.draws);
-    c.block(&mut r.state, &there, &xs, &mut ys, &mut fs);
+    let _ = c.block(&mut r.state, &there, &xs, &mut ys, &mut fs);
     r.digest = digest_block(r.digest, &ys, &fs);
 }
 
@@ -263,7 +268,9 @@ fn lengths_differ() -> u64 {
     let stamps = unlike_differs(&there, &xs[1..], &mut ys, &mut fs);
     let phases = unlike_differs(&there, &xs, &mut two, &mut fs);
     let frequencies = unlike_differs(&there, &xs, &mut ys, &mut two);
-    flags.wrapping_add(stamps).wrapping_add(phases.wrapping_add(frequencies))
+    flags
+        .wrapping_add(stamps)
+        .wrapping_add(phases.wrapping_add(frequencies))
 }
 
 // 1 where the line differs from what the proved function gives.
@@ -319,7 +326,8 @@ fn configuration_differs(s: RPLL, i: u32) -> u64 {
     let shift_phase = i % 256;
     let number = rule(dt2, shift_frequency, shift_phase);
     let mut after = s;
-    let Err(refusal) = configured(dt2, shift_frequency, shift_phase).process(&mut after, Some(5)) else {
+    let Err(refusal) = configured(dt2, shift_frequency, shift_phase).process(&mut after, Some(5))
+    else {
         return unlike(0, number);
     };
     if refusal.number() != number {

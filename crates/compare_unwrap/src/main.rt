@@ -168,7 +168,7 @@ fn scale_turn(r: &mut Running, near: bool) {
 }
 
 fn placed(hi: u32, shift: u32, near: bool) -> u32
-    requires { shift ≤ 32 }
+    requires { (1 ≤ shift) × (shift ≤ 32) }
 {
     if near {
         return (hi.cast_signed() >> (32 - shift)).cast_unsigned();
@@ -207,7 +207,11 @@ fn steps_back(lo: u32, hi: u32, shift: u32) -> u64 {
 }
 
 fn before(a: u32, b: u32) -> u64 {
-    if a.cast_signed() < b.cast_signed() { 1 } else { 0 }
+    if a.cast_signed() < b.cast_signed() {
+        1
+    } else {
+        0
+    }
 }
 
 // Counts where neighbours, near the crate's clip or not, step back.
@@ -246,7 +250,10 @@ fn long_run(w: [u32; 40]) -> u64 {
     let r = run(w[0], started(w[1], double(w[3], w[4])), w[2]);
     let d = match w[0] {
         10 => digest_double(r.answer, r.unwrapper.y.cast_unsigned()),
-        11 => digest(digest(r.answer, r.clamp.x0.cast_unsigned()), sign(r.clamp.clamp)),
+        11 => digest(
+            digest(r.answer, r.clamp.x0.cast_unsigned()),
+            sign(r.clamp.clamp),
+        ),
         _ => r.answer,
     };
     unlike_double(d, double(w[5], w[6]))

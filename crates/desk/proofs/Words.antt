@@ -11,7 +11,8 @@ use mir.Syntax.{w64}
 use Rattle.words.specs.Words.{wrap}
 use Rattle.blocks.specs.Scan.{scan}
 use Rattle.blocks.proofs.Turns.{Going, turn, done}
-use Rattle.text.specs.declared.hex.Pattern.{Pattern}
+use Rattle.std.specs.Prelude as std
+use Rattle.std.specs.Prelude.{Some, None}
 use Rattle.sums.specs.Calls.{resume_number}
 use Rattle.sums.specs.Counted.{resume_counted}
 use Rattle.cic64.specs.Word.{word_ops}
@@ -33,20 +34,20 @@ pub check_end : (line : List ℕ) (i c : ℕ) → 79 ≤ i → check_from c (wor
 unfolding check_from words_at
 check_end line i c h = let e : 79 - i ≡ 0 = omega arith in ap (λ (k : ℕ). check_from c (words_at line i k)) e
 
-pub wrong_on : (line : List ℕ) (i v : ℕ) → i < 80 → pattern_at line i ≡ Pattern.Bits v
+pub wrong_on : (line : List ℕ) (i v : ℕ) → i < 80 → pattern_at line i ≡ Some v
     → any_wrong line i (80 - i) ≡ any_wrong line (i + 1) (80 - (i + 1))
 unfolding any_wrong
 wrong_on line i v h p =
     let e : 80 - i ≡ suc (80 - (i + 1)) = omega arith in
     ap (λ (k : ℕ). any_wrong line i k) e
-    ∙ ap (λ (q : Pattern). is_wrong q || any_wrong line (suc i) (80 - (i + 1))) p
+    ∙ ap (λ (q : std.Option ℕ). is_wrong q || any_wrong line (suc i) (80 - (i + 1))) p
     ∙ ap (λ (j : ℕ). any_wrong line j (80 - (i + 1))) (sym (add-one i))
 
-pub wrong_found : (line : List ℕ) (i : ℕ) → i < 80 → pattern_at line i ≡ Pattern.Wrong → any_wrong line i (80 - i) ≡ true
+pub wrong_found : (line : List ℕ) (i : ℕ) → i < 80 → pattern_at line i ≡ None → any_wrong line i (80 - i) ≡ true
 unfolding any_wrong
 wrong_found line i h p =
     let e : 80 - i ≡ suc (80 - (i + 1)) = omega arith in
-    ap (λ (k : ℕ). any_wrong line i k) e ∙ ap (λ (q : Pattern). is_wrong q || any_wrong line (suc i) (80 - (i + 1))) p
+    ap (λ (k : ℕ). any_wrong line i k) e ∙ ap (λ (q : std.Option ℕ). is_wrong q || any_wrong line (suc i) (80 - (i + 1))) p
 
 pub wrong_end : (line : List ℕ) (i : ℕ) → 80 ≤ i → any_wrong line i (80 - i) ≡ false
 unfolding any_wrong

@@ -3,7 +3,8 @@
 use Rattle.std.specs.Prelude.{cond, List, ℕ, ◌/◌, ◌%◌, eqb, length, get_or, take, drop}
 use Rattle.text.specs.Letters.{byte, newline}
 use Rattle.text.specs.Hex.{pattern_of}
-use Rattle.text.specs.declared.hex.Pattern.{Pattern}
+use Rattle.std.specs.Prelude as std
+use Rattle.std.specs.Prelude.{Some, None}
 use Rattle.desk.specs.declared.lines.Kind.{Kind}
 use Rattle.desk.specs.declared.lines.Kind.TheVariants.{Word, Open, Rate, Pull, Push, Save, Unknown}
 use Rattle.desk.specs.declared.lines.Record.{Record}
@@ -19,9 +20,9 @@ kind_of b =
     (cond (eqb b (byte "s")) Save Unknown)))))
 
 -- 75: a digit is none
-abbrev pub bits_record : Kind → Pattern → Record
-bits_record kind (Pattern.Bits v) = Is kind (v / 4294967296) (v % 4294967296)
-bits_record kind Pattern.Wrong = Bad 75
+abbrev pub bits_record : Kind → std.Option ℕ → Record
+bits_record kind (Some v) = Is kind (v / 4294967296) (v % 4294967296)
+bits_record kind None = Bad 75
 
 -- 72: the line isn't ended by its newline after 17 bytes
 unfoldable pub record_of : List ℕ → Record

@@ -5,7 +5,8 @@ use Rattle.words.specs.Words.{word, wrap}
 use Rattle.blocks.specs.declared.Verdict.TheVariants as Verdict
 use Rattle.text.specs.Letters.{newline}
 use Rattle.text.specs.Hex.{pattern_of}
-use Rattle.text.specs.declared.hex.Pattern.{Pattern}
+use Rattle.std.specs.Prelude as std
+use Rattle.std.specs.Prelude.{Some, None}
 use Rattle.sums.specs.Calls.{resume_number}
 use Rattle.sums.specs.Counted.{resume_counted}
 use Rattle.cic64.specs.Word.{word_ops}
@@ -26,16 +27,16 @@ check_from c (w ∷ ws) = check_from (next_check c w) ws
 
 -- The words are order, delay, rate, countdown, number of inputs, hold, turns, the integrators and the comb cells, then the check value.
 -- The words of a line read back: word i stands at 16 i + 1.
-abbrev pub pattern_at : List ℕ → ℕ → Pattern
+abbrev pub pattern_at : List ℕ → ℕ → std.Option ℕ
 pattern_at line i = pattern_of (take 16 (drop (16 * i + 1) line))
 
-abbrev pub value_of : Pattern → ℕ
-value_of (Pattern.Bits v) = v
-value_of Pattern.Wrong = 0
+abbrev pub value_of : std.Option ℕ → ℕ
+value_of (Some v) = v
+value_of None = 0
 
-abbrev pub is_wrong : Pattern → Bool
-is_wrong (Pattern.Bits v) = false
-is_wrong Pattern.Wrong = true
+abbrev pub is_wrong : std.Option ℕ → Bool
+is_wrong (Some v) = false
+is_wrong None = true
 
 unfoldable pub words_at : List ℕ → ℕ → ℕ → List ℕ
 words_at line i zero = []

@@ -3,7 +3,7 @@
 ghost use Rattle.std.specs.Prelude.{◌≡◌};
 ghost use Rattle.desk.specs.Lines.{kind_of, bits_record, record_of};
 
-use text::hex::{Pattern, hex_word};
+use text::hex::hex_word;
 
 // What a record does: `w`, `o`, `r`, `p`, `q`, `s`.
 #[derive(Clone, Copy)]
@@ -48,10 +48,10 @@ fn kind_of(letter: u8) -> Kind
     Kind::Unknown
 }
 
-fn bits_record(kind: Kind, p: Pattern) -> Record
+fn bits_record(kind: Kind, p: Option<u64>) -> Record
     ensures { result ≡ bits_record kind p }
 {
-    let Pattern::Bits(v) = p else {
+    let Some(v) = p else {
         return Record::Bad(75);
     };
     Record::Is(kind, (v / 4294967296) as u32, (v % 4294967296) as u32)

@@ -7,7 +7,7 @@ ghost use Rattle.desk.specs.Saved.{next_check, check_from, pattern_at, word_at, 
 use blocks::Verdict;
 use cic64::state::{Cic, Made};
 use recorder::recorder::{Ready, Recorder};
-use text::hex::{Pattern, hex_word};
+use text::hex::hex_word;
 use unwrap::unwrapper::Unwrapper;
 use words::casts::u64_as_i64;
 use words::unsigned::{add_u64, mul_u64};
@@ -20,7 +20,7 @@ fn checked(check: u64, word: u64) -> u64
 }
 
 // The pattern of word i of a line.
-fn pattern_at(line: &[u8], i: usize) -> Pattern
+fn pattern_at(line: &[u8], i: usize) -> Option<u64>
     requires { (i < 80) × (length line.now ≡ 1282) }
     ensures { result ≡ pattern_at line.now i }
 {
@@ -36,8 +36,8 @@ fn word_at(line: &[u8], i: usize) -> u64
 {
     let p = pattern_at(line, i);
     match p {
-        Pattern::Bits(v) => v,
-        Pattern::Wrong => 0,
+        Some(v) => v,
+        None => 0,
     }
 }
 
@@ -57,7 +57,7 @@ fn any_wrong(line: &[u8]) -> bool
     let mut i: usize = 0;
     while i < 80 {
         let p = pattern_at(line, i);
-        let Pattern::Bits(_v) = p else {
+        let Some(_v) = p else {
             return true;
         };
         i += 1;

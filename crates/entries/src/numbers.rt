@@ -10,26 +10,22 @@ ghost use Rattle.entries.specs.Entries.{name_bytes, kind_number, number_for};
 use crate::settings::{Entry, Kind, Name};
 use blocks::Refusal;
 use settings_text::version::Version;
-use shape::numbers::refusal_of;
+use shape::numbers::Numbers;
 use text::comparing::comes_before;
 use wdf::filter::{new_refusal, refusal};
 
 // What `Cic::new` is refused with.
-#[tactic(auto, using(crate::proofs::Numbering::rate_left), unfolding(blocks::specs::Refusals::answer, blocks::specs::Refusals::refusal_at))]
 fn check_new(order: u32, delay: u32, rate: u32) -> Result<(), Refusal>
     ensures { result ≡ answer (new_number order delay rate) tt }
 {
-    let number = refusal_of(order as usize, delay as usize, rate, 0, 0);
-    if number == 0 {
-        return Ok(());
-    }
-    if number == 10 {
-        return Err(Refusal::Order);
-    }
-    if number == 11 {
-        return Err(Refusal::Delay);
-    }
-    Err(Refusal::Rate)
+    let shape = Numbers {
+        order: order as usize,
+        delay: delay as usize,
+        rate,
+        countdown: 0,
+        unsettled: 0,
+    };
+    shape.check()
 }
 
 // 12: R outside 1..65,536.

@@ -1,3 +1,1 @@
 pub mod StepCalls
-pub mod BlockCalls
-pub mod OneCell

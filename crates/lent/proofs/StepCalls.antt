@@ -1,58 +1,53 @@
--- The ways in which a step's call ends: k is the number that the code found.
-use mathlib.Core.Path.{◌≡◌, refl}
-use mathlib.Core.Option.{Option, none, some}
-use Prim.Native.Nat.{ℕ, zero, suc}
-use lib.IntN.{ℤ}
-use borrow.Author.Tests.{ne_eqb}
+-- The ways in which a step's call ends: refused by its number, or taken.
+use Rattle.std.proofs.Common.{◌≡◌, ℕ, suc, eq-eqb, ne_eqb}
+use Rattle.std.specs.Prelude.{Result, Ok, Err, Option, Some, None}
+use Rattle.std.proofs.Math.Option.{none, some}
+use Rattle.std.proofs.Math.Option as math
+use Rattle.blocks.specs.declared.refusal.Refusal.{Refusal}
+use Rattle.blocks.specs.Refusals.{answer}
+use Rattle.blocks.proofs.Refusals.{accepted, refused_too}
+use Rattle.sums.specs.Ops.{Ops}
 use Rattle.sums.specs.Machine.{Output}
 use Rattle.sums.specs.State.{State}
 use Rattle.sums.specs.Calls.{rise_number, rise_state, rise_given}
 use Rattle.sums.specs.Counted.{Counted, take_number, with_number, take_state, take_given, rise_counted}
-use Rattle.sums.proofs.Lent.{DecimateStep, InterpolateStep}
-use Rattle.lent.specs.Word.{word_ops}
-use Rattle.lent.specs.declared.steps.Out.{Out}
-use Rattle.lent.specs.declared.steps.Interpolated.{Interpolated}
-use Rattle.lent.specs.Answers.{out_of, step_out, interpolated_of, rise_out}
+use Rattle.sums.proofs.Lent.{DecimateStep}
+use Rattle.shape.proofs.Ways.{never}
+use Rattle.lent.specs.declared.steps.Output as declared
+use Rattle.lent.specs.Answers.{output_of, step_out, rise_out}
 
 -- the decimator's call
-module _ (c : Counted ℤ) (x : ℤ) where
-  pub step_refuses : (k : ℕ) → k ≡ take_number c 1 → (k ≡ 0 → ⊥) → (c ≡ take_state word_ops c x) × (Out.Refused k ≡ step_out c x)
-  unfolding take_state out_of
-  step_refuses zero e h = absurd (h refl)
-  step_refuses (suc k) e h = (rw (← e, ne_eqb (suc k) 0 h), rw (← e))
+module _ {A : Type 0} (o : Ops A) (c : Counted A) (x : A) where
+  pub step_refuses : {V : Type 0} (v : V) (r : Refusal) → ◌≡◌ {A = Result V Refusal} (Err r) (answer (take_number c 1) v)
+      → (c ≡ take_state o c x) × (◌≡◌ {A = Result (Option (declared.Output A)) Refusal} (Err r) (step_out o c x))
+  unfolding take_state
+  step_refuses v r e = (rw (ne_eqb (take_number c 1) 0 (never (take_number c 1) v r e)), refused_too (take_number c 1) v _ r e)
 
-  module _ (z : take_number c 1 ≡ 0) (t : State ℤ) (n : ℕ) (e : n ≡ suc c.inputs) where
-    step_takes : (g : Option (Output ℤ)) → DecimateStep word_ops c.state x t g
-        → (◌≡◌ {A = Counted ℤ} (record { state = t; inputs = n }) (take_state word_ops c x)) × (out_of 0 (with_number n g) ≡ step_out c x)
+  module _ (z : take_number c 1 ≡ 0) (t : State A) (n : ℕ) (e : n ≡ suc c.inputs) where
+    step_takes : (g : math.Option (Output A)) → DecimateStep o c.state x t g
+        → (◌≡◌ {A = Counted A} (record { state = t; inputs = n }) (take_state o c x))
+        × (◌≡◌ {A = Result (Option (declared.Output A)) Refusal} (Ok (output_of (with_number n g))) (step_out o c x))
     unfolding take_state take_given
-    step_takes g r = (rw (z, e, r.state), rw (z, e, r.gives))
+    step_takes g r = (rw (z, e, r.state), rw (e, r.gives, eq-eqb (take_number c 1) 0 z) (accepted (take_number c 1) _ z))
 
-    pub step_waits : DecimateStep word_ops c.state x t none
-        → (◌≡◌ {A = Counted ℤ} (record { state = t; inputs = n }) (take_state word_ops c x)) × (Out.Nothing ≡ step_out c x)
-    unfolding out_of
+    pub step_waits : DecimateStep o c.state x t none
+        → (◌≡◌ {A = Counted A} (record { state = t; inputs = n }) (take_state o c x))
+        × (◌≡◌ {A = Result (Option (declared.Output A)) Refusal} (Ok None) (step_out o c x))
     step_waits r = step_takes none r
 
-    pub step_gives : (y : ℤ) (u : ℕ) → DecimateStep word_ops c.state x t (some (record { value = y; told = u }))
-        → (◌≡◌ {A = Counted ℤ} (record { state = t; inputs = n }) (take_state word_ops c x))
-        × (Out.Given (record { value = y; told = u; number = n }) ≡ step_out c x)
-    unfolding out_of
+    pub step_gives : (y : A) (u : ℕ) → DecimateStep o c.state x t (some (record { value = y; told = u }))
+        → (◌≡◌ {A = Counted A} (record { state = t; inputs = n }) (take_state o c x))
+        × (◌≡◌ {A = Result (Option (declared.Output A)) Refusal} (Ok (Some (record { value = y; told = u; number = n }))) (step_out o c x))
     step_gives y u r = step_takes (some (record { value = y; told = u })) r
 
 -- the interpolator's call
-module _ (c : Counted ℤ) (x : Option ℤ) where
-  pub step_rises : (t : State ℤ) (y : ℤ) → InterpolateStep word_ops c.state x t y
-      → (◌≡◌ {A = Counted ℤ} (record { state = t; inputs = c.inputs }) (rise_counted word_ops c x))
-      × (Interpolated.Value y ≡ Interpolated.Value (rise_given word_ops c.state x))
-  step_rises t y r = (rw r.state, rw r.gives)
+module _ {A : Type 0} (o : Ops A) (c : Counted A) (x : math.Option A) where
+  pub rise_refuses : {V : Type 0} (v : V) (r : Refusal) → ◌≡◌ {A = Result V Refusal} (Err r) (answer (rise_number c.state x) v)
+      → (c ≡ rise_counted o c x) × (◌≡◌ {A = Result A Refusal} (Err r) (rise_out o c x))
+  unfolding rise_state
+  rise_refuses v r e = (rw (ne_eqb (rise_number c.state x) 0 (never (rise_number c.state x) v r e)), refused_too (rise_number c.state x) v _ r e)
 
-  pub rise_refuses : (k : ℕ) → k ≡ rise_number c.state x → (k ≡ 0 → ⊥)
-      → (c ≡ rise_counted word_ops c x) × (Interpolated.Refused k ≡ rise_out c x)
-  unfolding rise_state interpolated_of
-  rise_refuses zero e h = absurd (h refl)
-  rise_refuses (suc k) e h = (rw (← e, ne_eqb (suc k) 0 h), rw (← e))
-
-  pub rise_takes : rise_number c.state x ≡ 0 → (z : Option ℤ) → z ≡ x → (t : Counted ℤ) (out : Interpolated)
-      → (t ≡ rise_counted word_ops c z) × (out ≡ Interpolated.Value (rise_given word_ops c.state z))
-      → (t ≡ rise_counted word_ops c x) × (out ≡ rise_out c x)
-  unfolding interpolated_of
-  rise_takes e z f t out h = (rw (← f) h.0, rw (e, ← f) h.1)
+  pub rise_takes : rise_number c.state x ≡ 0 → (z : math.Option A) → z ≡ x → (t : Counted A) (y : A)
+      → (t ≡ rise_counted o c z) × (y ≡ rise_given o c.state z)
+      → (t ≡ rise_counted o c x) × (◌≡◌ {A = Result A Refusal} (Ok y) (rise_out o c x))
+  rise_takes e z f t y h = (rw (← f) h.0, rw (← f) (rw h.1 (accepted (rise_number c.state z) _ (rw (← f) at e))))

@@ -1,34 +1,36 @@
--- What a step answers, by its number (0: accepted) and its value. A refused one gives its number alone.
-use Rattle.std.proofs.Math.Option.{Option, none, some}
-use Rattle.std.specs.Prelude.{ℕ, zero, suc, ℤ}
+-- What a step answers, by its number (0: accepted) and its value. A refused one gives its refusal alone.
+use Rattle.std.specs.Prelude.{ℕ, Result, Option, Some, None}
+use Rattle.std.proofs.Math.Option.{none, some}
+use Rattle.std.proofs.Math.Option as math
+use Rattle.blocks.specs.declared.refusal.Refusal.{Refusal}
+use Rattle.blocks.specs.Refusals.{answer}
+use Rattle.sums.specs.Ops.{Ops}
 use Rattle.sums.specs.Calls.{rise_number, rise_given}
 use Rattle.sums.specs.Counted.{Counted, Numbered, take_number, take_given}
-use Rattle.lent.specs.Word.{word_ops}
-use Rattle.lent.specs.declared.steps.Output as answer
-use Rattle.lent.specs.declared.steps.Out.{Out}
-use Rattle.lent.specs.declared.steps.Sample.{Sample}
-use Rattle.lent.specs.declared.steps.Interpolated.{Interpolated}
+use Rattle.lent.specs.declared.steps.Output as declared
 
--- The decimator's step: one output with the count it is told and its input's number, or nothing at all.
-abbrev pub answer_output : Numbered ℤ → answer.Output
-answer_output y = record { value = y.value; told = y.told; number = y.number }
+module _ {A : Type 0} where
+  -- The decimator's step: one output with the count it is told and its input's number, or nothing at all.
+  abbrev pub answer_output : Numbered A → declared.Output A
+  answer_output y = record { value = y.value; told = y.told; number = y.number }
 
-unfoldable pub out_of : ℕ → Option (Numbered ℤ) → Out
-out_of zero (some y) = Out.Given (answer_output y)
-out_of zero none = Out.Nothing
-out_of (suc k) y = Out.Refused (suc k)
+  abbrev pub output_of : math.Option (Numbered A) → Option (declared.Output A)
+  output_of none = None
+  output_of (some y) = Some (answer_output y)
 
-abbrev pub step_out : Counted ℤ → ℤ → Out
-step_out c x = out_of (take_number c 1) (take_given word_ops c x)
+  abbrev pub out_of : ℕ → math.Option (Numbered A) → Result (Option (declared.Output A)) Refusal
+  out_of k y = answer k (output_of y)
 
--- The interpolator's step, with a sample or with none.
-abbrev pub sample_of : Sample → Option ℤ
-sample_of (Sample.Given x) = some x
-sample_of Sample.Missing = none
+  abbrev pub step_out : Ops A → Counted A → A → Result (Option (declared.Output A)) Refusal
+  step_out o c x = out_of (take_number c 1) (take_given o c x)
 
-unfoldable pub interpolated_of : ℕ → ℤ → Interpolated
-interpolated_of zero y = Interpolated.Value y
-interpolated_of (suc k) y = Interpolated.Refused (suc k)
+  -- The interpolator's step, with a sample or with none.
+  abbrev pub sample_of : Option A → math.Option A
+  sample_of (Some x) = some x
+  sample_of None = none
 
-abbrev pub rise_out : Counted ℤ → Option ℤ → Interpolated
-rise_out c x = interpolated_of (rise_number c.state x) (rise_given word_ops c.state x)
+  abbrev pub interpolated_of : ℕ → A → Result A Refusal
+  interpolated_of k y = answer k y
+
+  abbrev pub rise_out : Ops A → Counted A → math.Option A → Result A Refusal
+  rise_out o c x = interpolated_of (rise_number c.state x) (rise_given o c.state x)

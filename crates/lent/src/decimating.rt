@@ -2,92 +2,88 @@
 ghost use Rattle.std.specs.Prelude.{◌≡◌, ◌+◌, ◌-◌, ◌≤◌, ◌<◌, length};
 ghost use Rattle.sums.specs.Runs.{needed};
 ghost use Rattle.sums.proofs.Lent.{Ready, Ring, DecimateStretch, DecimateRest, DecimateRun};
-ghost use Rattle.lent.specs.Word.{word_ops};
 ghost use Rattle.lent.specs.Inner.Apart.{figures_of, apart, ringed, given_of};
 
-use crate::stretches::{
-    BlockEnd, Gave, Numbers, RingEnd, difference_ring, integrate_inputs, last, unroll,
-};
+use crate::state::LentCic;
+use crate::stretches::{BlockEnd, RingEnd, difference_ring, integrate_inputs, last, unroll};
 use crate::word::Word;
-use shape::numbers::{following, lowered};
+use shape::numbers::following;
 
-// Where a stretch ends: the numbers after it, what it gives, the place of the oldest cells, and the next input.
+// Where a stretch ends: the numbers after it, the output that it gives, the place of the oldest cells, and the next input.
 #[derive(Clone, Copy)]
-pub(crate) struct StretchEnd {
-    pub numbers: Numbers,
-    pub gave: Gave,
+pub(crate) struct StretchEnd<W> {
+    pub numbers: LentCic<W>,
+    pub gave: Option<W>,
     pub at: usize,
     pub next: usize,
 }
 
 // From input i to the next output, which falls on input i + countdown: the integrators run over all of them, then
 // the combs once. n is the order.
-fn decimate_stretch(
-    integrators: &mut [Word; 8],
-    combs: &mut [Word; 64],
+fn decimate_stretch<W: Word>(
+    integrators: &mut [W; 8],
+    combs: &mut [W; 64],
     n: usize,
-    first: Numbers,
+    first: LentCic<W>,
     at: usize,
-    input: &[Word],
+    input: &[W],
     i: usize,
-) -> StretchEnd
+) -> StretchEnd<W>
     requires { Ring n at (figures_of first) combs.old × Ready (ringed first integrators.old combs.old at)
         × (i + first.countdown < length input.now) }
-    ensures { DecimateStretch word_ops n input.now (ringed first integrators.old combs.old at) i
-        (figures_of result.numbers) integrators.new combs.new result.at (given_of result.gave) result.next }
+    ensures { DecimateStretch W.ops n input.now (ringed first integrators.old combs.old at) i
+        (figures_of result.numbers) integrators.new combs.new result.at (given_of result.gave first.unsettled) result.next }
 {
-    let mut numbers = first;
-    let unsettled = first.unsettled;
     let end = i + first.countdown as usize;
     let next = end + 1;
     integrate_inputs(integrators, n, input, i, next);
-    let x = input[end];
-    let y = difference_ring(combs, n, at, last(integrators, n, x));
+    let hold = difference_ring(combs, n, at, last(integrators, n, input[end]));
+    let mut numbers = first;
     numbers.countdown = first.rate;
-    numbers.unsettled = lowered(unsettled);
-    numbers.hold = y;
+    numbers.unsettled = first.unsettled.saturating_sub(1);
+    numbers.hold = hold;
     StretchEnd {
         numbers,
-        gave: Gave::Output(y, unsettled),
+        gave: Some(hold),
         at: following(at, first.delay),
         next,
     }
 }
 
 // The inputs from i on, which end before the next output.
-fn decimate_rest(
-    integrators: &mut [Word; 8],
+fn decimate_rest<W: Word>(
+    integrators: &mut [W; 8],
     n: usize,
-    first: Numbers,
-    input: &[Word],
+    first: LentCic<W>,
+    input: &[W],
     i: usize,
-) -> Numbers
-    requires { (n ≤ 8) × (i ≤ length input.now) × (length input.now - i ≤ first.countdown) × (length integrators.old ≡ 8) }
-    ensures { DecimateRest word_ops n input.now i (figures_of first) integrators.old (figures_of result)
+) -> LentCic<W>
+    requires { (n ≤ 8) × (i ≤ length input.now) × (length input.now - i ≤ first.countdown) }
+    ensures { DecimateRest W.ops n input.now i (figures_of first) integrators.old (figures_of result)
         integrators.new }
 {
-    let mut numbers = first;
     let end = input.len();
     integrate_inputs(integrators, n, input, i, end);
     let left = end - i;
+    let mut numbers = first;
     numbers.countdown = first.countdown - left as u32;
     numbers
 }
 
 // The steps of a decimator's block, a stretch at a time, with the delay lines as rings. n is the order: where it
 // is a constant, the compiler unrolls the integrators and the combs.
-fn decimate_stretches(
-    integrators: &mut [Word; 8],
-    combs: &mut [Word; 64],
+fn decimate_stretches<W: Word>(
+    integrators: &mut [W; 8],
+    combs: &mut [W; 64],
     n: usize,
-    first: Numbers,
-    input: &[Word],
-    out: &mut [Word],
-) -> RingEnd
+    first: LentCic<W>,
+    input: &[W],
+    out: &mut [W],
+) -> RingEnd<W>
     requires { (n ≡ first.order) × Ready (apart first integrators.old combs.old)
         × (needed (length input.now) first.countdown first.rate ≤ length out.old) }
     ensures { Ring n result.at (figures_of result.numbers) combs.new
-        × DecimateRun word_ops (apart first integrators.old combs.old) input.now out.old
+        × DecimateRun W.ops (apart first integrators.old combs.old) input.now out.old
         (ringed result.numbers integrators.new combs.new result.at) result.count out.new }
 {
     let mut numbers = first;
@@ -96,12 +92,10 @@ fn decimate_stretches(
     let mut i: usize = 0;
     while (numbers.countdown as usize) < input.len() - i {
         let t = decimate_stretch(integrators, combs, n, numbers, at, input, i);
-        let next = t.numbers;
-        numbers = next;
+        numbers = t.numbers;
         at = t.at;
         i = t.next;
-        let given = t.gave;
-        if let Gave::Output(y, _) = given {
+        if let Some(y) = t.gave {
             out[k] = y;
             k += 1;
         }
@@ -115,18 +109,18 @@ fn decimate_stretches(
 }
 
 // The same with lines of one cell. The delay as a constant spares the ring's place: after the only cell comes itself.
-fn decimate_one_cell(
-    integrators: &mut [Word; 8],
-    combs: &mut [Word; 64],
+fn decimate_one_cell<W: Word>(
+    integrators: &mut [W; 8],
+    combs: &mut [W; 64],
     n: usize,
-    first: Numbers,
-    input: &[Word],
-    out: &mut [Word],
-) -> RingEnd
+    first: LentCic<W>,
+    input: &[W],
+    out: &mut [W],
+) -> RingEnd<W>
     requires { (first.delay ≡ 1) × (n ≡ first.order) × Ready (apart first integrators.old combs.old)
         × (needed (length input.now) first.countdown first.rate ≤ length out.old) }
     ensures { Ring n result.at (figures_of result.numbers) combs.new
-        × DecimateRun word_ops (apart first integrators.old combs.old) input.now out.old
+        × DecimateRun W.ops (apart first integrators.old combs.old) input.now out.old
         (ringed result.numbers integrators.new combs.new result.at) result.count out.new }
 {
     let mut one = first;
@@ -135,17 +129,17 @@ fn decimate_one_cell(
 }
 
 // The same, once for each order, and once more for the orders of nearly every product, whose delay is one.
-fn decimate_by_order(
-    integrators: &mut [Word; 8],
-    combs: &mut [Word; 64],
-    first: Numbers,
-    input: &[Word],
-    out: &mut [Word],
-) -> RingEnd
+fn decimate_by_order<W: Word>(
+    integrators: &mut [W; 8],
+    combs: &mut [W; 64],
+    first: LentCic<W>,
+    input: &[W],
+    out: &mut [W],
+) -> RingEnd<W>
     requires { Ready (apart first integrators.old combs.old)
         × (needed (length input.now) first.countdown first.rate ≤ length out.old) }
     ensures { Ring first.order result.at (figures_of result.numbers) combs.new
-        × DecimateRun word_ops (apart first integrators.old combs.old) input.now out.old
+        × DecimateRun W.ops (apart first integrators.old combs.old) input.now out.old
         (ringed result.numbers integrators.new combs.new result.at) result.count out.new }
 {
     let n = first.order;
@@ -174,16 +168,16 @@ fn decimate_by_order(
 
 // The steps of a decimator's block in turn, on an accepted state whose arrays are lent. The outputs go to the
 // front of out; the rest of it stays.
-pub(crate) fn decimate_run(
-    integrators: &mut [Word; 8],
-    combs: &mut [Word; 64],
-    first: Numbers,
-    input: &[Word],
-    out: &mut [Word],
-) -> BlockEnd
+pub(crate) fn decimate_run<W: Word>(
+    integrators: &mut [W; 8],
+    combs: &mut [W; 64],
+    first: LentCic<W>,
+    input: &[W],
+    out: &mut [W],
+) -> BlockEnd<W>
     requires { Ready (apart first integrators.old combs.old)
         × (needed (length input.now) first.countdown first.rate ≤ length out.old) }
-    ensures { DecimateRun word_ops (apart first integrators.old combs.old)
+    ensures { DecimateRun W.ops (apart first integrators.old combs.old)
         input.now out.old
         (apart result.numbers integrators.new combs.new) result.count out.new }
 {

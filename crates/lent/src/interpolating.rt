@@ -2,27 +2,27 @@
 ghost use Rattle.std.specs.Prelude.{◌≡◌, ◌≤◌, length};
 ghost use Rattle.sums.specs.Runs.{needed};
 ghost use Rattle.sums.proofs.Lent.{Ready, Ring, InterpolateRun};
-ghost use Rattle.lent.specs.Word.{word_ops};
 ghost use Rattle.lent.specs.Inner.Apart.{figures_of, apart, ringed};
 
-use crate::stretches::{BlockEnd, Numbers, RingEnd, difference_ring, integrate_outputs, unroll};
+use crate::state::LentCic;
+use crate::stretches::{BlockEnd, RingEnd, difference_ring, integrate_outputs, unroll};
 use crate::word::Word;
 use shape::numbers::following;
 
 // The steps of an interpolator's block, from sample to sample, with the delay lines as rings: the outputs of a hold, then the next sample through
 // the combs into the hold, which stands for R outputs. n is the order, as in decimate_stretches; hold and countdown are locals, for registers.
-fn interpolate_stretches(
-    integrators: &mut [Word; 8],
-    combs: &mut [Word; 64],
+fn interpolate_stretches<W: Word>(
+    integrators: &mut [W; 8],
+    combs: &mut [W; 64],
     n: usize,
-    first: Numbers,
-    input: &[Word],
-    out: &mut [Word],
-) -> RingEnd
+    first: LentCic<W>,
+    input: &[W],
+    out: &mut [W],
+) -> RingEnd<W>
     requires { (n ≡ first.order) × Ready (apart first integrators.old combs.old)
         × (needed (length out.old) first.countdown first.rate ≤ length input.now) }
     ensures { Ring n result.at (figures_of result.numbers) combs.new
-        × InterpolateRun word_ops (apart first integrators.old combs.old) input.now out.old
+        × InterpolateRun W.ops (apart first integrators.old combs.old) input.now out.old
         (ringed result.numbers integrators.new combs.new result.at) result.count out.new }
 {
     let delay = first.delay;
@@ -35,8 +35,7 @@ fn interpolate_stretches(
     while countdown < out.len() - i {
         let end = i + countdown;
         integrate_outputs(integrators, n, hold, out, i, end);
-        let x = input[k];
-        hold = difference_ring(combs, n, at, x);
+        hold = difference_ring(combs, n, at, input[k]);
         countdown = span;
         at = following(at, delay);
         k += 1;
@@ -56,18 +55,18 @@ fn interpolate_stretches(
 }
 
 // The same with lines of one cell, as decimate_one_cell.
-fn interpolate_one_cell(
-    integrators: &mut [Word; 8],
-    combs: &mut [Word; 64],
+fn interpolate_one_cell<W: Word>(
+    integrators: &mut [W; 8],
+    combs: &mut [W; 64],
     n: usize,
-    first: Numbers,
-    input: &[Word],
-    out: &mut [Word],
-) -> RingEnd
+    first: LentCic<W>,
+    input: &[W],
+    out: &mut [W],
+) -> RingEnd<W>
     requires { (first.delay ≡ 1) × (n ≡ first.order) × Ready (apart first integrators.old combs.old)
         × (needed (length out.old) first.countdown first.rate ≤ length input.now) }
     ensures { Ring n result.at (figures_of result.numbers) combs.new
-        × InterpolateRun word_ops (apart first integrators.old combs.old) input.now out.old
+        × InterpolateRun W.ops (apart first integrators.old combs.old) input.now out.old
         (ringed result.numbers integrators.new combs.new result.at) result.count out.new }
 {
     let mut one = first;
@@ -76,17 +75,17 @@ fn interpolate_one_cell(
 }
 
 // The same, once for each order, and once more for the orders of nearly every product, whose delay is one.
-fn interpolate_by_order(
-    integrators: &mut [Word; 8],
-    combs: &mut [Word; 64],
-    first: Numbers,
-    input: &[Word],
-    out: &mut [Word],
-) -> RingEnd
+fn interpolate_by_order<W: Word>(
+    integrators: &mut [W; 8],
+    combs: &mut [W; 64],
+    first: LentCic<W>,
+    input: &[W],
+    out: &mut [W],
+) -> RingEnd<W>
     requires { Ready (apart first integrators.old combs.old)
         × (needed (length out.old) first.countdown first.rate ≤ length input.now) }
     ensures { Ring first.order result.at (figures_of result.numbers) combs.new
-        × InterpolateRun word_ops (apart first integrators.old combs.old) input.now out.old
+        × InterpolateRun W.ops (apart first integrators.old combs.old) input.now out.old
         (ringed result.numbers integrators.new combs.new result.at) result.count out.new }
 {
     let n = first.order;
@@ -115,16 +114,16 @@ fn interpolate_by_order(
 
 // The steps of an interpolator's block in turn, on an accepted state whose arrays are lent. Every element of
 // out is written.
-pub(crate) fn interpolate_run(
-    integrators: &mut [Word; 8],
-    combs: &mut [Word; 64],
-    first: Numbers,
-    input: &[Word],
-    out: &mut [Word],
-) -> BlockEnd
+pub(crate) fn interpolate_run<W: Word>(
+    integrators: &mut [W; 8],
+    combs: &mut [W; 64],
+    first: LentCic<W>,
+    input: &[W],
+    out: &mut [W],
+) -> BlockEnd<W>
     requires { Ready (apart first integrators.old combs.old)
         × (needed (length out.old) first.countdown first.rate ≤ length input.now) }
-    ensures { InterpolateRun word_ops (apart first integrators.old combs.old)
+    ensures { InterpolateRun W.ops (apart first integrators.old combs.old)
         input.now out.old
         (apart result.numbers integrators.new combs.new) result.count out.new }
 {

@@ -18,8 +18,7 @@ use Rattle.sums.specs.Calls.{step_state, step_given}
 use Rattle.sums.specs.Runs.{join, values, outputs, after}
 use Rattle.sums.specs.Counted.{Counted, most_inputs, take_number, take_number_of, with_number, take_state, take_given}
 use Rattle.sums.proofs.Steps.{Fit, accepted, down, step_waits, given_waits, step_gives, given-gives, step_fit}
-use Rattle.cic64.specs.Word.{word_ops}
-use Rattle.cic64.specs.Reading.{cic_of}
+use Rattle.cic.specs.Reading.{cic_of}
 use Rattle.records.specs.Lines.{record_of}
 use Rattle.records.specs.Sessions.{kept_words, kept, replied, take_of, line_of}
 use Rattle.playback.specs.Places.{Place, counted_up, reply_bytes, ended, fed_of, bytes_of}
@@ -28,6 +27,13 @@ use Rattle.playback.specs.Inner.Advances.{Sampled, output_lines}
 use Rattle.records.specs.declared.parse.Record.TheVariants.{Sample}
 use Rattle.records.specs.declared.session.Taken.{Taken}
 use Rattle.playback.proofs.Running.{line-place, line-bytes}
+use Rattle.sums.specs.Ops.{Ops}
+use Rattle.sums.specs.Signed.{signed_ops}
+use Rattle.std.specs.Int.{w64}
+
+-- the words that are kept
+abbrev word_ops : Ops ℤ
+word_ops = signed_ops w64
 
 -- the filter after i inputs
 abbrev pub filter_at : State ℤ → ℕ → Counted ℤ

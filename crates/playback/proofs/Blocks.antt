@@ -22,20 +22,26 @@ use Rattle.sums.proofs.Steps.{Fit, fitted}
 use Rattle.sums.proofs.Counts.{outputs-length, outputs-told}
 use Rattle.sums.proofs.Blocks.{values_length}
 use Rattle.sums.proofs.Numbering.{block_accepts, block_room, taken-after, plain-taken}
-use Rattle.cic64.specs.Word.{word_ops}
-use Rattle.cic64.specs.Reading.{state_of, counted_of, cic_of}
-use Rattle.shape.specs.Answers.{wrote_of}
-use Rattle.cic64.specs.Answers.{decimated_of}
-use Rattle.cic64.specs.declared.state.Cic.{Cic}
-use Rattle.cic64.specs.declared.runs.Decimated.{Decimated}
+use Rattle.cic.specs.Reading.{state_of, counted_of, cic_of}
+use Rattle.std.specs.Prelude.{Result, Ok}
+use Rattle.blocks.specs.declared.refusal.Refusal.{Refusal}
+use Rattle.blocks.proofs.Refusals.{taken_number, taken_value}
+use Rattle.shape.specs.Answers.{block_wrote}
+use Rattle.cic.specs.declared.state.Cic.{Cic}
 use Rattle.shape.specs.declared.runs.Written.{Written}
-use Rattle.shape.specs.declared.runs.Wrote.TheVariants as Wrote
 use Rattle.playback.specs.Places.{Place, counted_up, fed_of, bytes_of, place_of}
 use Rattle.playback.specs.Inner.Advances.{Gathers, output_lines, Room, Advances, after_block}
 use Rattle.records.specs.declared.session.Session.{Session}
 use Rattle.playback.specs.declared.driver.Replay.{Replay}
 use Rattle.playback.proofs.Running.{runs_none}
 use Rattle.playback.proofs.Batches.{between, filter_at, ran, batch_place, batch_bytes}
+use Rattle.sums.specs.Ops.{Ops}
+use Rattle.sums.specs.Signed.{signed_ops}
+use Rattle.std.specs.Int.{w64}
+
+-- the words that are kept
+abbrev word_ops : Ops ℤ
+word_ops = signed_ops w64
 
 -- a turn that does nothing
 pub turn_same : (r : Replay) (input o : List ℕ) (from at : ℕ) → r.len ≤ 64 → from ≤ length input
@@ -53,17 +59,6 @@ pub all_ready : (going opened : Bool) (len : ℕ) → (going && (opened && eqb l
 all_ready true true len e = (refl, refl, eqb-true len 0 e)
 all_ready true false len e = let z : ◌≡◌ {A = ℕ} 0 1 = cc in absurd (omega arith)
 all_ready false opened len e = let z : ◌≡◌ {A = ℕ} 0 1 = cc in absurd (omega arith)
-
--- what a block's answer tells
-wrote-number : (number n u i : ℕ) (w : Written) → wrote_of number n u i ≡ Wrote.Outputs w → number ≡ 0
-unfolding wrote_of
-wrote-number zero n u i w e = refl
-wrote-number (suc j) n u i w e = cc
-
-wrote_is : (number n u i : ℕ) (w : Written) → wrote_of number n u i ≡ Wrote.Outputs w → w ≡ record { count = n; told = u; number = i }
-unfolding wrote_of
-wrote_is zero n u i w e = cc
-wrote_is (suc j) n u i w e = cc
 
 join-few : (g : Option (Output ℤ)) (l : List (Output ℤ)) → length (join g l) ≤ suc (length l)
 join-few (some y) l = omega arith
@@ -107,9 +102,10 @@ first-most [] u m h t e = omega arith
 first-most (y ∷ ys) u m h t e = omega (arith, h y (omega arith))
 
 -- the block of the first n samples
-module _ (wide : Bool) (filter : Cic) (samples given : List ℤ) (n : ℕ) (enough : n ≤ length samples)
-    (long8 : length filter.integrators ≡ 8) (long64 : length filter.combs ≡ 64) (d : Decimated) (is : d ≡ decimated_of filter (take n samples) given) (w : Written)
-    (wrote : d.wrote ≡ Wrote.Outputs w) where
+module _ (wide : Bool) (filter : Cic ℤ) (samples given : List ℤ) (n : ℕ) (enough : n ≤ length samples)
+    (long8 : length filter.integrators ≡ 8) (long64 : length filter.combs ≡ 64) (left : Cic ℤ)
+    (is : counted_of left ≡ block_state word_ops (counted_of filter) (take n samples) given) (w : Written)
+    (wrote : ◌≡◌ {A = Result Written Refusal} (Ok w) (block_wrote word_ops (counted_of filter) (take n samples) given)) where
   abbrev k : ℕ
   k = w.count
 
@@ -117,12 +113,11 @@ module _ (wide : Bool) (filter : Cic) (samples given : List ℤ) (n : ℕ) (enou
   u = w.told
 
   answer : let ys = taken_outputs word_ops (counted_of filter) (take n samples) in
-      wrote_of (block_number (counted_of filter) (take n samples) given) (needed (length (take n samples)) filter.countdown
-      filter.rate) (first_told (plain ys)) (first_number ys) ≡ Wrote.Outputs w
-  answer = sym (ap (λ (x : Decimated). x.wrote) is) ∙ wrote
+      w ≡ record { count = needed (length (take n samples)) filter.countdown filter.rate; told = first_told (plain ys); number = first_number ys }
+  answer = taken_value _ _ w wrote
 
   number_is : block_number (counted_of filter) (take n samples) given ≡ 0
-  number_is = wrote-number _ _ _ _ w answer
+  number_is = taken_number _ _ w wrote
 
   fit : Fit (state_of filter)
   fit = fitted (state_of filter) (block_accepts (counted_of filter) (take n samples) given number_is) long8 long64
@@ -134,14 +129,14 @@ module _ (wide : Bool) (filter : Cic) (samples given : List ℤ) (n : ℕ) (enou
   plain_is = plain-taken word_ops (counted_of filter) fit (take n samples) may
 
   count_is : k ≡ length (outputs word_ops (state_of filter) (take n samples))
-  count_is = ap (λ (x : Written). x.count) (wrote_is _ _ _ _ w answer) ∙ sym (outputs-length word_ops (state_of filter) fit (take n samples))
+  count_is = ap (λ (x : Written). x.count) answer ∙ sym (outputs-length word_ops (state_of filter) fit (take n samples))
 
   pub block-few : k ≤ n
   block-few = omega (arith, count_is, outputs-few (state_of filter) (take n samples), length-take-le n samples enough)
 
-  state_is : d.state ≡ cic_of (filter_at (after word_ops (state_of filter) (take n samples)) (filter.inputs + length (take n samples)))
+  state_is : left ≡ cic_of (filter_at (after word_ops (state_of filter) (take n samples)) (filter.inputs + length (take n samples)))
   unfolding block_state
-  state_is = ap (λ (x : Decimated). x.state) is ∙ rw (number_is, taken-after word_ops (counted_of filter) fit (take n samples) may)
+  state_is = ap cic_of is ∙ rw (number_is, taken-after word_ops (counted_of filter) fit (take n samples) may)
 
   values_are : take k (block_out word_ops (counted_of filter) (take n samples) given)
       ≡ values (outputs word_ops (state_of filter) (take n samples))
@@ -152,7 +147,7 @@ module _ (wide : Bool) (filter : Cic) (samples given : List ℤ) (n : ℕ) (enou
       rw (number_is, plain_is, e) (take-append_seam (values ys) _)
 
   told_is : u ≡ first_told (outputs word_ops (state_of filter) (take n samples))
-  told_is = ap (λ (x : Written). x.told) (wrote_is _ _ _ _ w answer) ∙ ap first_told plain_is
+  told_is = ap (λ (x : Written). x.told) answer ∙ ap first_told plain_is
 
   pub block-most : u ≤ 64
   block-most =
@@ -167,7 +162,7 @@ module _ (wide : Bool) (filter : Cic) (samples given : List ℤ) (n : ℕ) (enou
       (λ d b. outputs-told word_ops (state_of filter) fit (take n samples) 0 d b))
 
   after_is : (a b : ℕ) → ◌≡◌ {A = Place} (record {
-    session = record { opened = true; wide = wide; filter = d.state };
+    session = record { opened = true; wide = wide; filter = left };
     lines = counted_up a n;
     outputs = counted_up b k;
     line = [];
@@ -175,16 +170,16 @@ module _ (wide : Bool) (filter : Cic) (samples given : List ℤ) (n : ℕ) (enou
   }) (ran wide (state_of filter) filter.inputs (take n samples) a b)
   after_is a b =
       let m : n ≡ length (take n samples) = sym (length-take-le n samples enough) in
-      let left = filter_at (after word_ops (state_of filter) (take n samples)) (filter.inputs + length (take n samples)) in
-      ap (λ (f : Cic). record {
+      let later = filter_at (after word_ops (state_of filter) (take n samples)) (filter.inputs + length (take n samples)) in
+      ap (λ (f : Cic ℤ). record {
         session = record { opened = true; wide = wide; filter = f };
         lines = counted_up a n;
         outputs = counted_up b k;
         line = [];
         going = true;
       }) state_is
-      ∙ ap (λ (x : ℕ). between wide left (counted_up a x) (counted_up b k)) m
-      ∙ ap (λ (x : ℕ). between wide left (counted_up a (length (take n samples))) (counted_up b x)) count_is
+      ∙ ap (λ (x : ℕ). between wide later (counted_up a x) (counted_up b k)) m
+      ∙ ap (λ (x : ℕ). between wide later (counted_up a (length (take n samples))) (counted_up b x)) count_is
 
   module _ (r : Replay) (of : r.session.filter ≡ filter) (word : r.session.wide ≡ wide) (input o : List ℕ) (from at : ℕ)
       (opened : r.session.opened ≡ true)
@@ -194,15 +189,15 @@ module _ (wide : Bool) (filter : Cic) (samples given : List ℤ) (n : ℕ) (enou
     here : place_of r ≡ between wide (counted_of filter) r.lines r.outputs
     here = place_is r.session r.lines r.outputs r.len r.line r.going opened going none
         ∙ ap (λ (b : Bool). between b (counted_of r.session.filter) r.lines r.outputs) word
-        ∙ ap (λ (f : Cic). between wide (counted_of f) r.lines r.outputs) of
+        ∙ ap (λ (f : Cic ℤ). between wide (counted_of f) r.lines r.outputs) of
 
-    pub turn_block : (t : Replay) → place_of t ≡ after_block (place_of r) wide d.state n k → t.len ≡ r.len → (w : ℕ) (o' : List ℕ)
+    pub turn_block : (t : Replay) → place_of t ≡ after_block (place_of r) wide left n k → t.len ≡ r.len → (w : ℕ) (o' : List ℕ)
         → length o' ≡ length o → Wrote o at (output_lines wide u (take k (block_out word_ops (counted_of filter) (take n samples) given))) w o'
         → w ≤ at + 26 * k
         → Advances r input from o at t next w o'
     turn_block t e z w o' lo wr near =
-        let i : place_of t ≡ after_block (between wide (counted_of filter) r.lines r.outputs) wide d.state n k = e
-        ∙ ap (λ (p : Place). after_block p wide d.state n k) here in
+        let i : place_of t ≡ after_block (between wide (counted_of filter) r.lines r.outputs) wide left n k = e
+        ∙ ap (λ (p : Place). after_block p wide left n k) here in
         let q : place_of t ≡ ran wide (state_of filter) filter.inputs (take n samples) r.lines r.outputs =
         i ∙ after_is r.lines r.outputs in
         record {

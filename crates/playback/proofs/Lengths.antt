@@ -15,17 +15,14 @@ use Rattle.text.specs.Numbers.{number_of}
 use Rattle.text.specs.Parts.{parted}
 use Rattle.text.proofs.Parting.{parted-total, total}
 use Rattle.text.proofs.Spelling.{spelt-most}
-use Rattle.blocks.specs.declared.Verdict.{Verdict}
-use Rattle.cic64.specs.declared.state.Cic.{Cic}
+use Rattle.cic.specs.declared.state.Cic.{Cic}
 use Rattle.blocks.specs.Blocks.{unless}
 use Rattle.sums.specs.Machine.{Output}
 use Rattle.sums.specs.State.{refusal}
 use Rattle.sums.specs.Calls.{new_number, rate_number, step_given}
 use Rattle.sums.specs.Counted.{Counted, Numbered, take_number, with_number, new_counted, rate_counted, clear_counted, take_state, take_given}
 use Rattle.sums.proofs.Steps.{told-most}
-use Rattle.cic64.specs.Word.{word_ops}
-use Rattle.cic64.specs.Reading.{counted_of, cic_of}
-use Rattle.blocks.specs.Verdicts.{verdict_of}
+use Rattle.cic.specs.Reading.{counted_of, cic_of}
 use Rattle.text.specs.Same.{same}
 use Rattle.records.specs.Lines.{
   name_of,
@@ -49,6 +46,13 @@ use Rattle.records.specs.declared.parse.Record.{Record}
 use Rattle.records.specs.declared.parse.Record.TheVariants.{Open, Rate, Sample, Clear, Bad}
 use Rattle.records.specs.declared.session.Session.{Session}
 use Rattle.records.specs.declared.session.Taken.{Taken}
+use Rattle.sums.specs.Ops.{Ops}
+use Rattle.sums.specs.Signed.{signed_ops}
+use Rattle.std.specs.Int.{w64}
+
+-- the words that are kept
+abbrev word_ops : Ops ℤ
+word_ops = signed_ops w64
 
 abbrev is_sample : Record → Bool
 is_sample (Sample v) = true
@@ -58,12 +62,12 @@ is_sample Clear = false
 is_sample (Bad f) = false
 
 -- only a sample gives an output
-told_none : (s : Session) (wide : Bool) (f : Cic) (v : Verdict) → line_room (told_by s wide f v).reply ≡ 0
-told_none s wide f Verdict.Done = refl
-told_none s wide f (Verdict.Refused k) = refl
+told_none : (s : Session) (wide : Bool) (f : Cic ℤ) (v : ℕ) → line_room (told_by s wide f v).reply ≡ 0
+told_none s wide f zero = refl
+told_none s wide f (suc k) = refl
 
 ordered-none : (s : Session) (wide : Bool) (number : ℕ) (t : Counted ℤ) → line_room (ordered s wide number t).reply ≡ 0
-ordered-none s wide number t = told_none s wide (cic_of t) (verdict_of number)
+ordered-none s wide number t = told_none s wide (cic_of t) number
 
 either : (b : Bool) (x y : Taken) → line_room x.reply ≡ 0 → line_room y.reply ≡ 0 → line_room (cond b x y).reply ≡ 0
 either true x y h k = h

@@ -6,8 +6,9 @@ use Rattle.text.specs.Numbers.{decimal_of, signed_of}
 use Rattle.text.specs.Parts.{parted}
 use Rattle.sums.specs.Ops.{Ops}
 use Rattle.sums.specs.Counted.{blank_counted}
-use Rattle.cic64.specs.Word.{word_ops}
-use Rattle.cic64.specs.Reading.{cic_of}
+use Rattle.std.specs.Int.{w64}
+use Rattle.sums.specs.Signed.{signed_ops}
+use Rattle.cic.specs.Reading.{cic_of}
 use Rattle.records.specs.Sessions.{own_words, line_of}
 use Rattle.records.specs.declared.session.Session.{Session}
 use Rattle.records.specs.declared.session.Reply.{Reply}
@@ -49,7 +50,7 @@ replay_from words s lines outputs (line ∷ next ∷ rest) =
 
 -- no `cic` or `cic64` line yet
 abbrev pub unopened : Session
-unopened = record { opened = false; wide = false; filter = cic_of (blank_counted word_ops) }
+unopened = record { opened = false; wide = false; filter = cic_of (blank_counted (signed_ops w64)) }
 
 unfoldable pub replay : List ℕ → List ℕ
 replay input = replay_from own_words unopened 0 0 (parted newline input)

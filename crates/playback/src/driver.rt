@@ -7,7 +7,7 @@ ghost use Rattle.playback.specs.Places.{start, place_of, replay_of, finish_bytes
 use crate::answers::{BytesPut, put_bad, put_end};
 use crate::turns::{count_up, replay_part};
 use blocks::Verdict;
-use cic64::state::Cic;
+use cic::state::Cic;
 use records::session::Session;
 
 // What a replay keeps from one part of its input to the next: its filter, the lines and outputs so far, the first len
@@ -73,12 +73,10 @@ impl Replay {
     pub fn start() -> Replay
         ensures { result ≡ replay_of start }
     {
-        let m = Cic::new(0, 1, 0);
-        let filter = m.state;
         let session = Session {
             opened: false,
             wide: false,
-            filter,
+            filter: Cic::blank(),
         };
         let line = [0u8; 64];
         Replay {

@@ -6,7 +6,7 @@ ghost use Rattle.playback.specs.Inner.Advances.{Collects, Answers, Room, Advance
 use crate::answers::put_reply;
 use crate::driver::Replay;
 use crate::samples::{gather, put_outputs};
-use cic64::state::Cic;
+use cic::state::Cic;
 use records::parse::Fault;
 use records::session::{Reply, Session, Taken, take_line};
 
@@ -177,7 +177,7 @@ fn ready(going: bool, opened: bool, len: usize) -> bool
 }
 
 // The replay after a block of `x` lines: its filter, and so many lines and outputs more.
-fn after_block(r: Replay, wide: bool, filter: Cic, lines: usize, outputs: usize) -> Replay
+fn after_block(r: Replay, wide: bool, filter: Cic<i64>, lines: usize, outputs: usize) -> Replay
     ensures { (place_of result ≡ after_block (place_of r) wide filter lines outputs) × (result.len ≡ r.len) }
 {
     let session = Session {
@@ -217,16 +217,13 @@ fn take_samples(
     }
     let g = gather(session.wide, input, from, samples);
     let count = g.count;
-    let filter = session.filter;
-    let d = filter.decimate_block(&samples[..count], given);
-    let wrote = d.wrote;
-    let cic64::runs::Wrote::Outputs(w) = wrote else {
+    let mut filter = session.filter;
+    let Ok(w) = filter.decimate_block(&samples[..count], given) else {
         return same;
     };
     let end = put_outputs(session.wide, out, at, given, w.count, w.told);
-    let state = d.state;
     Advanced {
-        replay: after_block(r, session.wide, state, count, w.count),
+        replay: after_block(r, session.wide, filter, count, w.count),
         next: g.next,
         written: end,
     }

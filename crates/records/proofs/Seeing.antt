@@ -15,8 +15,6 @@ use Rattle.words.specs.Words.{word, wrap}
 use Rattle.words.proofs.Reading.{wrap_is, wrap-wrap, word-wrap, word_narrow}
 use Rattle.words.proofs.Sums.{wrap-add, wrap-sub}
 use Rattle.blocks.specs.Blocks.{unless}
-use Rattle.blocks.specs.Verdicts.{verdict_of}
-use Rattle.blocks.specs.declared.Verdict.{Verdict}
 use Rattle.sums.specs.Ops.{Ops}
 use Rattle.sums.specs.Signed.{signed_ops}
 use Rattle.sums.specs.Machine.{
@@ -37,8 +35,7 @@ use Rattle.sums.specs.State.{State, rows, put_rows, view, put, refusal, zeroed}
 use Rattle.sums.specs.Calls.{new_number, rate_number, new_state, rate_state, clear_state, step_state, step_given}
 use Rattle.sums.specs.Counted.{Counted, Numbered, take_number, with_number, new_counted, rate_counted, clear_counted, take_state, take_given}
 use Rattle.sums.proofs.Carried.{nil_in}
-use Rattle.cic64.specs.Word.{word_ops}
-use Rattle.cic64.specs.Reading.{cic_of, counted_of}
+use Rattle.cic.specs.Reading.{cic_of, counted_of}
 use Rattle.records.specs.Lines.{record_of}
 use Rattle.records.specs.Sessions.{width_of, own_words, kept_words, told_by, ordered, sampled, stepping, take_of, line_of}
 use Rattle.records.proofs.Holding.{Holds, line_holds}
@@ -47,6 +44,10 @@ use Rattle.records.specs.declared.parse.Record.{Record}
 use Rattle.records.specs.declared.parse.Record.TheVariants.{Open, Rate, Sample, Clear, Bad}
 use Rattle.records.specs.declared.session.Session.{Session}
 use Rattle.records.specs.declared.session.Taken.{Taken}
+
+-- the words that are kept
+abbrev word_ops : Ops ℤ
+word_ops = signed_ops w64
 
 -- lists read through φ
 module _ (φ : ℤ → ℤ) where
@@ -240,15 +241,15 @@ keeps false = narrow_keeps w32 w64 32 refl
 abbrev reads : Bool → ℤ → ℤ
 reads wide = wrap (width_of wide)
 
--- a call by its verdict, and a step by its number
-told-seen : (s : Session) (wide : Bool) (t : Counted ℤ) (v : Verdict)
+-- a call and a step by its number
+told-seen : (s : Session) (wide : Bool) (t : Counted ℤ) (v : ℕ)
     → told_by (seen s) wide (cic_of (through (reads wide) t)) v ≡ seen_taken (told_by s wide (cic_of t) v)
-told-seen s wide t Verdict.Done = refl
-told-seen s wide t (Verdict.Refused k) = refl
+told-seen s wide t zero = refl
+told-seen s wide t (suc k) = refl
 
 ordered-seen : (s : Session) (wide : Bool) (number : ℕ) (t u : Counted ℤ) → u ≡ through (reads wide) t
     → ordered (seen s) wide number u ≡ seen_taken (ordered s wide number t)
-ordered-seen s wide number t u e = ap (ordered (seen s) wide number) e ∙ told-seen s wide t (verdict_of number)
+ordered-seen s wide number t u e = ap (ordered (seen s) wide number) e ∙ told-seen s wide t number
 
 sampled-seen : (s : Session) (number : ℕ) (t : Counted ℤ) (g : Option (Numbered ℤ))
     → sampled (seen s) number (through (reads s.wide) t) (Option.map (numbered (reads s.wide)) g) ≡ seen_taken (sampled s number t g)

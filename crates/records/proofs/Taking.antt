@@ -1,5 +1,5 @@
 -- What a line does, case by case.
-use mathlib.Core.Path.{◌≡◌, refl, sym, ap, ◌∙◌}
+use mathlib.Core.Path.{◌≡◌, refl, sym, ap, ap₂, ◌∙◌}
 use mathlib.Core.Bool.{Bool, true, false, cond}
 use mathlib.Core.List.{List}
 use mathlib.Core.Option.{Option, none, some}
@@ -11,16 +11,19 @@ use mir.Val.{SFits}
 use borrow.Author.Tests.{lt-ltb, le-ltb}
 use Rattle.words.specs.Words.{wrap}
 use Rattle.words.proofs.Reading.{wrap_is}
-use Rattle.blocks.specs.declared.Verdict.{Verdict}
 use Rattle.sums.specs.Counted.{Counted, Numbered, take_number, take_state, take_given}
-use Rattle.cic64.specs.Word.{word_ops}
-use Rattle.cic64.specs.Reading.{counted_of, cic_of}
-use Rattle.cic64.specs.Answers.{answer_output, out_of, stepped_of, made_of}
-use Rattle.cic64.specs.declared.state.Cic.{Cic}
-use Rattle.cic64.specs.declared.state.Made.{Made}
-use Rattle.lent64.specs.declared.steps.Output as answer
-use Rattle.lent64.specs.declared.steps.Out.{Out}
-use Rattle.cic64.specs.declared.steps.Stepped.{Stepped}
+use Rattle.std.specs.Prelude.{Result, Ok, Err, Some, None}
+use Rattle.std.specs.Prelude as std
+use Rattle.blocks.specs.declared.refusal.Refusal.{Refusal}
+use Rattle.blocks.specs.Refusals.{answer, number_of, number_in}
+use Rattle.blocks.proofs.Refusals.{taken_number, taken_value}
+use Rattle.sums.specs.Signed.{signed_ops}
+use Rattle.shape.proofs.Ways.{never}
+use Rattle.shape.proofs.Known.{Known, known, known_take, known_refusal}
+use Rattle.lent.specs.declared.steps.Output as declared
+use Rattle.lent.specs.Answers.{answer_output, output_of, step_out}
+use Rattle.cic.specs.Reading.{counted_of, cic_of}
+use Rattle.cic.specs.declared.state.Cic.{Cic}
 use Rattle.records.specs.Lines.{record_of}
 use Rattle.records.specs.Sessions.{
   width_of,
@@ -48,55 +51,62 @@ pub read_narrow : (wide : Bool) (v : ℤ) → wide ≡ false → wrap w32 v ≡ 
 read_narrow true v e = cc
 read_narrow false v e = refl
 
-pub ordered_is : (s : Session) (wide : Bool) (number : ℕ) (t : Counted ℤ) (m : Made) (r : Taken) → m ≡ made_of number t → r
-    ≡ told_by s wide m.state m.verdict → r ≡ ordered s wide number t
-ordered_is s wide number t m r e w = w ∙ ap (λ (x : Made). told_by s wide x.state x.verdict) e
+-- what is shown of a step's output, if any
+abbrev pub shown_reply : Bool → std.Option (declared.Output ℤ) → Reply
+shown_reply wide (Some y) = Reply.Output (shown wide y)
+shown_reply wide None = Reply.Silent
 
-pub told_as : (s : Session) (wide : Bool) (f : Cic) (v w : Verdict) (r : Taken) → v ≡ w → r ≡ told_by s wide f w → r ≡ told_by s wide f v
-told_as s wide f v w r e h = h ∙ ap (told_by s wide f) (sym e)
+-- the filter's calls, by what they left and answered
+pub told_as : (s : Session) (wide : Bool) (k : ℕ) (t : Counted ℤ) (f : Cic ℤ) (r : Taken) (n : ℕ) → counted_of f ≡ t → n ≡ k
+    → r ≡ told_by s wide f n → r ≡ ordered s wide k t
+told_as s wide k t f r n e p h = h ∙ ap₂ (λ (c : Counted ℤ) (m : ℕ). told_by s wide (cic_of c) m) e p
 
-sampled-given : (s : Session) (t : Counted ℤ) (y : answer.Output) (number : ℕ) (g : Option (Numbered ℤ)) → out_of number g ≡ Out.Given y
-    → kept s.wide (cic_of t) (Reply.Output (shown s.wide y)) ≡ sampled s number t g
-unfolding out_of
-sampled-given s t y zero (some o) e = let p : answer_output o ≡ y = cc in ap
-    (λ (z : answer.Output). kept s.wide (cic_of t) (Reply.Output (shown s.wide z))) (sym p)
-sampled-given s t y zero none e = cc
-sampled-given s t y (suc k) g e = cc
+module _ (s : Session) (wide : Bool) (k : ℕ) (t : Counted ℤ) where
+  pub made-taken : (f : Cic ℤ) → ◌≡◌ {A = Result (Cic ℤ) Refusal} (Ok f) (answer k (cic_of t)) → kept wide f Reply.Silent ≡ ordered s wide k t
+  made-taken f e = ap₂ (told_by s wide) (taken_value k (cic_of t) f e) (sym (taken_number k (cic_of t) f e))
 
-sampled-none : (s : Session) (t : Counted ℤ) (number : ℕ) (g : Option (Numbered ℤ)) → out_of number g ≡ Out.Nothing
-    → kept s.wide (cic_of t) Reply.Silent ≡ sampled s number t g
-unfolding out_of
-sampled-none s t zero (some o) e = cc
-sampled-none s t zero none e = refl
-sampled-none s t (suc k) g e = cc
-
-sampled-refused : (s : Session) (t : Counted ℤ) (k number : ℕ) (g : Option (Numbered ℤ)) → out_of number g ≡ Out.Refused k → refuse s k
-    ≡ sampled s number t g
-unfolding out_of
-sampled-refused s t k zero (some o) e = cc
-sampled-refused s t k zero none e = cc
-sampled-refused s t k (suc n) g e = let p : suc n ≡ k = cc in ap (refuse s) (sym p)
+  -- refused by a number that is a refusal's
+  pub refused-by : {A : Type 0} (v : A) → Known k → (r : Refusal) → ◌≡◌ {A = Result A Refusal} (Err r) (answer k v)
+      → refuse s (number_of r) ≡ ordered s wide k t
+  unfolding answer
+  refused-by v p r e = by k refl
+    where
+      by : (n : ℕ) → n ≡ k → refuse s (number_of r) ≡ told_by s wide (cic_of t) k
+      by zero z = absurd (never k v r e (sym z))
+      by (suc n) z = rw (← z) (ap (refuse s) (ap number_in e ∙ known k v p ∙ sym z))
 
 -- a step of the filter, by what it answered
-module _ (s : Session) (x : ℤ) (d : Stepped) (e : d ≡ stepped_of s.filter x) where
+module _ (s : Session) (x : ℤ) (f : Cic ℤ) where
+  abbrev given : Counted ℤ
+  given = counted_of s.filter
+
+  abbrev number : ℕ
+  number = take_number given 1
+
   abbrev of_step : Taken
-  of_step = sampled s (take_number (counted_of s.filter) 1) (take_state word_ops (counted_of s.filter) x)
-      (take_given word_ops (counted_of s.filter) x)
+  of_step = sampled s number (take_state (signed_ops w64) given x) (take_given (signed_ops w64) given x)
 
-  out_is : (o : Out) → d.out ≡ o → out_of (take_number (counted_of s.filter) 1) (take_given word_ops (counted_of s.filter) x) ≡ o
-  out_is o h = sym (ap (λ (r : Stepped). r.out) e) ∙ h
+  module _ (e : counted_of f ≡ take_state (signed_ops w64) given x) where
+    taken_by : (n : ℕ) (g : Option (Numbered ℤ)) (o : std.Option (declared.Output ℤ)) → n ≡ 0 → output_of g ≡ o
+        → kept s.wide f (shown_reply s.wide o) ≡ sampled s n (take_state (signed_ops w64) given x) g
+    taken_by n none o z h = rw (z, ← h) (ap (λ (c : Counted ℤ). kept s.wide (cic_of c) Reply.Silent) e)
+    taken_by n (some y) o z h = rw (z, ← h)
+        (ap (λ (c : Counted ℤ). kept s.wide (cic_of c) (Reply.Output (shown s.wide (answer_output y)))) e)
 
-  state_is : (reply : Reply) → kept s.wide d.state reply ≡ kept s.wide (cic_of (take_state word_ops (counted_of s.filter) x)) reply
-  state_is reply = ap (λ (r : Stepped). kept s.wide r.state reply) e
+    pub step-taken : (o : std.Option (declared.Output ℤ))
+        → ◌≡◌ {A = Result (std.Option (declared.Output ℤ)) Refusal} (Ok o) (step_out (signed_ops w64) given x)
+        → kept s.wide f (shown_reply s.wide o) ≡ of_step
+    step-taken o h =
+        taken_by number (take_given (signed_ops w64) given x) o (taken_number number _ o h) (sym (taken_value number _ o h))
 
-  pub step_given_law : (y : answer.Output) → d.out ≡ Out.Given y → kept s.wide d.state (Reply.Output (shown s.wide y)) ≡ of_step
-  step_given_law y h = state_is (Reply.Output (shown s.wide y)) ∙ sampled-given s _ y _ _ (out_is (Out.Given y) h)
-
-  pub step-none : d.out ≡ Out.Nothing → kept s.wide d.state Reply.Silent ≡ of_step
-  step-none h = state_is Reply.Silent ∙ sampled-none s _ _ _ (out_is Out.Nothing h)
-
-  pub step-refused : (k : ℕ) → d.out ≡ Out.Refused k → refuse s k ≡ of_step
-  step-refused k h = sampled-refused s _ k _ _ (out_is (Out.Refused k) h)
+  pub step-refused : (r : Refusal)
+      → ◌≡◌ {A = Result (std.Option (declared.Output ℤ)) Refusal} (Err r) (step_out (signed_ops w64) given x)
+      → refuse s (number_of r) ≡ of_step
+  step-refused r e = by number refl
+    where
+      by : (n : ℕ) → n ≡ number → refuse s (number_of r) ≡ of_step
+      by zero z = absurd (never number _ r e (sym z))
+      by (suc n) z = rw (← z) (ap (refuse s) (ap number_in e ∙ known number _ (known_take _ _ _ (known_refusal _ _ _ _ _)) ∙ sym z))
 
 pub takes : (s : Session) (r x : Record) (t : Taken) → r ≡ x → t ≡ take_of kept_words s x → t ≡ take_of kept_words s r
 takes s r x t e w = w ∙ ap (take_of kept_words s) (sym e)

@@ -10,7 +10,6 @@ use lib.IntN.{ℤ}
 use lib.ListN.{length}
 use borrow.Author.Tests.{eqb-false}
 use Rattle.blocks.specs.Blocks.{unless}
-use Rattle.blocks.specs.Verdicts.{verdict_of}
 use Rattle.sums.specs.Ops.{Ops}
 use Rattle.sums.specs.State.{refusal_of, refusal}
 use Rattle.sums.specs.Calls.{new_number, rate_number}
@@ -29,7 +28,9 @@ use Rattle.sums.specs.Counted.{
 use Rattle.text.specs.Numbers.{number_of}
 use Rattle.text.specs.Ranges.{Range}
 use Rattle.text.specs.declared.numbers.Number.{Number}
-use Rattle.text.specs.declared.numbers.Number.TheVariants.{Plus, Minus, Wrong}
+use Rattle.text.specs.declared.numbers.Number.TheVariants.{Plus, Minus}
+use Rattle.std.specs.Prelude as std
+use Rattle.std.specs.Prelude.{Some, None}
 use Rattle.records.specs.Lines.{
   Kind,
   kinds_of,
@@ -57,19 +58,19 @@ use Rattle.records.specs.declared.session.Taken.{Taken}
 abbrev Told : Fault → Type 0
 Told f = (f.number ≡ 0 → ⊥) → Tells f
 
-number-told : (r : Range) (n : Number) (place : ℕ) → 2 ≤ place → Told (fault_at (number_number r n) place)
-number-told r (Plus v) place h = by (leb v r.most)
+number-told : (r : Range) (n : std.Option Number) (place : ℕ) → 2 ≤ place → Told (fault_at (number_number r n) place)
+number-told r (Some (Plus v)) place h = by (leb v r.most)
   where
     by : (t : Bool) → Told (fault_at (cond t 0 76) place)
     by true z = absurd (z refl)
     by false z = outside place h
-number-told r (Minus v) place h = by (eqb v 0) (leb v r.least)
+number-told r (Some (Minus v)) place h = by (eqb v 0) (leb v r.least)
   where
     by : (s t : Bool) → Told (fault_at (cond s 75 (cond t 0 76)) place)
     by true t z = malformed place h
     by false true z = absurd (z refl)
     by false false z = outside place h
-number-told r Wrong place h = λ z. malformed place h
+number-told r None place h = λ z. malformed place h
 
 first-told : (p : ℕ) (place : ℕ) (rest : Fault) → Told (fault_at p place) → Told rest → Told (unless p (fault_at p place) rest)
 first-told p place rest h k = by (eqb p 0)
@@ -138,7 +139,6 @@ either true x y h k = h
 either false x y h k = k
 
 ordered_answers : (s : Session) (wide : Bool) (number : ℕ) (t : Counted ℤ) → number ≤ 16 → Answers (ordered s wide number t).reply
-unfolding verdict_of
 ordered_answers s wide zero t h = tt
 ordered_answers s wide (suc k) t h = parameter (suc k) h
 

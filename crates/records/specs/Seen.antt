@@ -5,7 +5,7 @@ use Rattle.std.specs.Prelude.{◌≡◌, List, map, ℕ, ℤ}
 use Rattle.words.specs.Words.{wrap}
 use Rattle.sums.specs.State.{State}
 use Rattle.sums.specs.Counted.{Counted}
-use Rattle.cic64.specs.Reading.{counted_of, cic_of}
+use Rattle.cic.specs.Reading.{counted_of, cic_of}
 use Rattle.records.specs.Sessions.{width_of, own_words, kept_words, line_of}
 use Rattle.records.specs.declared.session.Session.{Session}
 use Rattle.records.specs.declared.session.Taken.{Taken}

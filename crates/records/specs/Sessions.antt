@@ -9,13 +9,10 @@ use Rattle.sums.specs.Signed.{signed_ops}
 use Rattle.sums.specs.State.{refusal}
 use Rattle.sums.specs.Calls.{new_number, rate_number}
 use Rattle.sums.specs.Counted.{Counted, Numbered, take_number, new_counted, rate_counted, clear_counted, take_state, take_given}
-use Rattle.blocks.specs.Verdicts.{verdict_of}
-use Rattle.blocks.specs.declared.Verdict.{Verdict}
-use Rattle.cic64.specs.Word.{word_ops}
-use Rattle.cic64.specs.Reading.{counted_of, cic_of}
-use Rattle.cic64.specs.Answers.{answer_output}
-use Rattle.cic64.specs.declared.state.Cic.{Cic}
-use Rattle.lent64.specs.declared.steps.Output as answer
+use Rattle.cic.specs.Reading.{counted_of, cic_of}
+use Rattle.lent.specs.Answers.{answer_output}
+use Rattle.cic.specs.declared.state.Cic.{Cic}
+use Rattle.lent.specs.declared.steps.Output as answer
 use Rattle.records.specs.Lines.{fault_at, record_of}
 use Rattle.records.specs.declared.parse.Fault.{Fault}
 use Rattle.records.specs.declared.parse.Record.{Record}
@@ -35,7 +32,7 @@ abbrev pub own_words : Bool → Ops ℤ
 own_words wide = signed_ops (width_of wide)
 
 abbrev pub kept_words : Bool → Ops ℤ
-kept_words wide = word_ops
+kept_words wide = signed_ops w64
 
 -- a refused line leaves the session as it was; a number that is about no field has the place 0
 abbrev pub refuse_at : Session → Fault → Taken
@@ -45,20 +42,20 @@ abbrev pub refuse : Session → ℕ → Taken
 refuse s number = refuse_at s (fault_at number 0)
 
 -- the filter is there, and is now f
-abbrev pub kept : Bool → Cic → Reply → Taken
+abbrev pub kept : Bool → Cic ℤ → Reply → Taken
 kept wide f reply = record { session = record { opened = true; wide = wide; filter = f }; reply = reply }
 
--- a call that makes the filter, or puts it in order, and its verdict
-abbrev pub told_by : Session → Bool → Cic → Verdict → Taken
-told_by s wide f Verdict.Done = kept wide f Reply.Silent
-told_by s wide f (Verdict.Refused number) = refuse s number
+-- a call that makes the filter, or puts it in order, and its number (0: accepted)
+abbrev pub told_by : Session → Bool → Cic ℤ → ℕ → Taken
+told_by s wide f zero = kept wide f Reply.Silent
+told_by s wide f (suc number) = refuse s (suc number)
 
--- the same by the call's number (0: accepted) and its state
+-- the same by the call's number and its state
 abbrev pub ordered : Session → Bool → ℕ → Counted ℤ → Taken
-ordered s wide number t = told_by s wide (cic_of t) (verdict_of number)
+ordered s wide number t = told_by s wide (cic_of t) number
 
 -- an output is read in the word
-abbrev pub shown : Bool → answer.Output → answer.Output
+abbrev pub shown : Bool → answer.Output ℤ → answer.Output ℤ
 shown wide y = record { value = wrap (width_of wide) y.value; told = y.told; number = y.number }
 
 -- a step: its number, its state, and one output with what it tells or nothing at all

@@ -1,6 +1,7 @@
 // What a line does to the filter, and what it is answered.
 ghost use Rattle.std.specs.Prelude.{◌≡◌};
 ghost use Rattle.words.specs.Words.{wrap};
+ghost use Rattle.blocks.specs.Refusals.{number_in};
 ghost use Rattle.records.specs.Sessions.{
   width_of,
   shown,
@@ -18,10 +19,10 @@ ghost use Rattle.records.specs.Sessions.{
 };
 
 use crate::parse::{Fault, Record, parse};
-use blocks::Verdict;
-use cic64::state::Cic;
-use cic64::steps::{Out, Output};
-use words::casts::{i32_as_i64, i64_as_i32};
+use blocks::Refusal;
+use cic::state::Cic;
+use cic::steps::Output;
+use words::casts::i64_as_i32;
 
 // The filter, once a `cic` or `cic64` record has made it, and whether that was `cic64`. It computes with words of 64 bits
 // for either; after `cic` they are read in 32, where they are what words of 32 bits would be.
@@ -29,14 +30,14 @@ use words::casts::{i32_as_i64, i64_as_i32};
 pub struct Session {
     pub opened: bool,
     pub wide: bool,
-    pub filter: Cic,
+    pub filter: Cic<i64>,
 }
 
 // What a line is answered: nothing, an output with the count that it tells, or what is wrong with it.
 #[derive(Clone, Copy)]
 pub enum Reply {
     Silent,
-    Output(Output),
+    Output(Output<i64>),
     Bad(Fault),
 }
 
@@ -54,11 +55,11 @@ pub fn read_in(wide: bool, v: i64) -> i64
     if wide {
         return v;
     }
-    i32_as_i64(i64_as_i32(v))
+    i64::from(i64_as_i32(v))
 }
 
 // An output whose value is read in the word.
-fn output_in(wide: bool, y: Output) -> Output
+fn output_in(wide: bool, y: Output<i64>) -> Output<i64>
     ensures { result ≡ shown wide y }
 {
     Output {
@@ -83,7 +84,7 @@ fn refused(s: Session, number: u32) -> Taken
     refused_at(s, Fault { number, place: 0 })
 }
 
-fn with_filter(wide: bool, filter: Cic, reply: Reply) -> Taken
+fn with_filter(wide: bool, filter: Cic<i64>, reply: Reply) -> Taken
     ensures { result ≡ kept wide filter reply }
 {
     let session = Session {
@@ -94,57 +95,49 @@ fn with_filter(wide: bool, filter: Cic, reply: Reply) -> Taken
     Taken { session, reply }
 }
 
-// A call on the filter gave this state and this verdict.
-fn told(s: Session, wide: bool, filter: Cic, verdict: Verdict) -> Taken
-    ensures { result ≡ told_by s wide filter verdict }
+// A call on the filter left this state and gave this answer.
+fn told(s: Session, wide: bool, filter: Cic<i64>, answer: Result<(), Refusal>) -> Taken
+    ensures { result ≡ told_by s wide filter (number_in answer) }
 {
-    match verdict {
-        Verdict::Done => with_filter(wide, filter, Reply::Silent),
-        Verdict::Refused(number) => refused(s, number),
+    match answer {
+        Ok(()) => with_filter(wide, filter, Reply::Silent),
+        Err(refusal) => refused(s, refusal.number()),
     }
 }
 
 fn make(s: Session, wide: bool, order: u32, delay: u32, rate: u32) -> Taken
     ensures { result ≡ making kept_words s wide order delay rate }
 {
-    let m = Cic::new(order as usize, delay as usize, rate);
-    let f = m.state;
-    let v = m.verdict;
-    told(s, wide, f, v)
+    match Cic::new(order as usize, delay as usize, rate) {
+        Ok(filter) => with_filter(wide, filter, Reply::Silent),
+        Err(refusal) => refused(s, refusal.number()),
+    }
 }
 
 fn change_rate(s: Session, rate: u32) -> Taken
     ensures { result ≡ rating kept_words s rate }
 {
-    let f = s.filter;
-    let m = f.set_rate(rate);
-    let g = m.state;
-    let v = m.verdict;
-    told(s, s.wide, g, v)
+    let mut filter = s.filter;
+    let answer = filter.set_rate(rate);
+    told(s, s.wide, filter, answer)
 }
 
 fn clear_filter(s: Session) -> Taken
     ensures { result ≡ clearing kept_words s }
 {
-    let f = s.filter;
-    let m = f.clear();
-    let g = m.state;
-    let v = m.verdict;
-    told(s, s.wide, g, v)
+    let mut filter = s.filter;
+    let answer = filter.clear();
+    told(s, s.wide, filter, answer)
 }
 
 fn take_sample(s: Session, x: i64) -> Taken
     ensures { result ≡ stepping kept_words s x }
 {
-    let f = s.filter;
-    let t = f.decimate(x);
-    let g = t.state;
-    let out = t.out;
-    let wide = s.wide;
-    match out {
-        Out::Given(y) => with_filter(wide, g, Reply::Output(output_in(wide, y))),
-        Out::Nothing => with_filter(wide, g, Reply::Silent),
-        Out::Refused(number) => refused(s, number),
+    let mut filter = s.filter;
+    match filter.decimate(x) {
+        Ok(Some(y)) => with_filter(s.wide, filter, Reply::Output(output_in(s.wide, y))),
+        Ok(None) => with_filter(s.wide, filter, Reply::Silent),
+        Err(refusal) => refused(s, refusal.number()),
     }
 }
 

@@ -1,5 +1,5 @@
 -- What refuses a record, a list, a text or a move has a row in docs/REFUSALS.md: its number and its refusal tell each other.
-use Rattle.std.proofs.Common.{◌≡◌, ℕ, zero, suc, List, [], ◌∷◌, Bool, true, false, cond, refl, sym, ap, rules, ◌∙◌}
+use Rattle.std.proofs.Common.{◌≡◌, ℕ, zero, suc, List, [], ◌∷◌, Bool, true, false, cond, refl, ap, subst, arith, ◌∙◌}
 use Rattle.std.proofs.Math.Option.{Option, none, some}
 use lib.Dec.{leb, ltb, eqb}
 use lib.IntN.{ℤ}
@@ -17,6 +17,7 @@ use Rattle.text.specs.Same.{same}
 use Rattle.settings_text.specs.Lines.{Setting, Cic, Wdf, Dither, form_of, parameters, dither_number, crossed}
 use Rattle.settings_text.specs.Moves.{Moved, Text, Refused, move, moved_by, placed_text, placed}
 use Rattle.settings_text.specs.Stores.{Found, Good, Bad, or_else, record_number, listed_number, list_from, list_number, refused_at, judged, line_then, lines_in, opened_by, read_of}
+use Rattle.settings_text.proofs.Stores.{numbered}
 use Rattle.settings_text.specs.declared.version.Version.{Version}
 use Rattle.settings_text.specs.declared.version.Version.TheVariants.{One, Two}
 
@@ -158,10 +159,6 @@ abbrev pub FoundKnown : Found Setting → Type 0
 FoundKnown (Good ss) = Unit {0}
 FoundKnown (Bad line k) = Known k
 
-abbrev pub MovedKnown : Moved → Type 0
-MovedKnown (Text text) = Unit {0}
-MovedKnown (Refused line k) = Known k
-
 module _ (v : Version) where
   judged_known : (k j : ℕ) (s : Setting) (rest : Found Setting) → Known j → FoundKnown rest → FoundKnown (judged (form_of v) k j s rest)
   judged_known k zero s (Good ss) p h = tt
@@ -201,16 +198,22 @@ module _ (v : Version) where
   unfolding read_of
   read_known text = parts_known (parted newline text)
 
--- and what refuses a move
-module _ (from to : Version) (place : Setting → Option Setting) where
-  placed_known : (x : Option (List Setting)) → MovedKnown (placed_text (form_of from) (form_of to) place x)
-  placed_known none = known_84
-  placed_known (some ts) = tt
+-- so the number that a text is refused by is that of its refusal
+pub read_row : (v : Version) (text : List ℕ) (line k : ℕ) → read_of (form_of v) text ≡ Bad line k → number_of (refusal_at k) ≡ k
+read_row v text line k e =
+    number_back k (subst FoundKnown e (read_known v text)) (λ z. numbered (form_of v) text line (e ∙ ap (Bad line) z))
 
-  by_known : (x : Found Setting) → FoundKnown x → MovedKnown (moved_by (form_of from) (form_of to) place x)
-  by_known (Good ss) h = placed_known (placed place ss)
-  by_known (Bad line k) h = h
-
-  pub move_known : (text : List ℕ) → MovedKnown (move (form_of from) (form_of to) place text)
+-- and the one that a move is
+module _ (from to : Version) (place : Setting → Option Setting) (text : List ℕ) (line k : ℕ) where
+  pub move_row : move (form_of from) (form_of to) place text ≡ Refused line k → number_of (refusal_at k) ≡ k
   unfolding move
-  move_known text = by_known (read_of (form_of from) text) (read_known from text)
+  move_row e = by (read_of (form_of from) text) refl e
+    where
+      off : (y : Option (List Setting)) → placed_text (form_of from) (form_of to) place y ≡ Refused line k → number_of (refusal_at k) ≡ k
+      off none e = let q : 84 ≡ k = cc in rw (← q) (number_back 84 known_84 (λ z. absurd (omega arith)))
+      off (some ts) e = cc
+
+      by : (x : Found Setting) → read_of (form_of from) text ≡ x → moved_by (form_of from) (form_of to) place x ≡ Refused line k
+          → number_of (refusal_at k) ≡ k
+      by (Good ss) f e = off (placed place ss) e
+      by (Bad l n) f e = let q : n ≡ k = cc in rw (← q) (read_row from text l n f)

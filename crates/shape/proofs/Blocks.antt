@@ -1,5 +1,5 @@
 -- The ways in which a block call ends, whatever its words: refused by its number, or run. A width puts its records around them.
-use Rattle.std.proofs.Common.{◌≡◌, ℕ, zero, suc, ◌+◌, ◌%◌, ◌^◌, ◌<◌, ◌≤◌, cond, eqb, List, [], ◌∷◌, length, sym, refl, ap, ◌∙◌, mod-eq_of_lt, arith, le-ltb, lt-ltb, ne_eqb}
+use Rattle.std.proofs.Common.{◌≡◌, ℕ, zero, suc, ◌+◌, ◌%◌, ◌^◌, ◌<◌, ◌≤◌, cond, eqb, List, [], ◌∷◌, length, sym, refl, ap, ◌∙◌, mod-eq_of_lt, arith, le-ltb, lt-ltb, eq-eqb, ne_eqb}
 use lib.Dec.{eqb-suc-zero}
 use Rattle.sums.specs.Ops.{Ops}
 use Rattle.sums.specs.Machine.{Output}
@@ -12,9 +12,12 @@ use Rattle.sums.proofs.Numbering.{block_room, tagged, taken-after, taken_tagged,
 use Rattle.sums.proofs.Lent.{Ready, DecimateRun, InterpolateRun}
 use Rattle.sums.proofs.LentSteps.{fit}
 use Rattle.shape.specs.declared.runs.Written.{Written}
-use Rattle.shape.specs.declared.runs.Wrote.TheVariants as Wrote
-use Rattle.shape.specs.declared.runs.Read.TheVariants as Read
-use Rattle.shape.specs.Answers.{wrote_of, read_of, written_of, block_wrote, block_read}
+use Rattle.std.specs.Prelude.{Result, Ok, Err}
+use Rattle.blocks.specs.declared.refusal.Refusal.{Refusal}
+use Rattle.blocks.specs.Refusals.{answer}
+use Rattle.blocks.proofs.Refusals.{accepted, refused_too, taken_number}
+use Rattle.shape.specs.Answers.{read_of, written_of, fill_number_of, block_wrote, block_read}
+use Rattle.shape.proofs.Ways.{never}
 
 -- what a block answers, as sums has it
 written_by : {A : Type 0} (u n c R : ℕ) (ys : List (Output A)) → first_told ys ≡ cond (eqb (length ys) 0) 0 u
@@ -28,41 +31,31 @@ written_by u n c R (y ∷ ys) t h =
     rw (number, told)
 
 -- the interpolator's
-module _ {A : Type 0} (s : State A) (xs out : List A) where
-  -- its number, as the code finds it
-  pub fill-state : (k : ℕ) → k ≡ refusal s → (k ≡ 0 → ⊥) → k ≡ fill_number s xs out
-  unfolding fill_number
-  fill-state k e h = rw (← e, ne_eqb k 0 h)
+module _ {A : Type 0} (o : Ops A) (s : State A) (xs out : List A) where
+  abbrev number : ℕ
+  number = fill_number_of (refusal s) (needed (length out) s.countdown s.rate) (length xs)
 
-  module _ (z : refusal s ≡ 0) where
-    pub fill-short : length xs < needed (length out) s.countdown s.rate → 23 ≡ fill_number s xs out
-    unfolding fill_number
-    fill-short h = rw (z, lt-ltb (length xs) _ h)
+  pub fill_refuses : {V : Type 0} (v : V) (r : Refusal) → ◌≡◌ {A = Result V Refusal} (Err r) (answer number v)
+      → (s ≡ fill_state o s xs out) × (◌≡◌ {A = Result ℕ Refusal} (Err r) (block_read s xs out)) × (out ≡ fill_out o s xs out)
+  unfolding fill_state fill_out fill_number
+  fill_refuses v r e =
+      let h = ne_eqb number 0 (never number v r e) in (rw h, refused_too number v (needed (length out) s.countdown s.rate) r e, rw h)
 
-    pub fill-fits : needed (length out) s.countdown s.rate ≤ length xs → fill_number s xs out ≡ 0
-    unfolding fill_number
-    fill-fits h = rw (z, le-ltb (length xs) _ h)
-
-  -- what it leaves and answers
-  module _ (o : Ops A) where
-    pub fill_refuses : (k : ℕ) → k ≡ fill_number s xs out → (k ≡ 0 → ⊥)
-        → (s ≡ fill_state o s xs out) × (Read.Refused k ≡ block_read s xs out) × (out ≡ fill_out o s xs out)
-    unfolding fill_state fill_out read_of
-    fill_refuses zero e h = absurd (h refl)
-    fill_refuses (suc k) e h = (rw (← e, ne_eqb (suc k) 0 h), rw (← e), rw (← e, ne_eqb (suc k) 0 h))
-
-    pub fill-runs : fill_number s xs out ≡ 0 → (t : State A) (count : ℕ) (left : List A) → InterpolateRun o s xs out t count left
-        → (t ≡ fill_state o s xs out) × (Read.Inputs count ≡ block_read s xs out) × (left ≡ fill_out o s xs out)
-    unfolding fill_state fill_out read_of
-    fill-runs z t count left d = (rw z d.state, rw (z, d.count), rw z d.wrote)
+  pub fill-runs : (w : ℕ) → ◌≡◌ {A = Result ℕ Refusal} (Ok w) (read_of number (needed (length out) s.countdown s.rate))
+      → (t : State A) (count : ℕ) (left : List A) → InterpolateRun o s xs out t count left
+      → (t ≡ fill_state o s xs out) × (◌≡◌ {A = Result ℕ Refusal} (Ok w) (block_read s xs out)) × (left ≡ fill_out o s xs out)
+  unfolding fill_state fill_out fill_number
+  fill-runs w e t count left d =
+      let z = eq-eqb number 0 (taken_number number _ w e) in (rw z d.state, e, rw z d.wrote)
 
 -- the decimator's
 module _ {A : Type 0} (o : Ops A) (c : Counted A) (xs out : List A) where
-  pub block_refuses : (k : ℕ) → k ≡ block_number c xs out → (k ≡ 0 → ⊥)
-      → (c ≡ block_state o c xs out) × (Wrote.Refused k ≡ block_wrote o c xs out) × (out ≡ block_out o c xs out)
-  unfolding block_state block_out wrote_of
-  block_refuses zero e h = absurd (h refl)
-  block_refuses (suc k) e h = (rw (← e, ne_eqb (suc k) 0 h), rw (← e), rw (← e, ne_eqb (suc k) 0 h))
+  pub block_refuses : {V : Type 0} (v : V) (r : Refusal) → ◌≡◌ {A = Result V Refusal} (Err r) (answer (block_number c xs out) v)
+      → (c ≡ block_state o c xs out) × (◌≡◌ {A = Result Written Refusal} (Err r) (block_wrote o c xs out)) × (out ≡ block_out o c xs out)
+  unfolding block_state block_out
+  block_refuses v r e =
+      let k = block_number c xs out in
+      let h = ne_eqb k 0 (never k v r e) in (rw h, refused_too k v _ r e, rw h)
 
   -- where it runs: t is the state after it, n the inputs then taken
   module _ (z : block_number c xs out ≡ 0) (r : Ready c.state) (t : State A) (count : ℕ) (left : List A)
@@ -86,11 +79,11 @@ module _ {A : Type 0} (o : Ops A) (c : Counted A) (xs out : List A) where
         (λ h. omega (arith, room, needed_some (length xs) s.countdown s.rate (rw long at h))))
 
     pub block_runs : (w : Written) (n : ℕ) → w ≡ written_of count s.unsettled c.inputs s.countdown → n ≡ c.inputs + length xs
-        → (◌≡◌ {A = Counted A} (record { state = t; inputs = n }) (block_state o c xs out)) × (Wrote.Outputs w ≡ block_wrote o c xs out)
+        → (◌≡◌ {A = Counted A} (record { state = t; inputs = n }) (block_state o c xs out)) × (◌≡◌ {A = Result Written Refusal} (Ok w) (block_wrote o c xs out))
         × (left ≡ block_out o c xs out)
-    unfolding block_state block_out wrote_of
+    unfolding block_state block_out
     block_runs w n ew ei = (
       rw (z, d.state, ei, taken-after o c ok xs room),
-      rw (z, ew ∙ written_is, d.count),
+      rw (ew ∙ written_is, d.count) (accepted _ _ z),
       rw (z, plain-taken o c ok xs room) d.wrote,
     )

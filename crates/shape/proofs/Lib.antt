@@ -1,4 +1,4 @@
 pub mod Ways
-pub mod Taking
+pub mod Known
 pub mod Blocks
 pub mod Places

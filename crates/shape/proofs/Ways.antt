@@ -1,23 +1,31 @@
--- The ways in which a question ends: k is the number that the code found.
-use Rattle.std.proofs.Common.{◌≡◌, ℕ, zero, suc, Bool, refl}
-use Rattle.shape.specs.declared.questions.Told.TheVariants as Told
-use Rattle.shape.specs.declared.questions.Fitting.TheVariants as Fitting
-use Rattle.shape.specs.Answers.{told_of, fitting_of}
+-- How a call ends whose number is its first test's, or else the next one's.
+use Rattle.std.proofs.Common.{◌≡◌, ℕ, zero, suc, refl, rules, sym, ◌∙◌, eq-eqb, ne_eqb}
+use Rattle.std.specs.Prelude.{Result, Ok, Err}
+use Rattle.blocks.specs.declared.refusal.Refusal.{Refusal}
+use Rattle.blocks.specs.Refusals.{answer}
+use Rattle.blocks.specs.Blocks.{unless}
+use Rattle.blocks.proofs.Refusals.{taken_number, refused_too}
+use Rattle.sums.proofs.Refusals.{Sound, sound}
+use Rattle.shape.specs.declared.numbers.Numbers.{Numbers}
+use Rattle.shape.specs.Answers.{refusal_in}
 
-pub untold : (k n v : ℕ) → k ≡ n → (k ≡ 0 → ⊥) → Told.Refused k ≡ told_of n v
-unfolding told_of
-untold zero n v e h = absurd (h refl)
-untold (suc k) n v e h = rw (← e)
+-- what is refused has a number
+pub never : {V : Type 0} (k : ℕ) (v : V) (r : Refusal) → ◌≡◌ {A = Result V Refusal} (Err r) (answer k v) → k ≡ 0 → ⊥
+unfolding answer
+never k v r e z = search (rules, e, z)
 
-pub tells : (n u v : ℕ) → n ≡ 0 → u ≡ v → Told.Number u ≡ told_of n v
-unfolding told_of
-tells n u v z e = rw (z, e)
+-- what the first test refuses
+pub first_refused : {A B : Type 0} (k n : ℕ) (v : A) (w : B) (r : Refusal) → ◌≡◌ {A = Result A Refusal} (Err r) (answer k v)
+    → ◌≡◌ {A = Result B Refusal} (Err r) (answer (unless k k n) w)
+unfolding answer
+first_refused zero n v w r e = search rules
+first_refused (suc k) n v w r e = rw (ne_eqb (suc k) 0 (λ z. search rules)) (refused_too (suc k) v w r e)
 
-pub unfit : (k n : ℕ) (b : Bool) → k ≡ n → (k ≡ 0 → ⊥) → Fitting.Refused k ≡ fitting_of n b
-unfolding fitting_of
-unfit zero n b e h = absurd (h refl)
-unfit (suc k) n b e h = rw (← e)
+-- what it lets through goes by the next
+pub first_taken : {A : Type 0} (k n : ℕ) (v w : A) → ◌≡◌ {A = Result A Refusal} (Ok w) (answer k v) → unless k k n ≡ n
+first_taken k n v w e = rw (eq-eqb k 0 (taken_number k v w e))
 
-pub fitted : (n : ℕ) (a b : Bool) → n ≡ 0 → a ≡ b → Fitting.Fits a ≡ fitting_of n b
-unfolding fitting_of
-fitted n a b z e = rw (z, e)
+-- what numbers have that pass their tests
+pub passing : (n : Numbers) → ◌≡◌ {A = Result (Unit {0}) Refusal} (Ok tt) (answer (refusal_in n) tt)
+    → Sound n.order n.delay n.rate n.countdown n.unsettled
+passing n e = sound n.order n.delay n.rate n.countdown n.unsettled (taken_number (refusal_in n) tt tt e)

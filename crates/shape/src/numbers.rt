@@ -1,92 +1,72 @@
-// The tests of a state's numbers, and the small steps that they take.
-ghost use Rattle.std.specs.Prelude.{◌≡◌, suc, ◌+◌, ◌-◌, ◌*◌, max, nat_lt};
-ghost use Rattle.sums.specs.State.{refusal_of};
-ghost use Rattle.sums.specs.Counted.{most_inputs, take_number_of};
-ghost use Rattle.shape.specs.Answers.{next_place};
+// A state's numbers, the tests that they take, and the small steps of a state.
+ghost use Rattle.std.specs.Prelude.{◌≡◌, suc, ◌+◌, ◌*◌};
+ghost use Rattle.blocks.specs.Refusals.{answer};
+ghost use Rattle.sums.specs.Counted.{take_number_of};
+ghost use Rattle.shape.specs.Answers.{refusal_in, next_place};
 
-use std::num::wrapping_add_usize;
+use blocks::Refusal;
 
-// The number of the first test that fails, or 0 (01, refusal numbers 10 to 13 and 15).
-pub fn refusal_of(order: usize, delay: usize, rate: u32, countdown: u32, unsettled: usize) -> u32
-    ensures { result ≡ refusal_of order delay rate countdown unsettled }
-{
-    if 8 < order {
-        return 10;
-    }
-    if delay == 0 {
-        return 11;
-    }
-    if 8 < delay {
-        return 11;
-    }
-    if 65535 < rate {
-        return 12;
-    }
-    if 65535 < countdown {
-        return 13;
-    }
-    if order * delay < unsettled {
-        return 15;
-    }
-    0
+// What a state has beside its words: N = order, M = delay, rate R - 1, countdown and the unsettled count.
+#[derive(Clone, Copy, Debug, PartialEq, Eq)]
+pub struct Numbers {
+    pub order: usize,
+    pub delay: usize,
+    pub rate: u32,
+    pub countdown: u32,
+    pub unsettled: usize,
 }
 
-// Whether `more` inputs after `inputs` pass 2^64 - 1.
-pub fn overfull(inputs: u64, more: u64) -> bool
-    ensures { result ≡ nat_lt most_inputs (inputs + more) }
-{
-    18446744073709551615 - inputs < more
-}
-
-// The number of a call that takes `more` inputs after `inputs`, or 0: the state's own, then 16 where they pass
-// 2^64 - 1.
-pub fn take_number(
-    order: usize,
-    delay: usize,
-    rate: u32,
-    countdown: u32,
-    unsettled: usize,
-    inputs: u64,
-    more: u64,
-) -> u32
-    ensures { result ≡ take_number_of (refusal_of order delay rate countdown unsettled) inputs more }
-{
-    let number = refusal_of(order, delay, rate, countdown, unsettled);
-    if number != 0 {
-        return number;
+impl Numbers {
+    // Refused with the number of the first test that fails, 10 to 13 or 15.
+    #[tactic(auto, unfolding(sums::specs::State::refusal_of, blocks::specs::Refusals::answer, blocks::specs::Refusals::refusal_at))]
+    pub fn check(self) -> Result<(), Refusal>
+        ensures { result ≡ answer (refusal_in self) tt }
+    {
+        if 8 < self.order {
+            return Err(Refusal::Order);
+        }
+        if self.delay == 0 || 8 < self.delay {
+            return Err(Refusal::Delay);
+        }
+        if 65535 < self.rate {
+            return Err(Refusal::Rate);
+        }
+        if 65535 < self.countdown {
+            return Err(Refusal::Countdown);
+        }
+        if self.order * self.delay < self.unsettled {
+            return Err(Refusal::Unsettled);
+        }
+        Ok(())
     }
-    if overfull(inputs, more) {
-        return 16;
+
+    // The number of inputs taken after `more` of them, where `inputs` were taken before. Refused with the state's own number,
+    // then with 16 where it passes 2^64 - 1.
+    #[tactic(auto, using(crate::proofs::Ways::first_refused, crate::proofs::Ways::first_taken), unfolding(sums::specs::Counted::take_number_of, blocks::specs::Refusals::answer, blocks::specs::Refusals::refusal_at))]
+    pub fn take(self, inputs: u64, more: u64) -> Result<u64, Refusal>
+        ensures { result ≡ answer (take_number_of (refusal_in self) inputs more) (inputs + more) }
+    {
+        self.check()?;
+        match inputs.checked_add(more) {
+            Some(taken) => Ok(taken),
+            None => Err(Refusal::Inputs),
+        }
     }
-    0
-}
-
-// The greater of two.
-pub fn greater(a: u32, b: u32) -> u32
-    ensures { result ≡ max a b }
-{
-    if a < b { b } else { a }
-}
-
-// One less, and not below 0.
-pub fn lowered(n: usize) -> usize
-    ensures { result ≡ n - 1 }
-{
-    if n == 0 { 0 } else { n - 1 }
 }
 
 // R.M.
 pub fn span(rate: u32, delay: u32) -> u64
     ensures { result ≡ suc rate * delay }
 {
-    (rate as u64 + 1) * delay as u64
+    (u64::from(rate) + 1) * u64::from(delay)
 }
 
 // The place after `at` in a ring of m cells: the first after the last.
+#[tactic(auto, unfolding(crate::specs::Answers::next_place))]
 pub fn following(at: usize, m: usize) -> usize
     ensures { result ≡ next_place at m }
 {
-    let next = wrapping_add_usize(at, 1);
+    let next = at.wrapping_add(1);
     if next < m {
         return next;
     }

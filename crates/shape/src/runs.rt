@@ -1,39 +1,26 @@
 // What a block answers, either way, and how many samples at the low rate it has.
-ghost use Rattle.std.specs.Prelude.{◌≡◌};
-ghost use Rattle.sums.specs.State.{refusal_of};
+ghost use Rattle.std.specs.Prelude.{◌≡◌, ◌+◌};
+ghost use Rattle.blocks.specs.Refusals.{answer};
 ghost use Rattle.sums.specs.Runs.{needed};
 ghost use Rattle.sums.specs.Counted.{take_number_of, block_number_of};
-ghost use Rattle.shape.specs.Answers.{written_of};
+ghost use Rattle.shape.specs.Answers.{refusal_in, written_of, read_of, fill_number_of};
 
-use crate::numbers::{overfull, refusal_of};
-use std::num::wrapping_add_u64;
+use crate::numbers::Numbers;
+use blocks::Refusal;
 
 // What a decimator's block wrote: the count of its outputs, and what it tells of the first, the unsettled count that
 // it found and its input's number, both 0 where there is none. Output i of the block counts as told that count less i,
 // not below 0, and its number is typeof.i.R more. Told 0: no input from before the last set_rate, resume, clear or new is in it.
-#[derive(Clone, Copy)]
+#[derive(Clone, Copy, Debug, PartialEq, Eq)]
 pub struct Written {
     pub count: usize,
     pub told: usize,
     pub number: u64,
 }
 
-// What a decimator's block wrote, or the number of a refusal.
-#[derive(Clone, Copy)]
-pub enum Wrote {
-    Outputs(Written),
-    Refused(u32),
-}
-
-// How many inputs an interpolator's block read, or the number of a refusal.
-#[derive(Clone, Copy)]
-pub enum Read {
-    Inputs(usize),
-    Refused(u32),
-}
-
 // The low-rate samples of a block of len at the high rate: 0 if len is at most the countdown, else 1 +
 // floor((len - 1 - countdown) / R).
+#[tactic(auto, unfolding(sums::specs::Runs::needed))]
 pub fn low_rate(len: usize, countdown: u32, rate: u32) -> usize
     ensures { result ≡ needed len countdown rate }
 {
@@ -46,54 +33,55 @@ pub fn low_rate(len: usize, countdown: u32, rate: u32) -> usize
     n + 1
 }
 
-// What a block of `count` outputs answers, by the unsettled count, the inputs taken and the countdown before it. The
-// number is taken modulo 2^64, which no block that is accepted passes.
-pub fn block_answer(count: usize, unsettled: usize, inputs: u64, countdown: u32) -> Written
-    ensures { result ≡ written_of count unsettled inputs countdown }
-{
-    if count == 0 {
-        return Written {
+impl Numbers {
+    // What a block of `count` outputs answers, after so many inputs. The number is taken modulo 2^64, which no block that is
+    // accepted passes.
+    #[tactic(auto, unfolding(crate::specs::Answers::written_of))]
+    pub fn written(self, count: usize, inputs: u64) -> Written
+        ensures { result ≡ written_of count self.unsettled inputs self.countdown }
+    {
+        if count == 0 {
+            return Written {
+                count,
+                told: 0,
+                number: 0,
+            };
+        }
+        let after = u64::from(self.countdown) + 1;
+        Written {
             count,
-            told: 0,
-            number: 0,
-        };
+            told: self.unsettled,
+            number: inputs.wrapping_add(after),
+        }
     }
-    let after = countdown as u64 + 1;
-    let number = wrapping_add_u64(inputs, after);
-    Written {
-        count,
-        told: unsettled,
-        number,
-    }
-}
 
-// The number of a decimator's block of len inputs over a slice of `room` outputs, or 0: the state's own, then 16 where
-// the inputs pass 2^64 - 1, then 20 where the slice is too short.
-pub fn block_number(
-    order: usize,
-    delay: usize,
-    rate: u32,
-    countdown: u32,
-    unsettled: usize,
-    inputs: u64,
-    len: usize,
-    room: usize,
-) -> u32
-    ensures { result ≡ block_number_of (take_number_of (refusal_of order delay rate countdown unsettled) inputs len)
-        (needed len countdown rate) room }
-{
-    let number = refusal_of(order, delay, rate, countdown, unsettled);
-    if number != 0 {
-        return number;
+    // The number of inputs taken after a decimator's block of len of them over a slice of `room` outputs, where `inputs` were
+    // taken before. Refused with the state's own number, then with 16 where it passes 2^64 - 1, then with 20 where the slice
+    // is too short.
+    #[tactic(auto, using(crate::proofs::Ways::first_refused, crate::proofs::Ways::first_taken), unfolding(sums::specs::Counted::block_number_of, blocks::specs::Refusals::answer, blocks::specs::Refusals::refusal_at))]
+    pub fn take_block(self, inputs: u64, len: usize, room: usize) -> Result<u64, Refusal>
+        ensures { result ≡ answer (block_number_of (take_number_of (refusal_in self) inputs len)
+            (needed len self.countdown self.rate) room) (inputs + len) }
+    {
+        let taken = self.take(inputs, len as u64)?;
+        let need = low_rate(len, self.countdown, self.rate);
+        if room < need {
+            return Err(Refusal::ShortOutput);
+        }
+        Ok(taken)
     }
-    let full = overfull(inputs, len as u64);
-    let need = low_rate(len, countdown, rate);
-    let short = room < need;
-    if full {
-        return 16;
+
+    // How many of len inputs an interpolator's block of `room` outputs reads. Refused with the state's own number, then with
+    // 23 where there are fewer.
+    #[tactic(auto, using(crate::proofs::Ways::first_refused, crate::proofs::Ways::first_taken), unfolding(blocks::specs::Refusals::answer, blocks::specs::Refusals::refusal_at))]
+    pub fn read_block(self, len: usize, room: usize) -> Result<usize, Refusal>
+        ensures { result ≡ read_of (fill_number_of (refusal_in self) (needed room self.countdown self.rate) len) (needed room self.countdown self.rate) }
+    {
+        self.check()?;
+        let need = low_rate(room, self.countdown, self.rate);
+        if len < need {
+            return Err(Refusal::ShortInput);
+        }
+        Ok(need)
     }
-    if short {
-        return 20;
-    }
-    0
 }

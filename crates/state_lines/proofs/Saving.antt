@@ -12,7 +12,8 @@ use borrow.Author.Tests.{eq-eqb}
 use Rattle.words.specs.Words.{word, wrap}
 use Rattle.words.proofs.Reading.{word_fits, wrap-word}
 use Rattle.text.specs.Letters.{newline}
-use Rattle.text.specs.declared.hex.Pattern.{Pattern}
+use Rattle.std.specs.Prelude as std
+use Rattle.std.specs.Prelude.{Some, None}
 use Rattle.blocks.specs.declared.Verdict.{Verdict}
 use Rattle.sums.specs.Calls.{resume_number}
 use Rattle.sums.specs.Counted.{resume_counted}
@@ -60,11 +61,11 @@ module _ (line : List ℕ) (i w : ℕ) (ws rest : List ℕ) (s : Stands line i (
   unfolding spelled
   digits = s.from ∙ append_assoc (letters_of 16 w) (spelled ws) rest
 
-  first_is : pattern_at line i ≡ Pattern.Bits w
+  first_is : pattern_at line i ≡ Some w
   unfolding Small
   first_is =
       let t : take 16 (drop (16 * i + 1) line) ≡ letters_of 16 w = ap (take 16) digits ∙ take_at (letters_of 16 w) (spelled ws ++ rest) 16 (long 16 w) in
-      rw (t, long 16 w) (letters-again 16 0 w s.small.0 ∙ ap Pattern.Bits (omega arith))
+      rw (t, long 16 w) (letters-again 16 0 w s.small.0 ∙ ap Some (omega arith))
 
   others : Stands line (suc i) ws rest
   unfolding Small

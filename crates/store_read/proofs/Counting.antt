@@ -19,7 +19,7 @@ use Rattle.text.specs.Letters.{bytes}
 use Rattle.text.specs.Numbers.{cap, capped, number_of}
 use Rattle.text.specs.Ranges.{Range, both, number_in, numbers_in, range, within}
 use Rattle.text.specs.Same.{same}
-use Rattle.text.specs.declared.numbers.Number.TheVariants.{Minus, Plus, Wrong}
+use Rattle.text.specs.declared.numbers.Number.TheVariants.{Plus, Minus}
 use Rattle.text.specs.declared.numbers.Number.{Number}
 use Rattle.text.proofs.OneSpelling.{minus_one_law}
 use Rattle.settings_text.specs.Fields.{hex_in, hexes_in, nibbles_in}
@@ -29,88 +29,88 @@ use Rattle.std.specs.Prelude.{Option, Some, None}
 use Rattle.store_read.specs.declared.line.Numbers.{Numbers}
 
 -- a field's word
-module _ (field : List ℕ) (least most : ℕ) (low : least ≤ 2147483648) (high : most ≤ 4294967295) (n : Number)
+module _ (field : List ℕ) (least most : ℕ) (low : least ≤ 2147483648) (high : most ≤ 4294967295) (n : Option Number)
     (e : n ≡ capped (number_of field)) where
   same_size : (v u : ℕ) → v ≡ min u cap → v ≤ 4294967295 → v ≡ u
   same_size v u p h = omega arith
 
-  pub plus_in : (v : ℕ) → n ≡ Plus v → v ≤ most → Some v ≡ word_by (number_in (range least most) field)
+  pub plus_in : (v : ℕ) → n ≡ Some (Plus v) → v ≤ most → Some v ≡ word_by (number_in (range least most) field)
   unfolding number_in
   plus_in v f h = by (number_of field) refl
     where
-      by : (m : Number) → number_of field ≡ m → Some v ≡ word_by (within (range least most) (number_of field))
-      by (Plus u) g =
-          let q : Plus v ≡ Plus (min u cap) = sym f ∙ e ∙ ap capped g in
+      by : (m : Option Number) → number_of field ≡ m → Some v ≡ word_by (within (range least most) (number_of field))
+      by (Some (Plus u)) g =
+          let q : Some (Plus v) ≡ Some (Plus (min u cap)) = sym f ∙ e ∙ ap capped g in
           let p : v ≡ min u cap = cc in
           let s : v ≡ u = same_size v u p (omega arith) in
           let w : word w32 (pos u) ≡ u = word_is w32 u (record { fits = omega arith }) in
           sym (rw (g, le-leb u most (omega arith), w) (ap Some (sym s)))
-      by (Minus u) g = absurd (let q : Plus v ≡ Minus (min u cap) = sym f ∙ e ∙ ap capped g in let z : ◌≡◌ {A = ℕ} 0 1 = cc in omega arith)
-      by Wrong g = absurd (let q : Plus v ≡ Wrong = sym f ∙ e ∙ ap capped g in let z : ◌≡◌ {A = ℕ} 0 1 = cc in omega arith)
+      by (Some (Minus u)) g = absurd (let q : Some (Plus v) ≡ Some (Minus (min u cap)) = sym f ∙ e ∙ ap capped g in let z : ◌≡◌ {A = ℕ} 0 1 = cc in omega arith)
+      by None g = absurd (let q : Some (Plus v) ≡ None = sym f ∙ e ∙ ap capped g in let z : ◌≡◌ {A = ℕ} 0 1 = cc in omega arith)
 
-  pub plus-out : (v : ℕ) → n ≡ Plus v → most < v → None ≡ word_by (number_in (range least most) field)
+  pub plus-out : (v : ℕ) → n ≡ Some (Plus v) → most < v → None ≡ word_by (number_in (range least most) field)
   unfolding number_in
   plus-out v f h = by (number_of field) refl
     where
-      by : (m : Number) → number_of field ≡ m → None ≡ word_by (within (range least most) (number_of field))
-      by (Plus u) g =
-          let q : Plus v ≡ Plus (min u cap) = sym f ∙ e ∙ ap capped g in
+      by : (m : Option Number) → number_of field ≡ m → None ≡ word_by (within (range least most) (number_of field))
+      by (Some (Plus u)) g =
+          let q : Some (Plus v) ≡ Some (Plus (min u cap)) = sym f ∙ e ∙ ap capped g in
           let p : v ≡ min u cap = cc in
           sym (rw (g, lt-leb u most (omega arith)))
-      by (Minus u) g = absurd (let q : Plus v ≡ Minus (min u cap) = sym f ∙ e ∙ ap capped g in let z : ◌≡◌ {A = ℕ} 0 1 = cc in omega arith)
-      by Wrong g = absurd (let q : Plus v ≡ Wrong = sym f ∙ e ∙ ap capped g in let z : ◌≡◌ {A = ℕ} 0 1 = cc in omega arith)
+      by (Some (Minus u)) g = absurd (let q : Some (Plus v) ≡ Some (Minus (min u cap)) = sym f ∙ e ∙ ap capped g in let z : ◌≡◌ {A = ℕ} 0 1 = cc in omega arith)
+      by None g = absurd (let q : Some (Plus v) ≡ None = sym f ∙ e ∙ ap capped g in let z : ◌≡◌ {A = ℕ} 0 1 = cc in omega arith)
 
-  pub minus_some : (v : ℕ) → n ≡ Minus v → 1 ≤ v
+  pub minus_some : (v : ℕ) → n ≡ Some (Minus v) → 1 ≤ v
   minus_some v f = by (number_of field) refl
     where
-      by : (m : Number) → number_of field ≡ m → 1 ≤ v
-      by (Plus u) g = absurd (let q : Minus v ≡ Plus (min u cap) = sym f ∙ e ∙ ap capped g in let z : ◌≡◌ {A = ℕ} 0 1 = cc in omega arith)
-      by (Minus zero) g = absurd (omega (arith, (minus_one_law field 0 (omega arith) g).1))
-      by (Minus (suc u)) g =
-          let q : Minus v ≡ Minus (min (suc u) cap) = sym f ∙ e ∙ ap capped g in
+      by : (m : Option Number) → number_of field ≡ m → 1 ≤ v
+      by (Some (Plus u)) g = absurd (let q : Some (Minus v) ≡ Some (Plus (min u cap)) = sym f ∙ e ∙ ap capped g in let z : ◌≡◌ {A = ℕ} 0 1 = cc in omega arith)
+      by (Some (Minus zero)) g = absurd (omega (arith, (minus_one_law field 0 (omega arith) g).1))
+      by (Some (Minus (suc u))) g =
+          let q : Some (Minus v) ≡ Some (Minus (min (suc u) cap)) = sym f ∙ e ∙ ap capped g in
           let p : v ≡ min (suc u) cap = cc in
           omega arith
-      by Wrong g = absurd (let q : Minus v ≡ Wrong = sym f ∙ e ∙ ap capped g in let z : ◌≡◌ {A = ℕ} 0 1 = cc in omega arith)
+      by None g = absurd (let q : Some (Minus v) ≡ None = sym f ∙ e ∙ ap capped g in let z : ◌≡◌ {A = ℕ} 0 1 = cc in omega arith)
 
   minus-word : (u : ℕ) → suc u ≤ 2147483648 → word w32 (negsuc u) ≡ 4294967296 - suc u
   unfolding word
   minus-word u h = omega arith
 
-  pub minus_in : (v : ℕ) → n ≡ Minus v → v ≤ least → Some (4294967296 - v) ≡ word_by (number_in (range least most) field)
+  pub minus_in : (v : ℕ) → n ≡ Some (Minus v) → v ≤ least → Some (4294967296 - v) ≡ word_by (number_in (range least most) field)
   unfolding number_in
   minus_in v f h = by (number_of field) refl
     where
-      by : (m : Number) → number_of field ≡ m → Some (4294967296 - v) ≡ word_by (within (range least most) (number_of field))
-      by (Plus u) g = absurd (let q : Minus v ≡ Plus (min u cap) = sym f ∙ e ∙ ap capped g in let z : ◌≡◌ {A = ℕ} 0 1 = cc in omega arith)
-      by (Minus zero) g = absurd (omega (arith, (minus_one_law field 0 (omega arith) g).1))
-      by (Minus (suc u)) g =
-          let q : Minus v ≡ Minus (min (suc u) cap) = sym f ∙ e ∙ ap capped g in
+      by : (m : Option Number) → number_of field ≡ m → Some (4294967296 - v) ≡ word_by (within (range least most) (number_of field))
+      by (Some (Plus u)) g = absurd (let q : Some (Minus v) ≡ Some (Plus (min u cap)) = sym f ∙ e ∙ ap capped g in let z : ◌≡◌ {A = ℕ} 0 1 = cc in omega arith)
+      by (Some (Minus zero)) g = absurd (omega (arith, (minus_one_law field 0 (omega arith) g).1))
+      by (Some (Minus (suc u))) g =
+          let q : Some (Minus v) ≡ Some (Minus (min (suc u) cap)) = sym f ∙ e ∙ ap capped g in
           let p : v ≡ min (suc u) cap = cc in
           let s : v ≡ suc u = same_size v (suc u) p (omega arith) in
           sym (rw (g, le-leb (suc u) least (omega arith), minus-word u (omega arith), s))
-      by Wrong g = absurd (let q : Minus v ≡ Wrong = sym f ∙ e ∙ ap capped g in let z : ◌≡◌ {A = ℕ} 0 1 = cc in omega arith)
+      by None g = absurd (let q : Some (Minus v) ≡ None = sym f ∙ e ∙ ap capped g in let z : ◌≡◌ {A = ℕ} 0 1 = cc in omega arith)
 
-  pub minus-out : (v : ℕ) → n ≡ Minus v → least < v → None ≡ word_by (number_in (range least most) field)
+  pub minus-out : (v : ℕ) → n ≡ Some (Minus v) → least < v → None ≡ word_by (number_in (range least most) field)
   unfolding number_in
   minus-out v f h = by (number_of field) refl
     where
-      by : (m : Number) → number_of field ≡ m → None ≡ word_by (within (range least most) (number_of field))
-      by (Plus u) g = absurd (let q : Minus v ≡ Plus (min u cap) = sym f ∙ e ∙ ap capped g in let z : ◌≡◌ {A = ℕ} 0 1 = cc in omega arith)
-      by (Minus zero) g = sym (rw g)
-      by (Minus (suc u)) g =
-          let q : Minus v ≡ Minus (min (suc u) cap) = sym f ∙ e ∙ ap capped g in
+      by : (m : Option Number) → number_of field ≡ m → None ≡ word_by (within (range least most) (number_of field))
+      by (Some (Plus u)) g = absurd (let q : Some (Minus v) ≡ Some (Plus (min u cap)) = sym f ∙ e ∙ ap capped g in let z : ◌≡◌ {A = ℕ} 0 1 = cc in omega arith)
+      by (Some (Minus zero)) g = sym (rw g)
+      by (Some (Minus (suc u))) g =
+          let q : Some (Minus v) ≡ Some (Minus (min (suc u) cap)) = sym f ∙ e ∙ ap capped g in
           let p : v ≡ min (suc u) cap = cc in
           sym (rw (g, lt-leb (suc u) least (omega arith)))
-      by Wrong g = absurd (let q : Minus v ≡ Wrong = sym f ∙ e ∙ ap capped g in let z : ◌≡◌ {A = ℕ} 0 1 = cc in omega arith)
+      by None g = absurd (let q : Some (Minus v) ≡ None = sym f ∙ e ∙ ap capped g in let z : ◌≡◌ {A = ℕ} 0 1 = cc in omega arith)
 
-  pub wrong_out : n ≡ Wrong → None ≡ word_by (number_in (range least most) field)
+  pub wrong_out : n ≡ None → None ≡ word_by (number_in (range least most) field)
   unfolding number_in
   wrong_out f = by (number_of field) refl
     where
-      by : (m : Number) → number_of field ≡ m → None ≡ word_by (within (range least most) (number_of field))
-      by (Plus u) g = absurd (let q : Wrong ≡ Plus (min u cap) = sym f ∙ e ∙ ap capped g in let z : ◌≡◌ {A = ℕ} 0 1 = cc in omega arith)
-      by (Minus u) g = absurd (let q : Wrong ≡ Minus (min u cap) = sym f ∙ e ∙ ap capped g in let z : ◌≡◌ {A = ℕ} 0 1 = cc in omega arith)
-      by Wrong g = sym (rw g)
+      by : (m : Option Number) → number_of field ≡ m → None ≡ word_by (within (range least most) (number_of field))
+      by (Some (Plus u)) g = absurd (let q : None ≡ Some (Plus (min u cap)) = sym f ∙ e ∙ ap capped g in let z : ◌≡◌ {A = ℕ} 0 1 = cc in omega arith)
+      by (Some (Minus u)) g = absurd (let q : None ≡ Some (Minus (min u cap)) = sym f ∙ e ∙ ap capped g in let z : ◌≡◌ {A = ℕ} 0 1 = cc in omega arith)
+      by None g = sym (rw g)
 
 -- nibbles, from the last
 pub other_length : (k : ℕ) (f : List ℕ) → (length f ≡ k → ⊥) → hexes_in k f ≡ none

@@ -40,7 +40,7 @@ fn word_of(field: &[u8], least: u64, most: u64) -> Option<u32>
     requires { (least ≤ 2147483648) × (most ≤ 4294967295) }
     ensures { result ≡ word_by (number_in (range least most) field.now) }
 {
-    match parsed(field) {
+    match parsed(field)? {
         Number::Plus(v) => { if v <= most { Some(v as u32) } else { None } }
         Number::Minus(v) => {
             if v <= least {
@@ -49,7 +49,6 @@ fn word_of(field: &[u8], least: u64, most: u64) -> Option<u32>
                 None
             }
         }
-        Number::Wrong => None,
     }
 }
 
@@ -100,7 +99,10 @@ fn numbers_left(fields: Option<&[u8]>, least: u64, most: u64) -> Option<Numbers>
 fn nibble_of(b: u8) -> u32
     ensures { result ≡ hex_digit b }
 {
-    hex_digit(b) as u32
+    match hex_digit(b) {
+        Some(d) => d as u32,
+        None => 16,
+    }
 }
 
 // The word of k nibbles, the first one lowest.

@@ -1,20 +1,19 @@
 -- A number of turns on words is a product modulo 2 ^ w; and lists of one value but for some cells.
 use mathlib.Core.Path.{◌≡◌, refl, sym, ap, subst, ◌∙◌}
 use mathlib.Core.List.{List, ◌∷◌, ◌++◌}
-use Prim.Native.Nat.{ℕ, zero, suc, ◌+◌, ◌-◌, ◌*◌, ◌^◌, ◌≤◌, ◌<◌}
-use native.Mathlib.Nat.{add-zero, add-suc, mul-zero, mul-suc, pow-zero, pow-suc, suc-sub-suc, sub-zero}
+use Prim.Native.Nat.{ℕ, zero, suc, ◌+◌, ◌-◌, ◌*◌, ◌≤◌, ◌<◌}
+use native.Mathlib.Nat.{add-zero, add-suc, mul-zero, mul-suc, mul_comm, suc-sub-suc, sub-zero}
 use native.Mathlib.Numerals.{add-one}
 use native.Mathlib.Omega.{arith}
-use lib.IntN.{ℤ, pos, ◌+ℤ◌, ◌*ℤ◌, +ℤ_assoc, +ℤ_idr, +ℤ_idl, zero-*ℤ, *ℤ-zero, *ℤ_comm, suc_ℤ-*ℤ}
+use lib.IntN.{ℤ, pos, ◌+ℤ◌, ◌*ℤ◌, +ℤ_assoc, +ℤ_idr, zero-*ℤ, *ℤ-zero, *ℤ_comm, suc_ℤ-*ℤ}
 use lib.ListN.{replicate, set, length-replicate}
 use lib.Pow.{pow_pos}
 use lib.Seq.{set_at}
 use mir.Syntax.{Width}
-use mir.Val.{SFits}
 use Rattle.words.specs.Words.{wrap}
 use Rattle.words.proofs.Reading.{wrap_is}
 use Rattle.words.proofs.Sums.{equal, wrapped, wrap-same, same_add, same-mul}
-use Rattle.sums.specs.Ops.{times}
+use Rattle.sums.specs.Ops.{Ops, times}
 use Rattle.sums.specs.Signed.{signed_ops}
 use Rattle.sums.specs.State.{State}
 use Rattle.sums.specs.Calls.{gain, settled_at}
@@ -42,19 +41,19 @@ times-wrap w (suc n) x =
     ap (λ z. wrap w (z +ℤ x)) (times-wrap w n x) ∙ wrap-same (same_add (wrapped w (pos n *ℤ x)) (equal {a = x} refl))
     ∙ ap (wrap w) (sym (suc_ℤ-*ℤ (pos n) x))
 
--- x by the factor, turn by turn
-pub times_once : (w : Width) (by : ℕ) (x : ℤ) → SFits w x → x ≡ times (signed_ops w) (by ^ 0) x
-times_once w by x h =
-    let one : pos 1 *ℤ x ≡ x = suc_ℤ-*ℤ (pos 0) x ∙ ap (λ z. z +ℤ x) (zero-*ℤ x) ∙ +ℤ_idl x in
-    rw pow-zero (sym (times-wrap w 1 x ∙ ap (wrap w) one ∙ wrap_is w x h))
+-- the product with a number that a word holds, wrapped or not
+pub times-product : (w : Width) (n : ℕ) (x y : ℤ) → y ≡ wrap w (pos n) → wrap w (x *ℤ y) ≡ times (signed_ops w) n x
+times-product w n x y e =
+    ap (λ z. wrap w (x *ℤ z)) e ∙ wrap-same (same-mul (equal {a = x} refl) (wrapped w (pos n))) ∙ ap (wrap w) (*ℤ_comm x (pos n))
+    ∙ sym (times-wrap w n x)
 
-pub times_turn : (w : Width) (by i : ℕ) (x a : ℤ) → a ≡ times (signed_ops w) (by ^ i) x → wrap w (a *ℤ pos by)
-    ≡ times (signed_ops w) (by ^ (i + 1)) x
-times_turn w by i x a e =
-    ap (λ z. wrap w (z *ℤ pos by)) (e ∙ times-wrap w (by ^ i) x)
-    ∙ wrap-same (same-mul (wrapped w (pos (by ^ i) *ℤ x)) (equal {a = pos by} refl))
-    ∙ ap (wrap w) (sym (product (by ^ i) by x) ∙ ap (λ k. pos k *ℤ x) (sym (pow-suc by i) ∙ ap (λ k. by ^ k) (sym (add-one i))))
-    ∙ sym (times-wrap w (by ^ (i + 1)) x)
+-- n times m times x
+pub times_times : (w : Width) (n m : ℕ) (x : ℤ) → times (signed_ops w) n (times (signed_ops w) m x) ≡ times (signed_ops w) (n * m) x
+times_times w n m x =
+    times-wrap w n (times (signed_ops w) m x) ∙ ap (λ z. wrap w (pos n *ℤ z)) (times-wrap w m x)
+    ∙ wrap-same (same-mul (equal {a = pos n} refl) (wrapped w (pos m *ℤ x)))
+    ∙ ap (wrap w) (*ℤ_comm (pos n) (pos m *ℤ x) ∙ sym (product m n x) ∙ ap (λ k. pos k *ℤ x) (mul_comm m n))
+    ∙ sym (times-wrap w (n * m) x)
 
 module _ {A : Type 0} where
   -- one cell of a list of one value
@@ -78,26 +77,26 @@ module _ {A : Type 0} where
       ∙ rw (add-one i)
 
 -- the settled state, as the code makes it of the state of zeros
-module _ (w : Width) (s : State ℤ) (x : ℤ) where
+module _ {A : Type 0} (o : Ops A) (s : State A) (x : A) where
   pub settle_none : s.order ≡ 0
-      → packed s.order s.delay s.rate 0 0 x (replicate 8 (pos 0)) (replicate 64 (pos 0)) ≡ settled_at (signed_ops w) s x s.order
+      → packed s.order s.delay s.rate 0 0 x (replicate 8 o.nil) (replicate 64 o.nil) ≡ settled_at o s x s.order
   unfolding settled_at
   settle_none e = rw e
 
-  settle_suc : (n : ℕ) → s.order ≡ suc n → n < 8 → (v : ℤ) (line : List ℤ) → v ≡ times (signed_ops w) (gain s) x
-      → line ≡ replicate s.delay x ++ replicate (64 - s.delay) (pos 0)
-      → packed (suc n) s.delay s.rate 0 0 (pos 0) (set (replicate 8 (pos 0)) n v) line ≡ settled_at (signed_ops w) s x (suc n)
+  settle_suc : (n : ℕ) → s.order ≡ suc n → n < 8 → (v : A) (line : List A) → v ≡ times o (gain s) x
+      → line ≡ replicate s.delay x ++ replicate (64 - s.delay) o.nil
+      → packed (suc n) s.delay s.rate 0 0 o.nil (set (replicate 8 o.nil) n v) line ≡ settled_at o s x (suc n)
   unfolding settled_at
   settle_suc n e h v line ev el =
       let rest : 8 - suc n ≡ 7 - n = omega arith in
-      rw (set-replicate 8 n v (pos 0) h, rest, ev, el)
+      rw (set-replicate 8 n v o.nil h, rest, ev, el)
 
-  pub settle_some : 1 ≤ s.order → s.order ≤ 8 → (v : ℤ) (line : List ℤ) → v ≡ times (signed_ops w) (gain s) x
-      → line ≡ replicate s.delay x ++ replicate (64 - s.delay) (pos 0)
-      → packed s.order s.delay s.rate 0 0 (pos 0) (set (replicate 8 (pos 0)) (s.order - 1) v) line
-      ≡ settled_at (signed_ops w) s x s.order
+  pub settle_some : 1 ≤ s.order → s.order ≤ 8 → (v : A) (line : List A) → v ≡ times o (gain s) x
+      → line ≡ replicate s.delay x ++ replicate (64 - s.delay) o.nil
+      → packed s.order s.delay s.rate 0 0 o.nil (set (replicate 8 o.nil) (s.order - 1) v) line
+      ≡ settled_at o s x s.order
   settle_some low high v line ev el =
       let e : s.order ≡ suc (s.order - 1) = omega arith in
-      subst (λ n. packed n s.delay s.rate 0 0 (pos 0) (set (replicate 8 (pos 0)) (s.order - 1) v) line
-      ≡ settled_at (signed_ops w) s x n) (sym e)
+      subst (λ n. packed n s.delay s.rate 0 0 o.nil (set (replicate 8 o.nil) (s.order - 1) v) line
+      ≡ settled_at o s x n) (sym e)
       (settle_suc (s.order - 1) e (omega arith) v line ev el)

@@ -7,9 +7,11 @@ use mathlib.Core.Option.{Option, none, some, some-injective}
 use Prim.Native.Nat.{ℕ, zero, suc, ◌+◌, ◌-◌, ◌*◌, ◌^◌, ◌<◌, ◌≤◌}
 use native.Mathlib.Nat.{add-zero}
 use native.Mathlib.Omega.{arith}
+use mathlib.Core.Bool.{cond}
 use lib.Dec.{ltb}
 use lib.ListN.{length, get_elem?}
 use borrow.Author.Tests.{le-ltb, ltb-false}
+use Rattle.blocks.specs.Blocks.{unless}
 use Rattle.sums.specs.Ops.{Ops}
 use Rattle.sums.specs.Machine.{Output}
 use Rattle.sums.specs.State.{State, refusal}
@@ -49,6 +51,10 @@ module _ {A : Type 0} (c : Counted A) where
     block_enough =
         let need : ℕ = needed (length xs) c.state.countdown c.state.rate in
         ltb-false (length out) need (passed (ltb (length out) need) 19 0 (both_zero (take_number c (length xs)) _ e).1)
+
+-- an interpolator's block that is accepted, of a state whose own number is k, has samples enough
+pub fill_accepts : (k need len : ℕ) → unless k k (cond (ltb len need) 23 0) ≡ 0 → (k ≡ 0) × (need ≤ len)
+fill_accepts k need len e = let both = both_zero k _ e in (both.0, ltb-false len need (passed (ltb len need) 22 0 both.1))
 
 -- outputs with numbers from n on, R apart
 unfoldable pub tagged : {A : Type 0} → ℕ → ℕ → List (Output A) → List (Numbered A)

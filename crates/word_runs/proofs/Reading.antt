@@ -17,8 +17,8 @@ use borrow.Author.Tests.{eq-eqb, ne_eqb, eqb-true}
 use Rattle.text.specs.Hex.{hex_digit, hex_from}
 use Rattle.text.specs.Same.{same}
 use Rattle.text.proofs.Sameness.{same_self, same_eq}
-use Rattle.text.specs.declared.hex.Pattern.{Pattern}
-use Rattle.text.specs.declared.hex.Pattern.TheVariants.{Bits, Wrong}
+use Rattle.std.specs.Prelude as std
+use Rattle.std.specs.Prelude.{Some, None}
 use Rattle.desk.specs.Lines.{kind_of, bits_record, record_of}
 use Rattle.desk.specs.declared.lines.Kind.{Kind}
 use Rattle.hex_letters.specs.Letters.{letter_of, letters_of}
@@ -28,44 +28,44 @@ use Rattle.word_runs.specs.Inner.{found_of, eight_of}
 use Rattle.word_runs.specs.declared.runs.Found.TheVariants.{Other}
 
 -- the digits before bring their part
-abbrev raised : ℕ → Pattern → Pattern
-raised m (Bits v) = Bits (m + v)
-raised m Wrong = Wrong
+abbrev raised : ℕ → std.Option ℕ → std.Option ℕ
+raised m (Some v) = Some (m + v)
+raised m None = None
 
 hex_raised : (bs : List ℕ) (m v : ℕ) → hex_from (m + v) bs ≡ raised (m * 16 ^ length bs) (hex_from v bs)
 unfolding hex_from
-hex_raised [] m v = ap Bits (omega arith)
+hex_raised [] m v = ap Some (omega arith)
 hex_raised (b ∷ bs) m v =
     let e : (m + v) * 16 + hex_digit b ≡ m * 16 + (v * 16 + hex_digit b) = omega arith in
     let q = 16 ^ length bs in
     let p : m * 16 * q ≡ m * (q * 16) = omega arith in
     by _ _ (ltb 15 (hex_digit b)) (rw (e, pow-suc 16 (length bs), ← p) (hex_raised bs (m * 16) (v * 16 + hex_digit b)))
   where
-    by : (p q : Pattern) (t : Bool) → p ≡ raised (m * 16 ^ suc (length bs)) q → cond t Wrong p ≡ raised (m * 16 ^ suc (length bs)) (cond t Wrong q)
+    by : (p q : std.Option ℕ) (t : Bool) → p ≡ raised (m * 16 ^ suc (length bs)) q → cond t None p ≡ raised (m * 16 ^ suc (length bs)) (cond t None q)
     by p q true e = refl
     by p q false e = e
 
 -- any other letter is no word's
-pub other_kind : (n b : ℕ) (p : Pattern) → (b ≡ 119 → ⊥) → found_of (word_in n (bits_record (kind_of b) p)) ≡ Other
+pub other_kind : (n b : ℕ) (p : std.Option ℕ) → (b ≡ 119 → ⊥) → found_of (word_in n (bits_record (kind_of b) p)) ≡ Other
 unfolding kind_of
 other_kind n b p h = rw (ne_eqb b 119 h) (by (eqb b 111) (eqb b 114) (eqb b 112) (eqb b 113) (eqb b 115) p)
   where
-    by : (t u v w x : Bool) (p : Pattern)
+    by : (t u v w x : Bool) (p : std.Option ℕ)
         → found_of (word_in n (bits_record (cond t Kind.Open (cond u Kind.Rate (cond v Kind.Pull (cond w Kind.Push (cond x Kind.Save Kind.Unknown))))) p)) ≡ Other
-    by t u v w x Wrong = refl
-    by true u v w x (Bits k) = refl
-    by false true v w x (Bits k) = refl
-    by false false true w x (Bits k) = refl
-    by false false false true x (Bits k) = refl
-    by false false false false true (Bits k) = refl
-    by false false false false false (Bits k) = refl
+    by t u v w x None = refl
+    by true u v w x (Some k) = refl
+    by false true v w x (Some k) = refl
+    by false false true w x (Some k) = refl
+    by false false false true x (Some k) = refl
+    by false false false false true (Some k) = refl
+    by false false false false false (Some k) = refl
 
 -- The number's letters are as, and the other digits bs.
 module _ (number : ℕ) (xs bs : List ℕ) (eight : length xs ≡ 8) (rest : length bs ≡ 8) where
   pub other_number : (xs ≡ letters_of 8 number → ⊥) → found_of (word_in number (bits_record Kind.Word (hex_from 0 (xs ++ bs)))) ≡ Other
   other_number h = by (hex_from 0 (xs ++ bs)) refl
     where
-      when : (w : ℕ) → hex_from 0 (xs ++ bs) ≡ Bits w → (t : Bool) → eqb (w / 4294967296) number ≡ t
+      when : (w : ℕ) → hex_from 0 (xs ++ bs) ≡ Some w → (t : Bool) → eqb (w / 4294967296) number ≡ t
           → found_of (cond t (some (wrap w32 (pos (w % 4294967296)))) none) ≡ Other
       when w e true f =
           let k : w / 4294967296 ≡ number = eqb-true _ _ f in
@@ -75,28 +75,28 @@ module _ (number : ℕ) (xs bs : List ℕ) (eight : length xs ≡ 8) (rest : len
           absurd (h (sym (take_at xs bs 8 eight) ∙ ap (take 8) q ∙ take_at (letters_of 8 number) (letters_of 8 w) 8 (long 8 number)))
       when w e false f = refl
 
-      by : (p : Pattern) → hex_from 0 (xs ++ bs) ≡ p → found_of (word_in number (bits_record Kind.Word p)) ≡ Other
-      by (Bits w) e = when w e (eqb (w / 4294967296) number) refl
-      by Wrong e = refl
+      by : (p : std.Option ℕ) → hex_from 0 (xs ++ bs) ≡ p → found_of (word_in number (bits_record Kind.Word p)) ≡ Other
+      by (Some w) e = when w e (eqb (w / 4294967296) number) refl
+      by None e = refl
 
   pub this_number : number < 4294967296 → xs ≡ letters_of 8 number
       → found_of (word_in number (bits_record Kind.Word (hex_from 0 (xs ++ bs)))) ≡ eight_of (hex_from 0 bs)
   this_number small e =
-      let f : hex_from 0 xs ≡ Bits number = rw e (letters-again 8 0 number small ∙ ap Bits (omega arith)) in
+      let f : hex_from 0 xs ≡ Some number = rw e (letters-again 8 0 number small ∙ ap Some (omega arith)) in
       let z : number + 0 ≡ number = omega arith in
       let g : hex_from number bs ≡ raised (number * 16 ^ length bs) (hex_from 0 bs) = rw z at (hex_raised bs number 0) in
       let q : hex_from 0 (xs ++ bs) ≡ raised (number * 4294967296) (hex_from 0 bs) =
       hex_parts 0 xs bs ∙ rw (f) (g ∙ rw rest) in
       rw q (by (hex_from 0 bs) refl)
     where
-      by : (p : Pattern) → hex_from 0 bs ≡ p → found_of (word_in number (bits_record Kind.Word (raised (number * 4294967296) p))) ≡ eight_of p
-      by (Bits v) k =
+      by : (p : std.Option ℕ) → hex_from 0 bs ≡ p → found_of (word_in number (bits_record Kind.Word (raised (number * 4294967296) p))) ≡ eight_of p
+      by (Some v) k =
           let a = hex_before bs 0 v k in
           let b : v / 4294967296 ≡ 0 = rw rest at a in
           let c : (number * 4294967296 + v) / 4294967296 ≡ number = omega arith in
           let d : (number * 4294967296 + v) % 4294967296 ≡ v = omega arith in
           rw (c, d, eq-eqb number number refl)
-      by Wrong k = refl
+      by None k = refl
 
 -- a line's digits in these parts: the number's first seven letters, all eight, and the word's digits
 abbrev pub head_of : List ℕ → List ℕ

@@ -3,8 +3,8 @@ use Rattle.std.proofs.Math.Option.{Option, none, some}
 use Rattle.std.specs.Prelude.{ℤ, pos}
 use Rattle.std.specs.Int.{w32}
 use Rattle.words.specs.Words.{wrap}
-use Rattle.text.specs.declared.hex.Pattern.{Pattern}
-use Rattle.text.specs.declared.hex.Pattern.TheVariants.{Bits, Wrong}
+use Rattle.std.specs.Prelude as std
+use Rattle.std.specs.Prelude.{Some, None}
 use Rattle.word_runs.specs.declared.runs.Found.{Found}
 use Rattle.word_runs.specs.declared.runs.Found.TheVariants.{Word, Other}
 
@@ -13,6 +13,6 @@ found_of none = Other
 found_of (some x) = Word x
 
 -- eight digits alone
-abbrev pub eight_of : Pattern → Found
-eight_of (Bits v) = Word (wrap w32 (pos v))
-eight_of Wrong = Other
+abbrev pub eight_of : std.Option ℕ → Found
+eight_of (Some v) = Word (wrap w32 (pos v))
+eight_of None = Other

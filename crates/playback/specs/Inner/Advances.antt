@@ -13,7 +13,7 @@ use Rattle.records.specs.declared.parse.Record.TheVariants.{Sample}
 use Rattle.playback.specs.declared.samples.Found.{Found}
 use Rattle.records.specs.declared.session.Taken.{Taken}
 use Rattle.records.specs.declared.session.Reply.{Reply}
-use Rattle.cic64.specs.declared.state.Cic.{Cic}
+use Rattle.cic.specs.declared.state.Cic.{Cic}
 use Rattle.playback.specs.declared.driver.Replay.{Replay}
 
 -- At a place of l stands a whole line that is the sample x, within the word, and the next line starts at `next`.
@@ -55,7 +55,7 @@ line_room (Reply.Output y) = 24 + length (decimal_of y.told)
 line_room (Reply.Bad f) = 0
 
 -- a place after a block of `x` lines: its filter, and so many lines and outputs more
-abbrev pub after_block : Place → Bool → Cic → ℕ → ℕ → Place
+abbrev pub after_block : Place → Bool → Cic ℤ → ℕ → ℕ → Place
 after_block p wide filter lines outputs = record {
   session = record { opened = true; wide = wide; filter = filter };
   lines = counted_up p.lines lines;

@@ -40,7 +40,7 @@ loop-again c =
     let l : tie.At-loop-i invariant-loop decreases-loop = search in
     let p : tie.Start invariant-loop decreases-loop = search in (
       omega arith,
-      l.loop-i.invariant.1 ∙ wrong_on p.args.line.now l.loop-i.i _ h.loop-i-test.true (sym q.pattern_at-p.ensures ∙ w.in-Bits.is),
+      l.loop-i.invariant.1 ∙ wrong_on p.args.line.now l.loop-i.i _ h.loop-i-test.true (sym q.pattern_at-p.ensures ∙ w.in-Some.is),
     )
 
 returns-2 : tie.Need-returns invariant-loop decreases-loop

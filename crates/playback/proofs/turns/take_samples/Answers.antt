@@ -26,14 +26,14 @@ pub put_outputs-end-requires : goal.put_outputs-end-requires
 put_outputs-end-requires c =
     let a = c.args in
     let g = c.gather-g in
-    let d = c.decimate_block-d in
+    let d = c.decimate_block in
     let enough : g.result.count ≤ length g.new.samples = omega (arith, g.ensures.few, g.auto.samples, c.requires.3) in
     let long8 : length a.r.session.filter.integrators ≡ 8 = search rules in
     let long64 : length a.r.session.filter.combs ≡ 64 = search rules in
     let few = block-few a.r.session.wide a.r.session.filter g.new.samples a.given.now g.result.count
-    enough long8 long64 d.result d.ensures.0 c.in-Outputs.w c.in-Outputs.is in
+    enough long8 long64 d.new.self d.ensures.0 c.in-Ok.w c.in-Ok.ensures.1 in
     let most = block-most a.r.session.wide a.r.session.filter g.new.samples a.given.now g.result.count
-    enough long8 long64 d.result d.ensures.0 c.in-Outputs.w c.in-Outputs.is in
+    enough long8 long64 d.new.self d.ensures.0 c.in-Ok.w c.in-Ok.ensures.1 in
     let ready = all_ready a.r.going a.r.session.opened a.r.len (sym c.ready.ensures ∙ c.if-not-ready.false) in
     let fits = c.requires.2.fits ready.0 in (
       most,
@@ -45,9 +45,9 @@ pub returns : goal.returns
 returns c =
     let a = c.args in
     let g = c.gather-g in
-    let d = c.decimate_block-d in
+    let d = c.decimate_block in
     let p = c.put_outputs-end in
-    let w = c.in-Outputs.w in
+    let w = c.in-Ok.w in
     let enough : g.result.count ≤ length g.new.samples = omega (arith, g.ensures.few, g.auto.samples, c.requires.3) in
     let long8 : length a.r.session.filter.integrators ≡ 8 = search rules in
     let long64 : length a.r.session.filter.combs ≡ 64 = search rules in
@@ -55,8 +55,8 @@ returns c =
     let outs : a.r.outputs ≤ 18446744073709551615 = search rules in
     let ready = all_ready a.r.going a.r.session.opened a.r.len (sym c.ready.ensures ∙ c.if-not-ready.false) in
     turn_block a.r.session.wide a.r.session.filter g.new.samples a.given.now g.result.count enough long8 long64
-    d.result d.ensures.0 w c.in-Outputs.is
+    d.new.self d.ensures.0 w c.in-Ok.ensures.1
     a.r refl refl a.input.now a.out.now a.from a.at ready.1 ready.0 ready.2 lines outs c.requires.2 g.result.next g.ensures
     c.after_block.result c.after_block.ensures.0 c.after_block.ensures.1 p.result p.new.out p.auto.out
-    (wrote-same (ap (λ (l : List ℤ). output_lines a.r.session.wide w.told (take w.count l)) d.ensures.1) p.ensures.0)
+    (wrote-same (ap (λ (l : List ℤ). output_lines a.r.session.wide w.told (take w.count l)) d.ensures.2) p.ensures.0)
     p.ensures.1

@@ -1,21 +1,21 @@
--- By what the step answered, with its sample and output read back from their bits.
+-- By what the step answered, with its sample read back from its bits.
 use Rattle.std.proofs.Common.{◌∙◌, w64}
+use Rattle.std.specs.Prelude.{None}
 use mir.ValLaws.{to_z-of_z}
-use Rattle.records.proofs.Taking.{step_given_law, step-none, step-refused}
+use Rattle.records.proofs.Taking.{step-taken, step-refused}
 use Rattle.records.proofs.session.take_sample.Goals as goal
 
-pub returns-in-Given : goal.returns-in-Given
-returns-in-Given c =
-    let a = c.args in let d = c.decimate-t in let e = to_z-of_z w64 a.x c.ranges.x in
-    (rw c.output_in.ensures at c.with_filter.ensures)
-    ∙ step_given_law a.s a.x d.result (rw e at d.ensures) c.in-Given.y c.in-Given.is
+pub returns-in-Ok-Some : goal.returns-in-Ok-Some
+returns-in-Ok-Some c =
+    let a = c.args in let e = to_z-of_z w64 a.x c.ranges.x in let i = c.in-Ok-Some in let h = rw (i.field-0-is, e) at i.ensures in
+    (rw c.output_in.ensures at c.with_filter.ensures) ∙ step-taken a.s a.x c.decimate.new.self h.0 _ h.1
 
-pub returns-in-Nothing : goal.returns-in-Nothing
-returns-in-Nothing c =
-    let a = c.args in let d = c.decimate-t in let e = to_z-of_z w64 a.x c.ranges.x in
-    c.with_filter-in-Nothing.ensures ∙ step-none a.s a.x d.result (rw e at d.ensures) c.in-Nothing.is
+pub returns-in-Ok-None : goal.returns-in-Ok-None
+returns-in-Ok-None c =
+    let a = c.args in let e = to_z-of_z w64 a.x c.ranges.x in let i = c.in-Ok-None in let h = rw (i.field-0-is, e) at i.ensures in
+    c.with_filter-in-Ok-None.ensures ∙ step-taken a.s a.x c.decimate.new.self h.0 None h.1
 
-pub returns-in-Refused : goal.returns-in-Refused
-returns-in-Refused c =
-    let a = c.args in let d = c.decimate-t in let e = to_z-of_z w64 a.x c.ranges.x in
-    c.refused.ensures ∙ step-refused a.s a.x d.result (rw e at d.ensures) c.in-Refused.number c.in-Refused.is
+pub returns-in-Err : goal.returns-in-Err
+returns-in-Err c =
+    let a = c.args in let e = to_z-of_z w64 a.x c.ranges.x in let h = rw e at c.in-Err.ensures in
+    (rw c.number.ensures at c.refused.ensures) ∙ step-refused a.s a.x c.decimate.new.self c.in-Err.refusal h.1

@@ -1,7 +1,7 @@
 -- Refused, or the words' turns go through the filter's block (Calling).
 use Rattle.std.proofs.Common.{sym}
 use lib.Seq.{length-take-le}
-use Rattle.recorder.proofs.Calling.{take_short, take_out, take-through, front_length}
+use Rattle.recorder.proofs.Calling.{take_short, take_out, take-through}
 use Rattle.recorder.proofs.recorder.Recorder.take.Goals as goal
 
 pub returns-then-turns-n : goal.returns-then-turns-n

@@ -1,0 +1,7 @@
+use Rattle.shape.proofs.Known.{known_refusal}
+use Rattle.capi_questions.proofs.Handed.{tells}
+use Rattle.capi_questions.proofs.mittenload_response_length.Goals as goal
+
+pub returns : goal.returns
+returns c =
+    let a = c.args in tells _ _ _ _ _ c.response_length.result (known_refusal a.order a.delay a.rate a.countdown a.unsettled) c.response_length.ensures c.tell.ensures.1 c.tell.ensures.0

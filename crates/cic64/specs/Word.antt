@@ -1,2 +1,0 @@
--- The word of the steps on lent arrays.
-pub use Rattle.lent64.specs.Word.{width, word_type, word_ops}

@@ -1,3 +1,0 @@
-pub mod Refusals
-pub mod CallRuns
-pub mod Demands

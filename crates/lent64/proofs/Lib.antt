@@ -1,3 +1,0 @@
-pub mod StepCalls
-pub mod BlockCalls
-pub mod OneCell
