@@ -1,20 +1,19 @@
 -- The fresh filters that the exports start from, and the steps that they take one by one.
-use Rattle.std.specs.Prelude.{Bool, List, ℕ, ℤ, pos, replicate, Float}
+use Rattle.std.specs.Prelude.{Bool, List, ℕ, ℤ, pos, replicate, Float, Result, Ok, Err, Option, Some, None}
+use Rattle.std.specs.Int.{w32}
 use Rattle.blocks.specs.Scan.{scan}
 use Rattle.blocks.specs.Blocks.{lengths_number, unless}
-use Rattle.sums.specs.Counted.{new_counted}
-use Rattle.cic.specs.Word.{word_ops}
-use Rattle.cic.specs.Reading.{cic_of}
-use Rattle.cic.specs.Answers.{stepped_of}
+use Rattle.sums.specs.Ops.{Ops}
+use Rattle.sums.specs.Counted.{new_counted, blank_counted, take_state}
+use Rattle.sums.specs.Signed.{signed_ops}
+use Rattle.cic.specs.Reading.{cic_of, counted_of}
 use Rattle.cic.specs.declared.state.Cic.{Cic}
-use Rattle.lent.specs.declared.steps.Out.{Out}
-use Rattle.cic64.specs.Word as Word64
-use Rattle.cic64.specs.Reading as Reading64
-use Rattle.cic64.specs.declared.state.Cic as Wide
+use Rattle.lent.specs.Answers as Lent
+use Rattle.lent.specs.declared.steps.Output.{Output}
 use Rattle.dsm.specs.declared.Dsm.{Dsm}
 use Rattle.dsm.specs.Calls.{order_number, zeros_of}
 use Rattle.wdf.specs.declared.filter.Wdf.{Wdf}
-use Rattle.wdf.specs.Calls.{made_form1}
+use Rattle.wdf.specs.Calls.{sections_number, none, filter}
 use Rattle.biquad.specs.declared.biquad.Biquad.{Biquad}
 use Rattle.biquad.specs.declared.biquad_clamp.BiquadClamp.{BiquadClamp}
 use Rattle.biquad_fixed.specs.declared.coefficients.Biquad as Fixed
@@ -24,7 +23,8 @@ use Rattle.biquad_fixed.specs.declared.dither.DirectForm1Dither.{DirectForm1Dith
 use Rattle.unwrap.specs.declared.clamp_wrap.ClampWrap.{ClampWrap}
 use Rattle.unwrap.specs.declared.unwrapper.Unwrapper.{Unwrapper}
 use Rattle.unwrap.specs.declared.wrapping.Wrap.TheVariants as Wrap
-use Rattle.unwrap.specs.declared.scale.Scaled.{Scaled}
+use Rattle.std.specs.Result.{result_unwrap_or}
+use Rattle.blocks.specs.declared.refusal.Refusal.{Refusal}
 use Rattle.unwrap.specs.Scales.{scaled_of}
 use Rattle.pll.specs.declared.PLL.{PLL}
 use Rattle.pll.specs.declared.PLLState.{PLLState}
@@ -41,23 +41,23 @@ block_left k out next s xs ys = unless (lengths_number k xs ys) ys (scan out nex
 abbrev pub block_left_by : {C S A B : Type 0} → (C → ℕ) → (C → S → A → B) → (C → S → A → S) → C → S → List A → List B → List B
 block_left_by k out next c s xs ys = block_left (k c) (out c) (next c) s xs ys
 
--- Decimator and interpolator.
-abbrev pub fresh_cic : ℕ → ℕ → ℕ → Cic
-fresh_cic order delay rate = cic_of (new_counted word_ops order delay rate)
+-- Decimator and interpolator, of the words that o sums.
+abbrev pub blank_cic : {A : Type 0} → Ops A → Cic A
+blank_cic o = cic_of (blank_counted o)
 
-abbrev pub fresh_cic64 : ℕ → ℕ → ℕ → Wide.Cic
-fresh_cic64 order delay rate = Reading64.cic_of (new_counted Word64.word_ops order delay rate)
+abbrev pub fresh_cic : {A : Type 0} → Ops A → ℕ → ℕ → ℕ → Cic A
+fresh_cic o order delay rate = cic_of (new_counted o order delay rate)
 
-unfoldable pub given_in : Out → ℤ
-given_in (Out.Given y) = y.value
-given_in Out.Nothing = pos 0
-given_in (Out.Refused k) = pos 0
+unfoldable pub given_in : Result (Option (Output ℤ)) Refusal → ℤ
+given_in (Ok (Some y)) = y.value
+given_in (Ok None) = pos 0
+given_in (Err r) = pos 0
 
-abbrev pub step_out : Cic → ℤ → ℤ
-step_out s x = given_in (stepped_of s x).out
+abbrev pub step_out : Cic ℤ → ℤ → ℤ
+step_out s x = given_in (Lent.step_out (signed_ops w32) (counted_of s) x)
 
-abbrev pub step_next : Cic → ℤ → Cic
-step_next s x = (stepped_of s x).state
+abbrev pub step_next : Cic ℤ → ℤ → Cic ℤ
+step_next s x = cic_of (take_state (signed_ops w32) (counted_of s) x)
 
 -- The modulator, which an order above 8 makes as 0 does.
 abbrev pub fresh_dsm : ℕ → Dsm
@@ -65,7 +65,8 @@ fresh_dsm order = unless (order_number order) (zeros_of 0) (zeros_of order)
 
 -- Sections and biquads.
 abbrev pub alike_wdf : ℕ → ℕ → ℤ → Wdf
-alike_wdf sections architecture a = (made_form1 sections architecture (replicate 8 a)).state
+alike_wdf sections architecture a =
+    unless (sections_number sections architecture) none (filter sections architecture (replicate 8 a) (replicate 8 (pos 0)))
 
 abbrev pub float_biquad : Float → Float → Float → Float → Float → Biquad
 float_biquad b0 b1 b2 a1 a2 = record { b0 = b0; b1 = b1; b2 = b2; a1 = a1; a2 = a2 }
@@ -92,9 +93,8 @@ zero_clamp = record { x0 = pos 0; clamp = Wrap.None }
 abbrev pub zero_unwrapper : Unwrapper
 zero_unwrapper = record { y = pos 0 }
 
-unfoldable pub value_in : Scaled → ℤ
-value_in (Scaled.Value y) = y
-value_in (Scaled.Refused k) = pos 0
+abbrev pub value_in : Result ℤ Refusal → ℤ
+value_in r = result_unwrap_or r (pos 0)
 
 abbrev pub scale_out : ℕ → ℤ → ℤ → ℤ
 scale_out shift hi lo = value_in (scaled_of lo hi shift)

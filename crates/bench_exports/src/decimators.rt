@@ -1,36 +1,78 @@
-// Decimator, its plain engine, and interpolator.
-ghost use Rattle.std.specs.Prelude.{◌≡◌, length};
-ghost use Rattle.blocks.specs.Scan.{scan};
+// Decimator and interpolator on words of 32 and of 64 bits, the plain engine, and the decimator's steps one by one.
+ghost use Rattle.std.specs.Prelude.{◌≡◌};
+ghost use Rattle.std.specs.Int.{w32, w64};
 ghost use Rattle.sums.specs.Runs.{fill_out};
 ghost use Rattle.sums.specs.Counted.{block_out};
-ghost use Rattle.cic.specs.Word.{word_ops};
-ghost use Rattle.lent.specs.Reading.{counted};
-ghost use Rattle.cic.specs.Reading.{state_of, counted_of, cic_of, numbers_of};
+ghost use Rattle.sums.specs.Signed.{signed_ops};
+ghost use Rattle.cic.specs.Reading.{state_of, counted_of};
 ghost use Rattle.fir.specs.Calls.{fresh, written_of};
-ghost use Rattle.bench_exports.specs.Fresh.{block_left, fresh_cic, given_in, step_out, step_next};
+ghost use Rattle.bench_exports.specs.Fresh.{block_left, blank_cic, fresh_cic, given_in, step_out, step_next};
+ghost use Rattle.bench_exports.specs.Steps.{step_of, after_step, lent_step_of, after_lent_step, lent_of};
 
+use blocks::{Filter, Refusal};
 use cic::state::Cic;
-use cic::steps::Out;
+use cic::steps::Output;
+use cic::word::Word;
 use fir::Fir;
 use lent::state::LentCic;
+
+// What a filter runs as whose numbers are refused: order 0, each input an output.
+fn blank<W: Word>() -> Cic<W>
+    ensures { result ≡ blank_cic W.ops }
+{
+    Cic {
+        order: 0,
+        delay: 1,
+        rate: 0,
+        countdown: 0,
+        unsettled: 0,
+        inputs: 0,
+        hold: W::zero(),
+        integrators: [W::zero(); 8],
+        combs: [W::zero(); 64],
+    }
+}
+
+// A filter before its first input.
+fn fresh<W: Word>(order: usize, delay: usize, rate: u32) -> Cic<W>
+    ensures { result ≡ fresh_cic W.ops order delay rate }
+{
+    Cic::new(order, delay, rate).unwrap_or(blank())
+}
+
+fn decimate<W: Word>(order: usize, delay: usize, rate: u32, xs: &[W], ys: &mut [W])
+    ensures { ys.new ≡ block_out W.ops (counted_of (fresh_cic W.ops order delay rate)) xs.now ys.old }
+{
+    let mut filter = fresh::<W>(order, delay, rate);
+    let _wrote = filter.decimate_block(xs, ys);
+}
+
+fn interpolate<W: Word>(order: usize, delay: usize, rate: u32, xs: &[W], ys: &mut [W])
+    ensures { ys.new ≡ fill_out W.ops (state_of (fresh_cic W.ops order delay rate)) xs.now ys.old }
+{
+    let mut filter = fresh::<W>(order, delay, rate);
+    let _read = filter.interpolate_block(xs, ys);
+}
 
 // A decimator's block.
 #[unsafe(no_mangle)]
 pub extern "C" fn bench_decimate(order: usize, delay: usize, rate: u32, xs: &[i32], ys: &mut [i32])
-    ensures { ys.new ≡ block_out word_ops (counted_of (fresh_cic order delay rate)) xs.now ys.old }
+    ensures { ys.new ≡ block_out (signed_ops w32) (counted_of (fresh_cic (signed_ops w32) order delay rate)) xs.now ys.old }
 {
-    let made = Cic::new(order, delay, rate);
-    let filter = made.state;
-    filter.decimate_block(xs, ys);
+    decimate(order, delay, rate, xs, ys);
 }
 
-// The plain engine's block.
 #[unsafe(no_mangle)]
-pub extern "C" fn bench_fir(xs: &[i32], ys: &mut [i32])
-    ensures { ys.new ≡ written_of fresh xs.now ys.old }
+pub extern "C" fn bench_decimate64(
+    order: usize,
+    delay: usize,
+    rate: u32,
+    xs: &[i64],
+    ys: &mut [i64],
+)
+    ensures { ys.new ≡ block_out (signed_ops w64) (counted_of (fresh_cic (signed_ops w64) order delay rate)) xs.now ys.old }
 {
-    let engine = Fir::new();
-    engine.decimate_block(xs, ys);
+    decimate(order, delay, rate, xs, ys);
 }
 
 // An interpolator's block.
@@ -42,98 +84,117 @@ pub extern "C" fn bench_interpolate(
     xs: &[i32],
     ys: &mut [i32],
 )
-    ensures { ys.new ≡ fill_out word_ops (state_of (fresh_cic order delay rate)) xs.now ys.old }
+    ensures { ys.new ≡ fill_out (signed_ops w32) (state_of (fresh_cic (signed_ops w32) order delay rate)) xs.now ys.old }
 {
-    let made = Cic::new(order, delay, rate);
-    let filter = made.state;
-    filter.interpolate_block(xs, ys);
+    interpolate(order, delay, rate, xs, ys);
+}
+
+#[unsafe(no_mangle)]
+pub extern "C" fn bench_interpolate64(
+    order: usize,
+    delay: usize,
+    rate: u32,
+    xs: &[i64],
+    ys: &mut [i64],
+)
+    ensures { ys.new ≡ fill_out (signed_ops w64) (state_of (fresh_cic (signed_ops w64) order delay rate)) xs.now ys.old }
+{
+    interpolate(order, delay, rate, xs, ys);
+}
+
+// The plain engine's block.
+#[unsafe(no_mangle)]
+pub extern "C" fn bench_fir(xs: &[i32], ys: &mut [i32])
+    ensures { ys.new ≡ written_of fresh xs.now ys.old }
+{
+    let engine = Fir::new();
+    engine.decimate_block(xs, ys);
 }
 
 // What a step gives, or 0.
 #[tactic(auto, unfolding(crate::specs::Fresh::given_in))]
-fn given(out: Out) -> i32
+fn given(out: Result<Option<Output<i32>>, Refusal>) -> i32
     ensures { result ≡ given_in out }
 {
     match out {
-        Out::Given(y) => y.value,
-        Out::Nothing => 0,
-        Out::Refused(_) => 0,
+        Ok(Some(y)) => y.value,
+        Ok(None) | Err(_) => 0,
     }
 }
 
-// A decimator's steps, each by itself: where one gives nothing, 0 is written.
-fn step_all(s: Cic, xs: &[i32], ys: &mut [i32])
-    requires { length xs.now ≡ length ys.old }
-    ensures { ys.new ≡ scan step_out step_next s xs.now }
+// A decimator whose step gives 0 where no output comes.
+#[derive(Clone, Copy)]
+struct Steps {
+    filter: Cic<i32>,
+}
+
+impl Filter for Steps {
+    type Input = i32;
+
+    type Output = i32;
+
+    ghost gives = { step_of };
+
+    ghost after = { after_step };
+
+    fn process(&mut self, x: i32) -> i32 {
+        given(self.filter.decimate(x))
+    }
+}
+
+// The same on arrays that stand beside its numbers.
+#[derive(Clone, Copy)]
+struct LentSteps {
+    numbers: LentCic<i32>,
+    integrators: [i32; 8],
+    combs: [i32; 64],
+}
+
+impl Filter for LentSteps {
+    type Input = i32;
+
+    type Output = i32;
+
+    ghost gives = { lent_step_of };
+
+    ghost after = { after_lent_step };
+
+    fn process(&mut self, x: i32) -> i32 {
+        let out = self.numbers.decimate(&mut self.integrators, &mut self.combs, x);
+        given(out)
+    }
+}
+
+fn lent(s: Cic<i32>) -> LentSteps
+    ensures { result ≡ lent_of s }
 {
-    let mut t = s;
-    let mut i: usize = 0;
-    while i < xs.len() {
-        let step = t.decimate(xs[i]);
-        let out = step.out;
-        let y = given(out);
-        ys[i] = y;
-        let next = step.state;
-        t = next;
-        i += 1;
+    LentSteps {
+        numbers: LentCic {
+            order: s.order,
+            delay: s.delay,
+            rate: s.rate,
+            countdown: s.countdown,
+            unsettled: s.unsettled,
+            inputs: s.inputs,
+            hold: s.hold,
+        },
+        integrators: s.integrators,
+        combs: s.combs,
     }
 }
 
-// The same from a fresh filter; where the slices differ in length nothing is written.
+// A decimator's steps, each by itself; where the slices differ in length nothing is written.
 #[unsafe(no_mangle)]
 pub extern "C" fn bench_steps(order: usize, delay: usize, rate: u32, xs: &[i32], ys: &mut [i32])
-    ensures { ys.new ≡ block_left 0 step_out step_next (fresh_cic order delay rate) xs.now ys.old }
+    ensures { ys.new ≡ block_left 0 step_out step_next (fresh_cic (signed_ops w32) order delay rate) xs.now ys.old }
 {
-    if xs.len() != ys.len() {
-        return;
-    }
-    let made = Cic::new(order, delay, rate);
-    let filter = made.state;
-    step_all(filter, xs, ys);
-}
-
-// All of a filter but its arrays.
-fn numbers(s: Cic) -> LentCic
-    ensures { result ≡ numbers_of s }
-{
-    LentCic {
-        order: s.order,
-        delay: s.delay,
-        rate: s.rate,
-        countdown: s.countdown,
-        unsettled: s.unsettled,
-        inputs: s.inputs,
-        hold: s.hold,
-    }
+    let mut steps = Steps {
+        filter: fresh(order, delay, rate),
+    };
+    let _ran = blocks::block(&mut steps, xs, ys);
 }
 
 // The steps on lent arrays.
-fn lent_all(
-    first: LentCic,
-    integrators: &mut [i32; 8],
-    combs: &mut [i32; 64],
-    xs: &[i32],
-    ys: &mut [i32],
-)
-    requires { length xs.now ≡ length ys.old }
-    ensures { ys.new
-        ≡ scan step_out step_next (cic_of (counted first integrators.old combs.old)) xs.now }
-{
-    let mut t = first;
-    let mut i: usize = 0;
-    while i < xs.len() {
-        let x = xs[i];
-        let step = t.decimate(integrators, combs, x);
-        let out = step.out;
-        let y = given(out);
-        ys[i] = y;
-        let next = step.numbers;
-        t = next;
-        i += 1;
-    }
-}
-
-// The same from a fresh filter, whose arrays stand here.
 #[unsafe(no_mangle)]
 pub extern "C" fn bench_lent_steps(
     order: usize,
@@ -142,14 +203,8 @@ pub extern "C" fn bench_lent_steps(
     xs: &[i32],
     ys: &mut [i32],
 )
-    ensures { ys.new ≡ block_left 0 step_out step_next (fresh_cic order delay rate) xs.now ys.old }
+    ensures { ys.new ≡ block_left 0 step_out step_next (fresh_cic (signed_ops w32) order delay rate) xs.now ys.old }
 {
-    if xs.len() != ys.len() {
-        return;
-    }
-    let made = Cic::new(order, delay, rate);
-    let filter = made.state;
-    let mut integrators = filter.integrators;
-    let mut combs = filter.combs;
-    lent_all(numbers(filter), &mut integrators, &mut combs, xs, ys);
+    let mut steps = lent(fresh(order, delay, rate));
+    let _ran = blocks::block(&mut steps, xs, ys);
 }

@@ -38,9 +38,8 @@ pub extern "C" fn bench_wdf(sections: usize, architecture: u32, a: i32, xs: &[i3
     ensures { ys.new ≡ block_left (number (alike_wdf sections architecture a)) answer next (alike_wdf sections architecture a)
         xs.now ys.old }
 {
-    let made = Wdf::from_form1(sections, architecture, [a; 8]);
-    let filter = made.state;
-    filter.block(xs, ys);
+    let mut filter = Wdf::from_form1(sections, architecture, [a; 8]).unwrap_or(Wdf::EMPTY);
+    let _ran = filter.block(xs, ys);
 }
 
 // Blocks of the biquads, from a state of zeros.
@@ -182,14 +181,14 @@ pub extern "C" fn bench_wide(
     ensures { ys.new ≡ block_left_by (fraction_number 0) wide_out wide_next (word_biquad b0 b1 b2 a1 a2 f) zero_wide
         xs.now ys.old }
 {
-    let state = DirectForm1Wide {
+    let mut state = DirectForm1Wide {
         x1: 0,
         x2: 0,
         y1: 0,
         y2: 0,
     };
     let coeff = coefficients(b0, b1, b2, a1, a2, f);
-    state.block(coeff, xs, ys);
+    let _ran = state.block(coeff, xs, ys);
 }
 
 #[unsafe(no_mangle)]
@@ -206,7 +205,7 @@ pub extern "C" fn bench_dither(
     ensures { ys.new ≡ block_left_by (fraction_number 1) dither_out dither_next (word_biquad b0 b1 b2 a1 a2 f) zero_dither
         xs.now ys.old }
 {
-    let state = DirectForm1Dither {
+    let mut state = DirectForm1Dither {
         x1: 0,
         x2: 0,
         y1: 0,
@@ -214,7 +213,7 @@ pub extern "C" fn bench_dither(
         e: 0,
     };
     let coeff = coefficients(b0, b1, b2, a1, a2, f);
-    state.block(coeff, xs, ys);
+    let _ran = state.block(coeff, xs, ys);
 }
 
 #[unsafe(no_mangle)]
@@ -234,7 +233,7 @@ pub extern "C" fn bench_wide_clamp(
     ensures { ys.new ≡ block_left_by (clamp_number 0) wide_held wide_onward
         (word_clamp (word_biquad b0 b1 b2 a1 a2 f) u min max) zero_wide xs.now ys.old }
 {
-    let state = DirectForm1Wide {
+    let mut state = DirectForm1Wide {
         x1: 0,
         x2: 0,
         y1: 0,
@@ -262,7 +261,7 @@ pub extern "C" fn bench_dither_clamp(
     ensures { ys.new ≡ block_left_by (clamp_number 1) dither_held dither_onward
         (word_clamp (word_biquad b0 b1 b2 a1 a2 f) u min max) zero_dither xs.now ys.old }
 {
-    let state = DirectForm1Dither {
+    let mut state = DirectForm1Dither {
         x1: 0,
         x2: 0,
         y1: 0,

@@ -4,6 +4,5 @@
 #![tactic(auto)]
 
 pub mod decimators;
-pub mod decimators64;
 pub mod filters;
 pub mod words_and_loops;

@@ -4,12 +4,12 @@ ghost use Rattle.blocks.specs.Scan.{scan};
 ghost use Rattle.unwrap.specs.Phases.{clamp_out, clamp_next, step_of, grown};
 ghost use Rattle.pll.specs.Loops.{tracked_phase, tracked_next};
 ghost use Rattle.bench_exports.specs.Fresh.{block_left, block_left_by, zero_clamp, zero_unwrapper, zero_pll, loop_of, configured};
-ghost use Rattle.bench_exports.specs.Fresh.{phases_left, frequencies_left, value_in, scale_out, scale_next};
+ghost use Rattle.bench_exports.specs.Fresh.{phases_left, frequencies_left, scale_out, scale_next};
 
 use pll::{PLL, PLLState};
 use rpll::{RPLL, RPLLConfig};
 use unwrap::clamp_wrap::ClampWrap;
-use unwrap::scale::{Scaled, saturating_scale};
+use unwrap::scale::saturating_scale;
 use unwrap::unwrapper::Unwrapper;
 use unwrap::wrapping::Wrap;
 
@@ -28,7 +28,8 @@ fn unclamped_wrap() -> ClampWrap
 pub extern "C" fn bench_clamp_wrap(xs: &[i32], ys: &mut [i32])
     ensures { ys.new ≡ block_left 0 clamp_out clamp_next zero_clamp xs.now ys.old }
 {
-    unclamped_wrap().block(xs, ys);
+    let mut state = unclamped_wrap();
+    let _ = state.block(xs, ys);
 }
 
 // An unwrapper's block.
@@ -36,7 +37,8 @@ pub extern "C" fn bench_clamp_wrap(xs: &[i32], ys: &mut [i32])
 pub extern "C" fn bench_unwrapper(xs: &[i32], ys: &mut [i32])
     ensures { ys.new ≡ block_left 0 step_of grown zero_unwrapper xs.now ys.old }
 {
-    Unwrapper { y: 0 }.block(xs, ys);
+    let mut state = Unwrapper { y: 0 };
+    let _ = state.block(xs, ys);
 }
 
 // A loop's coefficients.
@@ -52,16 +54,15 @@ pub extern "C" fn bench_pll(b0: i32, b1: i32, a1: i32, xs: &[i32], ys: &mut [i32
     ensures { ys.new ≡ block_left_by (λ p. 0) tracked_phase tracked_next (loop_of b0 b1 a1) zero_pll
         xs.now ys.old }
 {
-    let clamp = unclamped_wrap();
-    let state = PLLState {
-        clamp,
+    let mut state = PLLState {
+        clamp: unclamped_wrap(),
         z0: 0,
         y0: 0,
         f0: 0,
         f: 0,
         y: 0,
     };
-    lead_lag(b0, b1, a1).block(state, xs, ys);
+    let _ = lead_lag(b0, b1, a1).block(&mut state, xs, ys);
 }
 
 // A reciprocal loop's block.
@@ -85,36 +86,21 @@ pub extern "C" fn bench_rpll(
         shift_frequency: frequency,
         shift_phase: lock,
     };
-    let state = RPLL {
+    let mut state = RPLL {
         x: 0,
         ff: 0,
         f: 0,
         y: 0,
     };
-    config.block(state, there, xs, ys, fs);
-}
-
-// The value, or 0.
-#[tactic(auto, unfolding(crate::specs::Fresh::value_in))]
-fn value(s: Scaled) -> i32
-    ensures { result ≡ value_in s }
-{
-    match s {
-        Scaled::Value(y) => y,
-        Scaled::Refused(_) => 0,
-    }
+    let _ = config.block(&mut state, there, xs, ys, fs);
 }
 
 fn scale_all(hi: i32, shift: u32, xs: &[i32], ys: &mut [i32])
     requires { length xs.now ≡ length ys.old }
     ensures { ys.new ≡ scan (scale_out shift) scale_next hi xs.now }
 {
-    let mut i: usize = 0;
-    while i < xs.len() {
-        let scaled = saturating_scale(xs[i], hi, shift);
-        let y = value(scaled);
-        ys[i] = y;
-        i += 1;
+    for (i, &x) in xs.iter().enumerate() {
+        ys[i] = saturating_scale(x, hi, shift).unwrap_or(0);
     }
 }
 

@@ -94,6 +94,7 @@ impl Coefficients for BiquadClamp {
 }
 
 // The lower limit where y is below it, else the upper where y is above it, else y: so a NaN passes.
+// Kept: `f64::clamp` asks that the limits are in order, and `limited` is for any.
 #[tactic(auto, unfolding(crate::specs::Forms::clamp_to))]
 fn clamp(y: f64, min: f64, max: f64) -> f64
     ensures { result ≡ clamp_to min max y }

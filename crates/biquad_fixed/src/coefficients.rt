@@ -104,6 +104,7 @@ impl Coefficients for BiquadClamp {
 }
 
 // The lower limit where y is below it, else the upper where y is above it, else y.
+// Kept: `i32::clamp` asks that the limits are in order, and `limit` is for any.
 fn clamp(y: i32, min: i32, max: i32) -> i32
     ensures { result ≡ held_to min max y }
 {

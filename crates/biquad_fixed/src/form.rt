@@ -1,5 +1,6 @@
 // What the wide and the dithered form have in common, plain and clamped: a step and a block of steps, refused by the
 // coefficients' number.
+// Kept: crate `biquad` has a form of its own. A turn asks for accepted coefficients here, and no public trait's method may ask.
 ghost use Rattle.std.specs.Prelude.{◌≡◌, ℕ, ℤ, length};
 ghost use Rattle.blocks.specs.Blocks.{Blocked, Ran, unless};
 ghost use Rattle.blocks.specs.Refusals.{answer};

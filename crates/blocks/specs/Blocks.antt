@@ -1,5 +1,5 @@
 -- A one-to-one block call: its refusals, its state and every element of the slice that is lent to it.
-use Rattle.std.specs.Prelude.{◌≡◌, cond, List, ℕ, eqb, length, Result}
+use Rattle.std.specs.Prelude.{◌≡◌, cond, List, ◌++◌, ℕ, eqb, length, take, drop, Result}
 use Rattle.blocks.specs.declared.refusal.Refusal.{Refusal}
 use Rattle.blocks.specs.Refusals.{answer}
 use Rattle.blocks.specs.Scan.{scan, ends}
@@ -15,6 +15,11 @@ unless k stays comes = cond (eqb k 0) comes stays
 -- The steps from s over xs, one after the other, end in the state t and give zs.
 abbrev pub Ran : {S A B : Type 0} → (S → A → B) → (S → A → S) → S → List A → S → List B → Type 0
 Ran out next s xs t zs = (t ≡ ends out next s xs) × (zs ≡ scan out next s xs)
+
+-- The steps go on as long as there is an input and a place for its output; what is left of the lent slice stays.
+pub record Fed {S A B : Type 0} (out : S → A → B) (next : S → A → S) (s : S) (xs : List A) (ys : List B) (t : S) (zs : List B) : Type 0 where
+  pub state : t ≡ ends out next s (take (length ys) xs)
+  pub written : zs ≡ scan out next s (take (length ys) xs) ++ drop (length xs) ys
 
 -- The call on state s, inputs xs and lent slice ys leaves the state t, answers r and leaves zs in the slice.
 -- k is the filter's own refusal. A refused block leaves the state and writes nothing.

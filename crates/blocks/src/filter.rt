@@ -1,6 +1,6 @@
 // A filter that takes an input a step and gives an output a step, and its block: what its steps in turn would give.
-ghost use Rattle.std.specs.Prelude.{◌≡◌, length};
-ghost use Rattle.blocks.specs.Blocks.{Ran, Blocked};
+ghost use Rattle.std.specs.Prelude.{◌≡◌};
+ghost use Rattle.blocks.specs.Blocks.{Fed, Blocked};
 
 use crate::refusal::Refusal;
 
@@ -18,17 +18,17 @@ pub trait Filter {
         ensures { (result ≡ gives self.old x) × (self.new ≡ after self.old x) };
 }
 
-// The steps over xs in turn: writes their outputs.
+// The steps over xs in turn, as long as ys has a place for what each gives; the rest of ys stays.
 pub fn run<F: Filter>(filter: &mut F, xs: &[F::Input], ys: &mut [F::Output])
-    requires { length xs.now ≡ length ys.old }
-    ensures { Ran F.gives F.after filter.old xs.now filter.new ys.new }
+    ensures { Fed F.gives F.after filter.old xs.now ys.old filter.new ys.new }
 {
-    for (i, &x) in xs.iter().enumerate() {
+    let count = xs.len().min(ys.len());
+    for (i, &x) in xs[..count].iter().enumerate() {
         ys[i] = filter.process(x);
     }
 }
 
-// The same where the slices may differ in length: then it is refused, and nothing changes.
+// The steps over all of xs, with a place in ys for each output. Where the slices differ in length it is refused, and nothing changes.
 pub fn block<F: Filter>(
     filter: &mut F,
     xs: &[F::Input],

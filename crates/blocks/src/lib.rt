@@ -8,7 +8,7 @@ mod filter;
 mod refusal;
 
 pub use filter::{Filter, block, run};
-pub use refusal::Refusal;
+pub use refusal::{Refusal, number};
 
 // Whether a call was done, or the number of its refusal.
 #[derive(Clone, Copy)]

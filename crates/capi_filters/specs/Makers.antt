@@ -1,48 +1,45 @@
 -- What makers and questions leave in the lent fields and answer: the number of a refusal, or 0. A refused call leaves everything as it was, and
 -- so does a refused maker, which has a filter of its caller's to leave.
-use Rattle.std.specs.Prelude.{cond, ◌≡◌, ℕ, eqb, ℤ, Float}
+use Rattle.std.specs.Prelude.{cond, ◌≡◌, ℕ, eqb, replicate, ℤ, pos, Float, Result, Ok, Err}
+use Rattle.std.specs.Result.{result_unwrap_or}
+use Rattle.blocks.specs.declared.refusal.Refusal.{Refusal}
+use Rattle.blocks.specs.Refusals.{number_in}
 use Rattle.blocks.specs.Blocks.{unless}
 use Rattle.dsm.specs.declared.Dsm.{Dsm}
 use Rattle.dsm.specs.declared.OutputRange.{OutputRange}
 use Rattle.dsm.specs.Calls.{order_number, zeros_of, range_of}
 use Rattle.wdf.specs.declared.filter.Wdf.{Wdf}
-use Rattle.adapters.specs.declared.quantize.Quantized.{Quantized}
 use Rattle.adapters.specs.Adapters.{code_of}
-use Rattle.wdf.specs.Calls.{made_unless}
+use Rattle.wdf.specs.Calls.{filter}
 use Rattle.adapters.specs.Quantize.{quantized}
 use Rattle.biquad.specs.declared.pair.Pair.{Pair}
 use Rattle.biquad.specs.declared.pair.Pair.TheVariants.{Real, Complex}
 use Rattle.biquad.specs.declared.biquad_clamp.BiquadClamp.{BiquadClamp}
-use Rattle.biquad.specs.declared.biquad_clamp.Answer.{Answer}
 use Rattle.biquad.specs.Answers.{offset_of}
 
-unfoldable pub range_number : OutputRange → ℕ
-range_number (OutputRange.Between low high) = 0
-range_number (OutputRange.Refused k) = k
+-- the number of a refusal, or 0; and what a call gave, or what stood there
+abbrev pub range_number : Result OutputRange Refusal → ℕ
+range_number r = number_in r
 
-unfoldable pub least_or : OutputRange → ℤ → ℤ
-least_or (OutputRange.Between low high) old = low
-least_or (OutputRange.Refused k) old = old
+abbrev pub least_or : Result OutputRange Refusal → ℤ → ℤ
+least_or (Ok range) old = range.least
+least_or (Err refusal) old = old
 
-unfoldable pub greatest_or : OutputRange → ℤ → ℤ
-greatest_or (OutputRange.Between low high) old = high
-greatest_or (OutputRange.Refused k) old = old
+abbrev pub greatest_or : Result OutputRange Refusal → ℤ → ℤ
+greatest_or (Ok range) old = range.greatest
+greatest_or (Err refusal) old = old
 
-unfoldable pub quantized_number : Quantized → ℕ
-quantized_number (Quantized.Bits b) = 0
-quantized_number (Quantized.Refused k) = k
+abbrev pub quantized_number : Result ℤ Refusal → ℕ
+quantized_number q = number_in q
 
-unfoldable pub bits_or : Quantized → ℤ → ℤ
-bits_or (Quantized.Bits b) old = b
-bits_or (Quantized.Refused k) old = old
+abbrev pub bits_or : Result ℤ Refusal → ℤ → ℤ
+bits_or q old = result_unwrap_or q old
 
-unfoldable pub offset_number : Answer → ℕ
-offset_number (Answer.Value v) = 0
-offset_number (Answer.Refused k) = k
+abbrev pub offset_number : Result Float Refusal → ℕ
+offset_number a = number_in a
 
-unfoldable pub offset_or : Answer → Float → Float
-offset_or (Answer.Value v) old = v
-offset_or (Answer.Refused k) old = old
+abbrev pub offset_or : Result Float Refusal → Float → Float
+offset_or a old = result_unwrap_or a old
 
 -- real roots by 0, a complex pair by any other number
 unfoldable pub pair_at : ℕ → Float → Float → Pair
@@ -60,7 +57,7 @@ pub record Ranges (s : Dsm) (low high low' high' : ℤ) (r : ℕ) : Type 0 where
 -- The maker takes what stands in the fields as given, unless the number k refuses it.
 pub record MakesWdf (k : ℕ) (s t : Wdf) (r : ℕ) : Type 0 where
   pub answer : r ≡ k
-  pub filter : t ≡ unless k s (made_unless k s.sections s.architecture s.a).state
+  pub filter : t ≡ unless k s (filter s.sections s.architecture s.a (replicate 8 (pos 0)))
 
 pub record Quantizes (nibble : ℕ) (g : Float) (b b' : ℤ) (r : ℕ) : Type 0 where
   pub answer : r ≡ quantized_number (quantized (code_of nibble) g)

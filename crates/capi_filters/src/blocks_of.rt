@@ -1,7 +1,5 @@
 // Blocks, one output for each input; a block of one is a step. Coefficients and state are lent field by field. Each answers the number of
 // its refusal, or 0; a refused block leaves all that is lent as it was.
-ghost use Rattle.blocks.specs.Verdicts.{verdict_of};
-ghost use Rattle.blocks.specs.Blocks.{Blocked};
 ghost use Rattle.unwrap.specs.Phases.{step_of, grown};
 ghost use Rattle.wdf.specs.Calls.{number, answer, next};
 ghost use Rattle.biquad.specs.Forms.{sum1, next1, held1, onward1, sum2, next2, held2, onward2};
@@ -9,26 +7,25 @@ ghost use Rattle.biquad.specs.Answers.{limit_number};
 ghost use Rattle.biquad_fixed.specs.Forms.{wide_out, wide_next, wide_held, wide_onward};
 ghost use Rattle.biquad_fixed.specs.Forms.{dither_out, dither_next, dither_held, dither_onward};
 ghost use Rattle.biquad_fixed.specs.Answers.{fraction_number, clamp_number};
-ghost use Rattle.capi_filters.specs.Answers.{Modulates};
+ghost use Rattle.capi_filters.specs.Answers.{Leaves, Modulates};
 ghost use Rattle.capi_filters.specs.States.{unwrapper_at, wdf_at, dsm_at, df1_at, df2t_at, wide_at, dither_at};
 ghost use Rattle.capi_filters.specs.States.{float_at, float_clamp_at, word_at, word_clamp_at};
 
 use crate::states::{
     df1_in, df1_out, df2t_in, df2t_out, dither_in, dither_out, dsm_in, dsm_out, float_clamp_in,
-    float_in, number, unwrapper_in, unwrapper_out, wdf_in, wdf_out, wide_in, wide_out,
-    word_clamp_in, word_in,
+    float_in, unwrapper_in, unwrapper_out, wdf_in, wdf_out, wide_in, wide_out, word_clamp_in,
+    word_in,
 };
+use blocks::number;
 
 #[unsafe(no_mangle)]
 pub extern "C" fn mittenload_unwrapper(y: &mut i64, input: &[i32], out: &mut [i32]) -> u32
-    ensures { Blocked 0 step_of grown (unwrapper_at y.old) input.now out.old (unwrapper_at y.new) (verdict_of result) out.new }
+    ensures { Leaves 0 step_of grown (unwrapper_at y.old) input.now out.old (unwrapper_at y.new) result out.new }
 {
-    let state = unwrapper_in(y);
-    let block = state.block(input, out);
-    let verdict = block.verdict;
-    let next = block.state;
-    unwrapper_out(next, y);
-    number(verdict)
+    let mut state = unwrapper_in(y);
+    let done = state.block(input, out);
+    unwrapper_out(state, y);
+    number(done)
 }
 
 #[unsafe(no_mangle)]
@@ -40,14 +37,12 @@ pub extern "C" fn mittenload_wdf(
     input: &[i32],
     out: &mut [i32],
 ) -> u32
-    ensures { Blocked (number (wdf_at sections.old architecture.old a.old z.old)) answer next (wdf_at sections.old architecture.old a.old z.old) input.now out.old (wdf_at sections.new architecture.new a.new z.new) (verdict_of result) out.new }
+    ensures { Leaves (number (wdf_at sections.old architecture.old a.old z.old)) answer next (wdf_at sections.old architecture.old a.old z.old) input.now out.old (wdf_at sections.new architecture.new a.new z.new) result out.new }
 {
-    let state = wdf_in(sections, architecture, a, z);
-    let block = state.block(input, out);
-    let verdict = block.verdict;
-    let next = block.state;
-    wdf_out(next, sections, architecture, a, z);
-    number(verdict)
+    let mut state = wdf_in(sections, architecture, a, z);
+    let done = state.block(input, out);
+    wdf_out(state, sections, architecture, a, z);
+    number(done)
 }
 
 #[unsafe(no_mangle)]
@@ -64,15 +59,13 @@ pub extern "C" fn mittenload_df1(
     input: &[f64],
     out: &mut [f64],
 ) -> u32
-    ensures { Blocked 0 (sum1 (float_at b0.now b1.now b2.now a1.now a2.now)) (next1 (float_at b0.now b1.now b2.now a1.now a2.now)) (df1_at x1.old x2.old y1.old y2.old) input.now out.old (df1_at x1.new x2.new y1.new y2.new) (verdict_of result) out.new }
+    ensures { Leaves 0 (sum1 (float_at b0.now b1.now b2.now a1.now a2.now)) (next1 (float_at b0.now b1.now b2.now a1.now a2.now)) (df1_at x1.old x2.old y1.old y2.old) input.now out.old (df1_at x1.new x2.new y1.new y2.new) result out.new }
 {
     let coeff = float_in(b0, b1, b2, a1, a2);
-    let state = df1_in(x1, x2, y1, y2);
-    let block = state.block(coeff, input, out);
-    let verdict = block.verdict;
-    let next = block.state;
-    df1_out(next, x1, x2, y1, y2);
-    number(verdict)
+    let mut state = df1_in(x1, x2, y1, y2);
+    let done = state.block(coeff, input, out);
+    df1_out(state, x1, x2, y1, y2);
+    number(done)
 }
 
 #[unsafe(no_mangle)]
@@ -92,15 +85,13 @@ pub extern "C" fn mittenload_df1_clamp(
     input: &[f64],
     out: &mut [f64],
 ) -> u32
-    ensures { Blocked (limit_number (float_clamp_at b0.now b1.now b2.now a1.now a2.now u.now min.now max.now)) (held1 (float_clamp_at b0.now b1.now b2.now a1.now a2.now u.now min.now max.now)) (onward1 (float_clamp_at b0.now b1.now b2.now a1.now a2.now u.now min.now max.now)) (df1_at x1.old x2.old y1.old y2.old) input.now out.old (df1_at x1.new x2.new y1.new y2.new) (verdict_of result) out.new }
+    ensures { Leaves (limit_number (float_clamp_at b0.now b1.now b2.now a1.now a2.now u.now min.now max.now)) (held1 (float_clamp_at b0.now b1.now b2.now a1.now a2.now u.now min.now max.now)) (onward1 (float_clamp_at b0.now b1.now b2.now a1.now a2.now u.now min.now max.now)) (df1_at x1.old x2.old y1.old y2.old) input.now out.old (df1_at x1.new x2.new y1.new y2.new) result out.new }
 {
     let coeff = float_clamp_in(b0, b1, b2, a1, a2, u, min, max);
-    let state = df1_in(x1, x2, y1, y2);
-    let block = state.block_clamp(coeff, input, out);
-    let verdict = block.verdict;
-    let next = block.state;
-    df1_out(next, x1, x2, y1, y2);
-    number(verdict)
+    let mut state = df1_in(x1, x2, y1, y2);
+    let done = state.block_clamp(coeff, input, out);
+    df1_out(state, x1, x2, y1, y2);
+    number(done)
 }
 
 #[unsafe(no_mangle)]
@@ -115,15 +106,13 @@ pub extern "C" fn mittenload_df2t(
     input: &[f64],
     out: &mut [f64],
 ) -> u32
-    ensures { Blocked 0 (sum2 (float_at b0.now b1.now b2.now a1.now a2.now)) (next2 (float_at b0.now b1.now b2.now a1.now a2.now)) (df2t_at s1.old s2.old) input.now out.old (df2t_at s1.new s2.new) (verdict_of result) out.new }
+    ensures { Leaves 0 (sum2 (float_at b0.now b1.now b2.now a1.now a2.now)) (next2 (float_at b0.now b1.now b2.now a1.now a2.now)) (df2t_at s1.old s2.old) input.now out.old (df2t_at s1.new s2.new) result out.new }
 {
     let coeff = float_in(b0, b1, b2, a1, a2);
-    let state = df2t_in(s1, s2);
-    let block = state.block(coeff, input, out);
-    let verdict = block.verdict;
-    let next = block.state;
-    df2t_out(next, s1, s2);
-    number(verdict)
+    let mut state = df2t_in(s1, s2);
+    let done = state.block(coeff, input, out);
+    df2t_out(state, s1, s2);
+    number(done)
 }
 
 #[unsafe(no_mangle)]
@@ -141,15 +130,13 @@ pub extern "C" fn mittenload_df2t_clamp(
     input: &[f64],
     out: &mut [f64],
 ) -> u32
-    ensures { Blocked (limit_number (float_clamp_at b0.now b1.now b2.now a1.now a2.now u.now min.now max.now)) (held2 (float_clamp_at b0.now b1.now b2.now a1.now a2.now u.now min.now max.now)) (onward2 (float_clamp_at b0.now b1.now b2.now a1.now a2.now u.now min.now max.now)) (df2t_at s1.old s2.old) input.now out.old (df2t_at s1.new s2.new) (verdict_of result) out.new }
+    ensures { Leaves (limit_number (float_clamp_at b0.now b1.now b2.now a1.now a2.now u.now min.now max.now)) (held2 (float_clamp_at b0.now b1.now b2.now a1.now a2.now u.now min.now max.now)) (onward2 (float_clamp_at b0.now b1.now b2.now a1.now a2.now u.now min.now max.now)) (df2t_at s1.old s2.old) input.now out.old (df2t_at s1.new s2.new) result out.new }
 {
     let coeff = float_clamp_in(b0, b1, b2, a1, a2, u, min, max);
-    let state = df2t_in(s1, s2);
-    let block = state.block_clamp(coeff, input, out);
-    let verdict = block.verdict;
-    let next = block.state;
-    df2t_out(next, s1, s2);
-    number(verdict)
+    let mut state = df2t_in(s1, s2);
+    let done = state.block_clamp(coeff, input, out);
+    df2t_out(state, s1, s2);
+    number(done)
 }
 
 #[unsafe(no_mangle)]
@@ -167,15 +154,13 @@ pub extern "C" fn mittenload_wide(
     input: &[i32],
     out: &mut [i32],
 ) -> u32
-    ensures { Blocked (fraction_number 0 (word_at b0.now b1.now b2.now a1.now a2.now f.now)) (wide_out (word_at b0.now b1.now b2.now a1.now a2.now f.now)) (wide_next (word_at b0.now b1.now b2.now a1.now a2.now f.now)) (wide_at x1.old x2.old y1.old y2.old) input.now out.old (wide_at x1.new x2.new y1.new y2.new) (verdict_of result) out.new }
+    ensures { Leaves (fraction_number 0 (word_at b0.now b1.now b2.now a1.now a2.now f.now)) (wide_out (word_at b0.now b1.now b2.now a1.now a2.now f.now)) (wide_next (word_at b0.now b1.now b2.now a1.now a2.now f.now)) (wide_at x1.old x2.old y1.old y2.old) input.now out.old (wide_at x1.new x2.new y1.new y2.new) result out.new }
 {
     let coeff = word_in(b0, b1, b2, a1, a2, f);
-    let state = wide_in(x1, x2, y1, y2);
-    let block = state.block(coeff, input, out);
-    let verdict = block.verdict;
-    let next = block.state;
-    wide_out(next, x1, x2, y1, y2);
-    number(verdict)
+    let mut state = wide_in(x1, x2, y1, y2);
+    let done = state.block(coeff, input, out);
+    wide_out(state, x1, x2, y1, y2);
+    number(done)
 }
 
 #[unsafe(no_mangle)]
@@ -196,15 +181,13 @@ pub extern "C" fn mittenload_wide_clamp(
     input: &[i32],
     out: &mut [i32],
 ) -> u32
-    ensures { Blocked (clamp_number 0 (word_clamp_at b0.now b1.now b2.now a1.now a2.now f.now u.now min.now max.now)) (wide_held (word_clamp_at b0.now b1.now b2.now a1.now a2.now f.now u.now min.now max.now)) (wide_onward (word_clamp_at b0.now b1.now b2.now a1.now a2.now f.now u.now min.now max.now)) (wide_at x1.old x2.old y1.old y2.old) input.now out.old (wide_at x1.new x2.new y1.new y2.new) (verdict_of result) out.new }
+    ensures { Leaves (clamp_number 0 (word_clamp_at b0.now b1.now b2.now a1.now a2.now f.now u.now min.now max.now)) (wide_held (word_clamp_at b0.now b1.now b2.now a1.now a2.now f.now u.now min.now max.now)) (wide_onward (word_clamp_at b0.now b1.now b2.now a1.now a2.now f.now u.now min.now max.now)) (wide_at x1.old x2.old y1.old y2.old) input.now out.old (wide_at x1.new x2.new y1.new y2.new) result out.new }
 {
     let coeff = word_clamp_in(b0, b1, b2, a1, a2, f, u, min, max);
-    let state = wide_in(x1, x2, y1, y2);
-    let block = state.block_clamp(coeff, input, out);
-    let verdict = block.verdict;
-    let next = block.state;
-    wide_out(next, x1, x2, y1, y2);
-    number(verdict)
+    let mut state = wide_in(x1, x2, y1, y2);
+    let done = state.block_clamp(coeff, input, out);
+    wide_out(state, x1, x2, y1, y2);
+    number(done)
 }
 
 #[unsafe(no_mangle)]
@@ -223,15 +206,13 @@ pub extern "C" fn mittenload_dither(
     input: &[i32],
     out: &mut [i32],
 ) -> u32
-    ensures { Blocked (fraction_number 1 (word_at b0.now b1.now b2.now a1.now a2.now f.now)) (dither_out (word_at b0.now b1.now b2.now a1.now a2.now f.now)) (dither_next (word_at b0.now b1.now b2.now a1.now a2.now f.now)) (dither_at x1.old x2.old y1.old y2.old e.old) input.now out.old (dither_at x1.new x2.new y1.new y2.new e.new) (verdict_of result) out.new }
+    ensures { Leaves (fraction_number 1 (word_at b0.now b1.now b2.now a1.now a2.now f.now)) (dither_out (word_at b0.now b1.now b2.now a1.now a2.now f.now)) (dither_next (word_at b0.now b1.now b2.now a1.now a2.now f.now)) (dither_at x1.old x2.old y1.old y2.old e.old) input.now out.old (dither_at x1.new x2.new y1.new y2.new e.new) result out.new }
 {
     let coeff = word_in(b0, b1, b2, a1, a2, f);
-    let state = dither_in(x1, x2, y1, y2, e);
-    let block = state.block(coeff, input, out);
-    let verdict = block.verdict;
-    let next = block.state;
-    dither_out(next, x1, x2, y1, y2, e);
-    number(verdict)
+    let mut state = dither_in(x1, x2, y1, y2, e);
+    let done = state.block(coeff, input, out);
+    dither_out(state, x1, x2, y1, y2, e);
+    number(done)
 }
 
 #[unsafe(no_mangle)]
@@ -253,15 +234,13 @@ pub extern "C" fn mittenload_dither_clamp(
     input: &[i32],
     out: &mut [i32],
 ) -> u32
-    ensures { Blocked (clamp_number 1 (word_clamp_at b0.now b1.now b2.now a1.now a2.now f.now u.now min.now max.now)) (dither_held (word_clamp_at b0.now b1.now b2.now a1.now a2.now f.now u.now min.now max.now)) (dither_onward (word_clamp_at b0.now b1.now b2.now a1.now a2.now f.now u.now min.now max.now)) (dither_at x1.old x2.old y1.old y2.old e.old) input.now out.old (dither_at x1.new x2.new y1.new y2.new e.new) (verdict_of result) out.new }
+    ensures { Leaves (clamp_number 1 (word_clamp_at b0.now b1.now b2.now a1.now a2.now f.now u.now min.now max.now)) (dither_held (word_clamp_at b0.now b1.now b2.now a1.now a2.now f.now u.now min.now max.now)) (dither_onward (word_clamp_at b0.now b1.now b2.now a1.now a2.now f.now u.now min.now max.now)) (dither_at x1.old x2.old y1.old y2.old e.old) input.now out.old (dither_at x1.new x2.new y1.new y2.new e.new) result out.new }
 {
     let coeff = word_clamp_in(b0, b1, b2, a1, a2, f, u, min, max);
-    let state = dither_in(x1, x2, y1, y2, e);
-    let block = state.block_clamp(coeff, input, out);
-    let verdict = block.verdict;
-    let next = block.state;
-    dither_out(next, x1, x2, y1, y2, e);
-    number(verdict)
+    let mut state = dither_in(x1, x2, y1, y2, e);
+    let done = state.block_clamp(coeff, input, out);
+    dither_out(state, x1, x2, y1, y2, e);
+    number(done)
 }
 
 #[unsafe(no_mangle)]
@@ -274,10 +253,8 @@ pub extern "C" fn mittenload_dsm(
 ) -> u32
     ensures { Modulates (dsm_at order.old accumulators.old retained.old) input.now out.old (dsm_at order.new accumulators.new retained.new) out.new result }
 {
-    let state = dsm_in(order, accumulators, retained);
-    let block = state.block(input, out);
-    let verdict = block.verdict;
-    let next = block.state;
-    dsm_out(next, order, accumulators, retained);
-    number(verdict)
+    let mut state = dsm_in(order, accumulators, retained);
+    let done = state.block(input, out);
+    dsm_out(state, order, accumulators, retained);
+    number(done)
 }

@@ -7,14 +7,12 @@ ghost use Rattle.biquad.specs.Coefficients.{zpk_of, forward_gain, with_offset};
 ghost use Rattle.capi_filters.specs.States.{dsm_at, wdf_at, float_at, float_clamp_at};
 ghost use Rattle.capi_filters.specs.Makers.{pair_at, MakesDsm, Ranges, MakesWdf, Quantizes, Offsets};
 
-use crate::answers::{
-    bits_or, greatest_or, least_or, offset_number, offset_or, quantized_number, range_number,
-};
-use crate::states::{dsm_in, dsm_out, float_clamp_in, number, wdf_out};
+use crate::states::{dsm_in, dsm_out, float_clamp_in, wdf_out};
 use adapters::tpa::Tpa;
 use biquad::biquad::Biquad;
 use biquad::pair::Pair;
-use dsm::Dsm;
+use blocks::number;
+use dsm::{Dsm, OutputRange};
 use wdf::filter::{Wdf, current_architecture};
 
 // A modulator of zeros, of order n.
@@ -27,15 +25,13 @@ pub extern "C" fn mittenload_dsm_new(
 ) -> u32
     ensures { MakesDsm n (dsm_at order.old accumulators.old retained.old) (dsm_at order.new accumulators.new retained.new) result }
 {
-    let made = Dsm::new(n);
-    let verdict = made.verdict;
-    let next = made.state;
-    let refused = number(verdict);
-    if refused != 0 {
-        return refused;
+    match Dsm::new(n) {
+        Ok(made) => {
+            dsm_out(made, order, accumulators, retained);
+            0
+        }
+        Err(refusal) => refusal.number(),
     }
-    dsm_out(next, order, accumulators, retained);
-    0
 }
 
 // The least and the greatest output of a modulator.
@@ -49,15 +45,14 @@ pub extern "C" fn mittenload_dsm_output_range(
 ) -> u32
     ensures { Ranges (dsm_at order.now accumulators.now retained.now) least.old greatest.old least.new greatest.new result }
 {
-    let state = dsm_in(order, accumulators, retained);
-    let range = state.output_range();
-    let old_least = *least;
-    let new_least = least_or(range, old_least);
-    *least = new_least;
-    let old_greatest = *greatest;
-    let new_greatest = greatest_or(range, old_greatest);
-    *greatest = new_greatest;
-    range_number(range)
+    let range = dsm_in(order, accumulators, retained).output_range();
+    let told = range.unwrap_or(OutputRange {
+        least: *least,
+        greatest: *greatest,
+    });
+    *least = told.least;
+    *greatest = told.greatest;
+    number(range)
 }
 
 // A filter of the sections, architecture and coefficients that stand in its fields, its cells zero.
@@ -70,16 +65,13 @@ pub extern "C" fn mittenload_wdf_new(
 ) -> u32
     ensures { MakesWdf (new_number sections.old architecture.old) (wdf_at sections.old architecture.old a.old z.old) (wdf_at sections.new architecture.new a.new z.new) result }
 {
-    let given = *a;
-    let made = Wdf::new(*sections, *architecture, given);
-    let verdict = made.verdict;
-    let next = made.state;
-    let refused = number(verdict);
-    if refused != 0 {
-        return refused;
+    match Wdf::new(*sections, *architecture, *a) {
+        Ok(made) => {
+            wdf_out(made, sections, architecture, a, z);
+            0
+        }
+        Err(refusal) => refusal.number(),
     }
-    wdf_out(next, sections, architecture, a, z);
-    0
 }
 
 // The same of the settings of form 1, which may hold the retired adapters e and f.
@@ -92,16 +84,13 @@ pub extern "C" fn mittenload_wdf_from_form1(
 ) -> u32
     ensures { MakesWdf (sections_number sections.old architecture.old) (wdf_at sections.old architecture.old a.old z.old) (wdf_at sections.new architecture.new a.new z.new) result }
 {
-    let given = *a;
-    let made = Wdf::from_form1(*sections, *architecture, given);
-    let verdict = made.verdict;
-    let next = made.state;
-    let refused = number(verdict);
-    if refused != 0 {
-        return refused;
+    match Wdf::from_form1(*sections, *architecture, *a) {
+        Ok(made) => {
+            wdf_out(made, sections, architecture, a, z);
+            0
+        }
+        Err(refusal) => refusal.number(),
     }
-    wdf_out(next, sections, architecture, a, z);
-    0
 }
 
 // An architecture with b and c in the places of e and f.
@@ -117,12 +106,9 @@ pub extern "C" fn mittenload_wdf_current_architecture(sections: usize, architect
 pub extern "C" fn mittenload_wdf_quantize(nibble: u8, g: f64, bits: &mut i32) -> u32
     ensures { Quantizes nibble g bits.old bits.new result }
 {
-    let adapter = Tpa::from(nibble);
-    let quantized = adapter.quantize(g);
-    let old = *bits;
-    let new = bits_or(quantized, old);
-    *bits = new;
-    quantized_number(quantized)
+    let quantized = Tpa::from(nibble).quantize(g);
+    *bits = quantized.unwrap_or(*bits);
+    number(quantized)
 }
 
 // The real roots x and y, or for any other number than 0 the complex pair x + jy and x - jy.
@@ -154,9 +140,7 @@ pub extern "C" fn mittenload_biquad_from_zpk(
 )
     ensures { float_at b0.new b1.new b2.new a1.new a2.new ≡ zpk_of (pair_at zeros zx zy) (pair_at poles px py) gain }
 {
-    let above = pair_at(zeros, zx, zy);
-    let below = pair_at(poles, px, py);
-    let c = Biquad::from_zpk(above, below, gain);
+    let c = Biquad::from_zpk(pair_at(zeros, zx, zy), pair_at(poles, px, py), gain);
     *b0 = c.b0;
     *b1 = c.b1;
     *b2 = c.b2;
@@ -169,8 +153,7 @@ pub extern "C" fn mittenload_biquad_from_zpk(
 pub extern "C" fn mittenload_biquad_forward_gain(b0: f64, b1: f64, b2: f64, a1: f64, a2: f64) -> f64
     ensures { result ≡ forward_gain (float_at b0 b1 b2 a1 a2) }
 {
-    let c = Biquad { b0, b1, b2, a1, a2 };
-    c.forward_gain()
+    Biquad { b0, b1, b2, a1, a2 }.forward_gain()
 }
 
 // The offset referred to the input.
@@ -188,12 +171,9 @@ pub extern "C" fn mittenload_biquad_input_offset(
 ) -> u32
     ensures { Offsets (float_clamp_at b0.now b1.now b2.now a1.now a2.now u.now min.now max.now) value.old value.new result }
 {
-    let c = float_clamp_in(b0, b1, b2, a1, a2, u, min, max);
-    let offset = c.input_offset();
-    let old = *value;
-    let new = offset_or(offset, old);
-    *value = new;
-    offset_number(offset)
+    let offset = float_clamp_in(b0, b1, b2, a1, a2, u, min, max).input_offset();
+    *value = offset.unwrap_or(*value);
+    number(offset)
 }
 
 // The offset set so that it is i, referred to the input.
@@ -211,8 +191,7 @@ pub extern "C" fn mittenload_biquad_set_input_offset(
 )
     ensures { float_clamp_at b0.now b1.now b2.now a1.now a2.now u.new min.now max.now ≡ with_offset (float_clamp_at b0.now b1.now b2.now a1.now a2.now u.old min.now max.now) i }
 {
-    let c = float_clamp_in(b0, b1, b2, a1, a2, u, min, max);
-    let set = c.set_input_offset(i);
-    let offset = set.u;
-    *u = offset;
+    let mut c = float_clamp_in(b0, b1, b2, a1, a2, u, min, max);
+    c.set_input_offset(i);
+    *u = c.u;
 }

@@ -1,6 +1,5 @@
 // The states and coefficients of the filters, gathered from lent fields and spread to them.
 ghost use Rattle.std.specs.Prelude.{◌≡◌};
-ghost use Rattle.capi_filters.specs.Answers.{verdict_number};
 ghost use Rattle.capi_filters.specs.States.{unwrapper_at, wdf_at, dsm_at, df1_at, df2t_at, wide_at, dither_at};
 ghost use Rattle.capi_filters.specs.States.{float_at, float_clamp_at, word_at, word_clamp_at};
 
@@ -10,7 +9,6 @@ use biquad::direct_form1::DirectForm1;
 use biquad::direct_form2_transposed::DirectForm2Transposed;
 use biquad_fixed::dither::DirectForm1Dither;
 use biquad_fixed::wide::DirectForm1Wide;
-use blocks::Verdict;
 use dsm::Dsm;
 use unwrap::unwrapper::Unwrapper;
 use wdf::filter::Wdf;
@@ -18,29 +16,23 @@ use wdf::filter::Wdf;
 pub(crate) fn unwrapper_in(y: &i64) -> Unwrapper
     ensures { result ≡ unwrapper_at y.now }
 {
-    let the_y = *y;
-    Unwrapper { y: the_y }
+    Unwrapper { y: *y }
 }
 
 pub(crate) fn unwrapper_out(next: Unwrapper, y: &mut i64)
     ensures { unwrapper_at y.new ≡ next }
 {
-    let the_y = next.y;
-    *y = the_y;
+    *y = next.y;
 }
 
 pub(crate) fn wdf_in(sections: &usize, architecture: &u32, a: &[i32; 8], z: &[i32; 8]) -> Wdf
     ensures { result ≡ wdf_at sections.now architecture.now a.now z.now }
 {
-    let the_sections = *sections;
-    let the_architecture = *architecture;
-    let the_a = *a;
-    let the_z = *z;
     Wdf {
-        sections: the_sections,
-        architecture: the_architecture,
-        a: the_a,
-        z: the_z,
+        sections: *sections,
+        architecture: *architecture,
+        a: *a,
+        z: *z,
     }
 }
 
@@ -53,26 +45,21 @@ pub(crate) fn wdf_out(
 )
     ensures { wdf_at sections.new architecture.new a.new z.new ≡ next }
 {
-    let the_sections = next.sections;
-    let the_architecture = next.architecture;
-    let the_a = next.a;
-    let the_z = next.z;
-    *sections = the_sections;
-    *architecture = the_architecture;
-    *a = the_a;
-    *z = the_z;
+    let coefficients = next.a;
+    let cells = next.z;
+    *sections = next.sections;
+    *architecture = next.architecture;
+    *a = coefficients;
+    *z = cells;
 }
 
 pub(crate) fn dsm_in(order: &usize, accumulators: &[u32; 8], retained: &[i16; 8]) -> Dsm
     ensures { result ≡ dsm_at order.now accumulators.now retained.now }
 {
-    let the_order = *order;
-    let the_accumulators = *accumulators;
-    let the_retained = *retained;
     Dsm {
-        order: the_order,
-        accumulators: the_accumulators,
-        retained: the_retained,
+        order: *order,
+        accumulators: *accumulators,
+        retained: *retained,
     }
 }
 
@@ -84,74 +71,54 @@ pub(crate) fn dsm_out(
 )
     ensures { dsm_at order.new accumulators.new retained.new ≡ next }
 {
-    let the_order = next.order;
-    let the_accumulators = next.accumulators;
-    let the_retained = next.retained;
-    *order = the_order;
-    *accumulators = the_accumulators;
-    *retained = the_retained;
+    let cells = next.accumulators;
+    let kept = next.retained;
+    *order = next.order;
+    *accumulators = cells;
+    *retained = kept;
 }
 
 pub(crate) fn df1_in(x1: &f64, x2: &f64, y1: &f64, y2: &f64) -> DirectForm1
     ensures { result ≡ df1_at x1.now x2.now y1.now y2.now }
 {
-    let the_x1 = *x1;
-    let the_x2 = *x2;
-    let the_y1 = *y1;
-    let the_y2 = *y2;
     DirectForm1 {
-        x1: the_x1,
-        x2: the_x2,
-        y1: the_y1,
-        y2: the_y2,
+        x1: *x1,
+        x2: *x2,
+        y1: *y1,
+        y2: *y2,
     }
 }
 
 pub(crate) fn df1_out(next: DirectForm1, x1: &mut f64, x2: &mut f64, y1: &mut f64, y2: &mut f64)
     ensures { df1_at x1.new x2.new y1.new y2.new ≡ next }
 {
-    let the_x1 = next.x1;
-    let the_x2 = next.x2;
-    let the_y1 = next.y1;
-    let the_y2 = next.y2;
-    *x1 = the_x1;
-    *x2 = the_x2;
-    *y1 = the_y1;
-    *y2 = the_y2;
+    *x1 = next.x1;
+    *x2 = next.x2;
+    *y1 = next.y1;
+    *y2 = next.y2;
 }
 
 pub(crate) fn df2t_in(s1: &f64, s2: &f64) -> DirectForm2Transposed
     ensures { result ≡ df2t_at s1.now s2.now }
 {
-    let the_s1 = *s1;
-    let the_s2 = *s2;
-    DirectForm2Transposed {
-        s1: the_s1,
-        s2: the_s2,
-    }
+    DirectForm2Transposed { s1: *s1, s2: *s2 }
 }
 
 pub(crate) fn df2t_out(next: DirectForm2Transposed, s1: &mut f64, s2: &mut f64)
     ensures { df2t_at s1.new s2.new ≡ next }
 {
-    let the_s1 = next.s1;
-    let the_s2 = next.s2;
-    *s1 = the_s1;
-    *s2 = the_s2;
+    *s1 = next.s1;
+    *s2 = next.s2;
 }
 
 pub(crate) fn wide_in(x1: &i32, x2: &i32, y1: &i64, y2: &i64) -> DirectForm1Wide
     ensures { result ≡ wide_at x1.now x2.now y1.now y2.now }
 {
-    let the_x1 = *x1;
-    let the_x2 = *x2;
-    let the_y1 = *y1;
-    let the_y2 = *y2;
     DirectForm1Wide {
-        x1: the_x1,
-        x2: the_x2,
-        y1: the_y1,
-        y2: the_y2,
+        x1: *x1,
+        x2: *x2,
+        y1: *y1,
+        y2: *y2,
     }
 }
 
@@ -164,30 +131,21 @@ pub(crate) fn wide_out(
 )
     ensures { wide_at x1.new x2.new y1.new y2.new ≡ next }
 {
-    let the_x1 = next.x1;
-    let the_x2 = next.x2;
-    let the_y1 = next.y1;
-    let the_y2 = next.y2;
-    *x1 = the_x1;
-    *x2 = the_x2;
-    *y1 = the_y1;
-    *y2 = the_y2;
+    *x1 = next.x1;
+    *x2 = next.x2;
+    *y1 = next.y1;
+    *y2 = next.y2;
 }
 
 pub(crate) fn dither_in(x1: &i32, x2: &i32, y1: &i32, y2: &i32, e: &u32) -> DirectForm1Dither
     ensures { result ≡ dither_at x1.now x2.now y1.now y2.now e.now }
 {
-    let the_x1 = *x1;
-    let the_x2 = *x2;
-    let the_y1 = *y1;
-    let the_y2 = *y2;
-    let the_e = *e;
     DirectForm1Dither {
-        x1: the_x1,
-        x2: the_x2,
-        y1: the_y1,
-        y2: the_y2,
-        e: the_e,
+        x1: *x1,
+        x2: *x2,
+        y1: *y1,
+        y2: *y2,
+        e: *e,
     }
 }
 
@@ -201,32 +159,22 @@ pub(crate) fn dither_out(
 )
     ensures { dither_at x1.new x2.new y1.new y2.new e.new ≡ next }
 {
-    let the_x1 = next.x1;
-    let the_x2 = next.x2;
-    let the_y1 = next.y1;
-    let the_y2 = next.y2;
-    let the_e = next.e;
-    *x1 = the_x1;
-    *x2 = the_x2;
-    *y1 = the_y1;
-    *y2 = the_y2;
-    *e = the_e;
+    *x1 = next.x1;
+    *x2 = next.x2;
+    *y1 = next.y1;
+    *y2 = next.y2;
+    *e = next.e;
 }
 
 pub(crate) fn float_in(b0: &f64, b1: &f64, b2: &f64, a1: &f64, a2: &f64) -> Biquad
     ensures { result ≡ float_at b0.now b1.now b2.now a1.now a2.now }
 {
-    let the_b0 = *b0;
-    let the_b1 = *b1;
-    let the_b2 = *b2;
-    let the_a1 = *a1;
-    let the_a2 = *a2;
     Biquad {
-        b0: the_b0,
-        b1: the_b1,
-        b2: the_b2,
-        a1: the_a1,
-        a2: the_a2,
+        b0: *b0,
+        b1: *b1,
+        b2: *b2,
+        a1: *a1,
+        a2: *a2,
     }
 }
 
@@ -242,23 +190,15 @@ pub(crate) fn float_clamp_in(
 ) -> BiquadClamp
     ensures { result ≡ float_clamp_at b0.now b1.now b2.now a1.now a2.now u.now min.now max.now }
 {
-    let the_b0 = *b0;
-    let the_b1 = *b1;
-    let the_b2 = *b2;
-    let the_a1 = *a1;
-    let the_a2 = *a2;
-    let the_u = *u;
-    let the_min = *min;
-    let the_max = *max;
     BiquadClamp {
-        b0: the_b0,
-        b1: the_b1,
-        b2: the_b2,
-        a1: the_a1,
-        a2: the_a2,
-        u: the_u,
-        min: the_min,
-        max: the_max,
+        b0: *b0,
+        b1: *b1,
+        b2: *b2,
+        a1: *a1,
+        a2: *a2,
+        u: *u,
+        min: *min,
+        max: *max,
     }
 }
 
@@ -272,19 +212,13 @@ pub(crate) fn word_in(
 ) -> biquad_fixed::coefficients::Biquad
     ensures { result ≡ word_at b0.now b1.now b2.now a1.now a2.now f.now }
 {
-    let the_b0 = *b0;
-    let the_b1 = *b1;
-    let the_b2 = *b2;
-    let the_a1 = *a1;
-    let the_a2 = *a2;
-    let the_f = *f;
     biquad_fixed::coefficients::Biquad {
-        b0: the_b0,
-        b1: the_b1,
-        b2: the_b2,
-        a1: the_a1,
-        a2: the_a2,
-        f: the_f,
+        b0: *b0,
+        b1: *b1,
+        b2: *b2,
+        a1: *a1,
+        a2: *a2,
+        f: *f,
     }
 }
 
@@ -301,38 +235,10 @@ pub(crate) fn word_clamp_in(
 ) -> biquad_fixed::coefficients::BiquadClamp
     ensures { result ≡ word_clamp_at b0.now b1.now b2.now a1.now a2.now f.now u.now min.now max.now }
 {
-    let the_b0 = *b0;
-    let the_b1 = *b1;
-    let the_b2 = *b2;
-    let the_a1 = *a1;
-    let the_a2 = *a2;
-    let the_f = *f;
-    let the_u = *u;
-    let the_min = *min;
-    let the_max = *max;
-    let coeff = biquad_fixed::coefficients::Biquad {
-        b0: the_b0,
-        b1: the_b1,
-        b2: the_b2,
-        a1: the_a1,
-        a2: the_a2,
-        f: the_f,
-    };
     biquad_fixed::coefficients::BiquadClamp {
-        coeff,
-        u: the_u,
-        min: the_min,
-        max: the_max,
-    }
-}
-
-// The number of a refusal, or 0.
-#[tactic(auto, unfolding(crate::specs::Answers::verdict_number))]
-pub(crate) fn number(verdict: Verdict) -> u32
-    ensures { result ≡ verdict_number verdict }
-{
-    match verdict {
-        Verdict::Done => 0,
-        Verdict::Refused(k) => k,
+        coeff: word_in(b0, b1, b2, a1, a2, f),
+        u: *u,
+        min: *min,
+        max: *max,
     }
 }

@@ -14,8 +14,7 @@ use unwrap::wrapping::overflowing_sub;
 pub extern "C" fn mittenload_unwrapper_wraps(y: i64) -> i32
     ensures { result ≡ turns_of y }
 {
-    let state = Unwrapper { y };
-    state.wraps()
+    Unwrapper { y }.wraps()
 }
 
 // Its phase: the low word.
@@ -23,8 +22,7 @@ pub extern "C" fn mittenload_unwrapper_wraps(y: i64) -> i32
 pub extern "C" fn mittenload_unwrapper_phase(y: i64) -> i32
     ensures { result ≡ phase_of y }
 {
-    let state = Unwrapper { y };
-    state.phase()
+    Unwrapper { y }.phase()
 }
 
 // y - x modulo 2^32; to wrap, the sign of what the wrap added.
@@ -33,10 +31,8 @@ pub extern "C" fn mittenload_overflowing_sub(y: i32, x: i32, wrap: &mut u32) -> 
     ensures { Differs y x wrap.new result }
 {
     let difference = overflowing_sub(y, x);
-    let delta = difference.delta;
-    let sign = difference.wrap;
-    *wrap = wrap_number(sign);
-    delta
+    *wrap = wrap_number(difference.wrap);
+    difference.delta
 }
 
 // The loop's phase an update period on, for an update without an input; all else of its state stays.
@@ -52,11 +48,9 @@ pub extern "C" fn mittenload_pll_predict(
 ) -> i32
     ensures { Predicts (fields_at x0.now clamp.now z0.now y0.now f0.now f.now y.old) y.new result }
 {
-    let state = pll_in(x0, clamp, z0, y0, f0, f, y);
-    let ahead = state.predict();
-    let phase = ahead.y;
-    *y = phase;
-    phase
+    let mut state = pll_in(x0, clamp, z0, y0, f0, f, y);
+    *y = state.predict();
+    *y
 }
 
 // Its frequency.
@@ -72,6 +66,5 @@ pub extern "C" fn mittenload_pll_frequency(
 ) -> i32
     ensures { result ≡ frequency_of (pll_in (fields_at x0.now clamp.now z0.now y0.now f0.now f.now y.now)) }
 {
-    let state = pll_in(x0, clamp, z0, y0, f0, f, y);
-    state.frequency()
+    pll_in(x0, clamp, z0, y0, f0, f, y).frequency()
 }

@@ -1,27 +1,19 @@
 -- WAV calls as C makes them: the number of a refusal, or 0. A refused call leaves everything that is lent as it was.
-use Rattle.std.specs.Prelude.{◌≡◌, List, ◌++◌, ℕ, ◌/◌, ◌*◌, ℤ, length, drop}
-use Rattle.blocks.specs.declared.Verdict.{Verdict}
+use Rattle.std.specs.Prelude.{◌≡◌, List, ◌++◌, ℕ, ◌/◌, ◌*◌, ℤ, length, drop, Result}
+use Rattle.std.specs.Result.{result_unwrap_or}
+use Rattle.blocks.specs.declared.refusal.Refusal.{Refusal}
+use Rattle.blocks.specs.Refusals.{number_in}
 use Rattle.blocks.specs.Blocks.{unless}
-use Rattle.wav.specs.declared.header.Head.{Head}
 use Rattle.wav.specs.declared.header.Recording.{Recording}
 use Rattle.wav.specs.Header.{head_of, header_of, head_number}
 use Rattle.wav.specs.Samples.{read_number, write_number, read_slice, write_slice}
 
-unfoldable pub verdict_number : Verdict → ℕ
-verdict_number Verdict.Done = 0
-verdict_number (Verdict.Refused k) = k
+-- the number of a header's refusal, or 0; and what it tells, or what stood there
+abbrev pub head_answer : Result Recording Refusal → ℕ
+head_answer head = number_in head
 
-unfoldable pub verdict_or : Verdict → ℕ → ℕ → ℕ
-verdict_or Verdict.Done count old = count
-verdict_or (Verdict.Refused k) count old = old
-
-unfoldable pub head_answer : Head → ℕ
-head_answer (Head.Of r) = 0
-head_answer (Head.Refused k) = k
-
-unfoldable pub head_or : Head → Recording → Recording
-head_or (Head.Of r) old = r
-head_or (Head.Refused k) old = old
+abbrev pub head_or : Result Recording Refusal → Recording → Recording
+head_or head old = result_unwrap_or head old
 
 abbrev pub recording : ℕ → ℕ → Recording
 recording rate size = record { rate = rate; size = size }

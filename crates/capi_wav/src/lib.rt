@@ -4,51 +4,20 @@
 #![tactic(auto)]
 
 ghost use Rattle.std.specs.Prelude.{◌≡◌};
-ghost use Rattle.capi_wav.specs.Calls.{verdict_number, verdict_or, head_answer, head_or, recording};
-ghost use Rattle.capi_wav.specs.Calls.{ReadsHeader, WritesHeader, ReadsPart, WritesPart};
+ghost use Rattle.std.specs.Result.{result_unwrap_or};
+ghost use Rattle.blocks.specs.Refusals.{number_in};
+ghost use Rattle.capi_wav.specs.Calls.{recording, ReadsHeader, WritesHeader, ReadsPart, WritesPart};
 
-use blocks::Verdict;
-use wav::header::{Head, Recording, read_header, write_header};
+use blocks::{Refusal, number};
+use wav::header::{Recording, read_header, write_header};
 use wav::samples::{read_part, write_part};
 
-#[tactic(auto, unfolding(crate::specs::Calls::verdict_number))]
-fn number(verdict: Verdict) -> u32
-    ensures { result ≡ verdict_number verdict }
+// A part's count to where it is asked for; at a refusal what stood there stays.
+fn counted(part: Result<usize, Refusal>, count: &mut usize) -> u32
+    ensures { (result ≡ number_in part) × (count.new ≡ result_unwrap_or part count.old) }
 {
-    match verdict {
-        Verdict::Done => 0,
-        Verdict::Refused(k) => k,
-    }
-}
-
-#[tactic(auto, unfolding(crate::specs::Calls::verdict_or))]
-fn count_or(verdict: Verdict, count: usize, old: usize) -> usize
-    ensures { result ≡ verdict_or verdict count old }
-{
-    match verdict {
-        Verdict::Done => count,
-        Verdict::Refused(_) => old,
-    }
-}
-
-#[tactic(auto, unfolding(crate::specs::Calls::head_answer))]
-fn head_number(head: Head) -> u32
-    ensures { result ≡ head_answer head }
-{
-    match head {
-        Head::Of(_) => 0,
-        Head::Refused(k) => k,
-    }
-}
-
-#[tactic(auto, unfolding(crate::specs::Calls::head_or))]
-fn head_or(head: Head, old: Recording) -> Recording
-    ensures { result ≡ head_or head old }
-{
-    match head {
-        Head::Of(r) => r,
-        Head::Refused(_) => old,
-    }
+    *count = part.unwrap_or(*count);
+    number(part)
 }
 
 // What the header at the front of bytes tells, of a file of this length.
@@ -67,10 +36,10 @@ pub extern "C" fn mittenload_wav_read_header(
         rate: *rate,
         size: *size,
     };
-    let told = head_or(head, old);
+    let told = head.unwrap_or(old);
     *rate = told.rate;
     *size = told.size;
-    head_number(head)
+    number(head)
 }
 
 // A header to the front of out.
@@ -78,8 +47,7 @@ pub extern "C" fn mittenload_wav_read_header(
 pub extern "C" fn mittenload_wav_write_header(rate: u32, size: u32, out: &mut [u8]) -> u32
     ensures { WritesHeader rate size out.old out.new result }
 {
-    let verdict = write_header(rate, size, out);
-    number(verdict)
+    number(write_header(rate, size, out))
 }
 
 // The samples of a part to the front of out; how many, to count.
@@ -87,11 +55,7 @@ pub extern "C" fn mittenload_wav_write_header(rate: u32, size: u32, out: &mut [u
 pub extern "C" fn mittenload_wav_read_part(bytes: &[u8], out: &mut [i32], count: &mut usize) -> u32
     ensures { ReadsPart bytes.now out.old count.old out.new count.new result }
 {
-    let part = read_part(bytes, out);
-    let verdict = part.verdict;
-    let n = count_or(verdict, part.count, *count);
-    *count = n;
-    number(verdict)
+    counted(read_part(bytes, out), count)
 }
 
 // The bytes of a part to the front of out; how many, to count.
@@ -103,9 +67,5 @@ pub extern "C" fn mittenload_wav_write_part(
 ) -> u32
     ensures { WritesPart samples.now out.old count.old out.new count.new result }
 {
-    let part = write_part(samples, out);
-    let verdict = part.verdict;
-    let n = count_or(verdict, part.count, *count);
-    *count = n;
-    number(verdict)
+    counted(write_part(samples, out), count)
 }

@@ -45,6 +45,7 @@ fn main(rt: HostRuntime) -> io::Result<()> {
     let text = &space[..n];
     let words = text.len() / 9;
     let mut at: usize = 0;
+    // Kept: a run is as long as its second word says, so `at` moves by more than one.
     while at < words {
         if at < 65536 {
             at = run(&rt, text, at)?;

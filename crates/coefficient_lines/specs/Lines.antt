@@ -7,7 +7,7 @@ use Rattle.text.specs.Numbers.{decimal_of, signed_of}
 use Rattle.text.specs.Hex.{pattern_of}
 use Rattle.text.specs.Parts.{before}
 use Rattle.text.specs.Same.{same}
-use Rattle.text.specs.declared.hex.Pattern.{Pattern}
+use Rattle.std.specs.Prelude.{Option, Some, None}
 use Rattle.adapters.specs.Quantize.{quantized}
 use Rattle.adapters.specs.declared.tpa.Tpa.TheVariants.{Z, A, B, B1, X, C, C1, D}
 use Rattle.blocks.specs.declared.refusal.Refusal.{Refusal}
@@ -43,9 +43,9 @@ abbrev pub cut_number : ℕ
 cut_number = number_of Refusal.Unterminated
 
 -- the bits for the adapter and the pole, where both can be read
-abbrev pub pole_bits : Adapter → Pattern → Result ℤ Refusal
-pole_bits (Named code) (Pattern.Bits g) = quantized code (of_bits binary64 g)
-pole_bits (Named code) Pattern.Wrong = Err Refusal.Malformed
+abbrev pub pole_bits : Adapter → Option ℕ → Result ℤ Refusal
+pole_bits (Named code) (Some g) = quantized code (of_bits binary64 g)
+pole_bits (Named code) None = Err Refusal.Malformed
 pole_bits Unknown digits = Err Refusal.UnknownRecord
 
 -- the name ends at the first tab, and the digits are all that follows it

@@ -14,7 +14,8 @@ use Rattle.text.specs.Numbers.{decimal_of, signed_of}
 use Rattle.text.specs.Hex.{pattern_of}
 use Rattle.text.specs.Parts.{before, end_of}
 use Rattle.text.specs.Writing.{Wrote, Puts}
-use Rattle.text.specs.declared.hex.Pattern.{Pattern}
+use Rattle.std.specs.Prelude as std
+use Rattle.std.specs.Prelude.{Some, None}
 use Rattle.text.proofs.Parting.{before-take}
 use Rattle.text.proofs.Putting.{written, then_puts, wrote-same}
 use Rattle.text.proofs.Spelling.{spelt-short, decimal_most, signed-most}
@@ -36,14 +37,14 @@ module _ (l : List ℕ) where
     named_part = ap (λ (k : ℕ). take k l) first ∙ before-take tab l
 
     -- no tab: the name is the whole line
-    pub line_untabbed : (named : Adapter) → length l ≤ e → named ≡ adapter_of (take e l) → pole_bits named Pattern.Wrong ≡ line_bits l
+    pub line_untabbed : (named : Adapter) → length l ≤ e → named ≡ adapter_of (take e l) → pole_bits named None ≡ line_bits l
     unfolding line_bits
     line_untabbed named h n =
         let past : length l ≤ length (before tab l) + 1 = omega (arith, first) in
         let none : drop (length (before tab l) + 1) l ≡ [] = drop_of_length-le l past in
         rw (n, named_part) (sym (rw (le-ltb 64 (length l) short, none)))
 
-    pub line_tabbed : (named : Adapter) (digits : Pattern) → e < length l → named ≡ adapter_of (take e l)
+    pub line_tabbed : (named : Adapter) (digits : std.Option ℕ) → e < length l → named ≡ adapter_of (take e l)
         → digits ≡ pattern_of (take (length l - (e + 1)) (drop (e + 1) l)) → pole_bits named digits ≡ line_bits l
     unfolding line_bits
     line_tabbed named digits h n d =

@@ -9,7 +9,7 @@ use blocks::Refusal;
 use coefficient_lines::adapter::Adapter;
 use rust_answers::doubles::from_bits;
 use text::comparing::same_bytes;
-use text::hex::{Pattern, hex_word};
+use text::hex::hex_word;
 use text::parts::part_end;
 use text::writing::{put_byte, put_bytes, put_decimal, put_signed};
 
@@ -53,13 +53,13 @@ fn named_by(name: &[u8]) -> Adapter
 }
 
 // The bits of an adapter's coefficient for the pole of these digits.
-fn pole_bits(named: Adapter, digits: Pattern) -> Result<i32, Refusal>
+fn pole_bits(named: Adapter, digits: Option<u64>) -> Result<i32, Refusal>
     ensures { result ≡ pole_bits named digits }
 {
     let Adapter::Named(code) = named else {
         return Err(Refusal::UnknownRecord);
     };
-    let Pattern::Bits(bits) = digits else {
+    let Some(bits) = digits else {
         return Err(Refusal::Malformed);
     };
     code.quantize(from_bits(bits))
@@ -76,7 +76,7 @@ pub(crate) fn line_bits(line: &[u8]) -> Result<i32, Refusal>
     let e = part_end(line, 0, b'\t');
     let named = named_by(&line[..e]);
     if line.len() <= e {
-        return pole_bits(named, Pattern::Wrong);
+        return pole_bits(named, None);
     }
     let from = e + 1;
     let digits = hex_word(&line[from..]);

@@ -4,16 +4,13 @@
 
 ghost use Rattle.std.specs.Prelude.{◌≤◌};
 
-use blocks::Verdict;
-use pll::{PLL, PLLState, Tracked};
+use pll::{PLL, PLLState};
 use rust_answers::input::read_full;
 use rust_answers::lines::{double, line, report, tally, unlike, unlike_words};
 use rust_answers::runs::{digest, digest_words, draw, spread};
 use std::io;
 use unwrap::clamp_wrap::ClampWrap;
 use unwrap::wrapping::Wrap;
-use words::casts::{i32_as_u32, i64_as_u64, u32_as_i32, u64_as_i64, u64_as_u32};
-use words::unsigned::{add_u32, add_u64, mul_u32};
 
 const LINES: u32 = 900;
 
@@ -31,13 +28,11 @@ fn sign(w: Wrap) -> u32 {
 }
 
 fn wrap_of(sign: u32) -> Wrap {
-    if sign == 0 {
-        return Wrap::None;
+    match sign {
+        0 => Wrap::None,
+        1 => Wrap::Positive,
+        _ => Wrap::Negative,
     }
-    if sign == 1 {
-        return Wrap::Positive;
-    }
-    Wrap::Negative
 }
 
 // The coefficients at word number at of a line.
@@ -45,25 +40,25 @@ fn coefficients(w: [u32; 40], at: usize) -> PLL
     requires { at ≤ 37 }
 {
     PLL {
-        b0: u32_as_i32(w[at]),
-        b1: u32_as_i32(w[at + 1]),
-        a1: u32_as_i32(w[at + 2]),
+        b0: w[at].cast_signed(),
+        b1: w[at + 1].cast_signed(),
+        a1: w[at + 2].cast_signed(),
     }
 }
 
 // The state before a line's step.
 fn state_before(w: [u32; 40]) -> PLLState {
     let clamp = ClampWrap {
-        x0: u32_as_i32(w[4]),
+        x0: w[4].cast_signed(),
         clamp: wrap_of(w[5]),
     };
     PLLState {
         clamp,
-        z0: u32_as_i32(w[6]),
-        y0: u32_as_i32(w[7]),
-        f0: u64_as_i64(double(w[8], w[9])),
-        f: u64_as_i64(double(w[10], w[11])),
-        y: u32_as_i32(w[12]),
+        z0: w[6].cast_signed(),
+        y0: w[7].cast_signed(),
+        f0: double(w[8], w[9]).cast_signed(),
+        f: double(w[10], w[11]).cast_signed(),
+        y: w[12].cast_signed(),
     }
 }
 
@@ -83,54 +78,54 @@ fn zero() -> PLLState {
 }
 
 fn high(x: i64) -> u32 {
-    u64_as_u32(i64_as_u64(x) / 4294967296)
+    (x.cast_unsigned() / 0x1_0000_0000) as u32
 }
 
 fn low(x: i64) -> u32 {
-    u64_as_u32(i64_as_u64(x))
+    (x.cast_unsigned() % 0x1_0000_0000) as u32
 }
 
 // The nine words of a state, in the order of a line.
 fn words_of(s: PLLState) -> [u32; 9] {
-    let c = s.clamp;
-    let clamp = c.clamp;
     [
-        i32_as_u32(c.x0),
-        sign(clamp),
-        i32_as_u32(s.z0),
-        i32_as_u32(s.y0),
+        s.clamp.x0.cast_unsigned(),
+        sign(s.clamp.clamp),
+        s.z0.cast_unsigned(),
+        s.y0.cast_unsigned(),
         high(s.f0),
         low(s.f0),
         high(s.f),
         low(s.f),
-        i32_as_u32(s.y),
+        s.y.cast_unsigned(),
     ]
 }
 
-// 1 where a phase or the state after it is not the line's.
-fn tracked_differs(w: [u32; 40], r: Tracked) -> u64 {
-    if i32_as_u32(r.y) != w[14] {
+// 1 where the phase y or the state after it is not the line's.
+fn tracked_differs(w: [u32; 40], y: i32, after: PLLState) -> u64 {
+    if y.cast_unsigned() != w[14] {
         return 1;
     }
-    let after = r.state;
     unlike_words(&words_of(after), &w[15..24])
 }
 
 fn step(w: [u32; 40]) -> u64 {
-    let p = coefficients(w, 1);
-    tracked_differs(w, p.process(state_before(w), u32_as_i32(w[13])))
+    let mut s = state_before(w);
+    let y = coefficients(w, 1).process(&mut s, w[13].cast_signed());
+    tracked_differs(w, y, s)
 }
 
 fn predict(w: [u32; 40]) -> u64 {
-    tracked_differs(w, state_before(w).predict())
+    let mut s = state_before(w);
+    let y = s.predict();
+    tracked_differs(w, y, s)
 }
 
 fn readers(w: [u32; 40]) -> u64 {
     let s = state_before(w);
-    if i32_as_u32(s.phase()) != w[14] {
+    if s.phase().cast_unsigned() != w[14] {
         return 1;
     }
-    unlike(i32_as_u32(s.frequency()), w[15])
+    unlike(s.frequency().cast_unsigned(), w[15])
 }
 
 // A loop that runs, the generator that feeds it, and the digest of its phases and frequencies.
@@ -141,55 +136,57 @@ struct Running {
     digest: u64,
 }
 
-// After a step: its phase and the frequency after it are digested.
-fn tracked(r: Running, t: Tracked, draws: u64) -> Running {
-    let state = t.state;
-    let phase = digest(r.digest, i32_as_u32(t.y));
-    Running {
-        state,
-        draws,
-        digest: digest(phase, i32_as_u32(state.frequency())),
-    }
+// After a step: its phase y and the frequency after it are digested.
+fn tracked(r: &mut Running, y: i32) {
+    r.digest = digest(r.digest, y.cast_unsigned());
+    r.digest = digest(r.digest, r.state.frequency().cast_unsigned());
 }
 
 // A step on a spread input.
-fn spread_turn(r: Running, p: PLL) -> Running {
+fn spread_turn(r: &mut Running, p: PLL) {
     let x = spread(r.draws);
-    let s = r.state;
-    tracked(r, p.process(s, u32_as_i32(x.value)), x.state)
+    r.draws = x.state;
+    let y = p.process(&mut r.state, x.value.cast_signed());
+    tracked(r, y);
 }
 
 // A prediction one time in four, else a step with coefficients and input drawn.
-fn drawn_turn(r: Running) -> Running {
+fn drawn_turn(r: &mut Running) {
     let u = draw(r.draws);
-    let s = r.state;
+    r.draws = u.state;
     if u.value % 4 == 0 {
-        return tracked(r, s.predict(), u.state);
+        let y = r.state.predict();
+        tracked(r, y);
+        return;
     }
     let b0 = spread(u.state);
     let b1 = spread(b0.state);
     let a1 = spread(b1.state);
-    let x = spread(a1.state);
     let p = PLL {
-        b0: u32_as_i32(b0.value),
-        b1: u32_as_i32(b1.value),
-        a1: u32_as_i32(a1.value),
+        b0: b0.value.cast_signed(),
+        b1: b1.value.cast_signed(),
+        a1: a1.value.cast_signed(),
     };
-    tracked(r, p.process(s, u32_as_i32(x.value)), x.state)
+    r.draws = a1.state;
+    spread_turn(r, p);
 }
 
 // A step on x.
-fn steady_turn(r: Running, p: PLL, x: u32) -> Running {
-    let s = r.state;
-    tracked(r, p.process(s, u32_as_i32(x)), r.draws)
+fn steady_turn(r: &mut Running, p: PLL, x: u32) {
+    let y = p.process(&mut r.state, x.cast_signed());
+    tracked(r, y);
 }
 
 // Step number i of a line's run: on spread inputs, with everything drawn, or on a steady input.
-fn turn(r: Running, w: [u32; 40], i: u32) -> Running {
+fn turn(r: &mut Running, w: [u32; 40], i: u32) {
     match w[0] {
         4 => spread_turn(r, coefficients(w, 3)),
         5 => drawn_turn(r),
-        _ => steady_turn(r, coefficients(w, 3), add_u32(w[1], mul_u32(i, w[8]))),
+        _ => steady_turn(
+            r,
+            coefficients(w, 3),
+            w[1].wrapping_add(i.wrapping_mul(w[8])),
+        ),
     }
 }
 
@@ -201,7 +198,7 @@ fn run(w: [u32; 40], steps: u32) -> Running {
         digest: 0,
     };
     for i in 0..steps {
-        r = turn(r, w, i);
+        turn(&mut r, w, i);
     }
     r
 }
@@ -216,8 +213,8 @@ fn long_run(w: [u32; 40]) -> u64 {
     if w[0] < 6 {
         return 0;
     }
-    let frequency = i32_as_u32(s.frequency());
-    if add_u32(frequency, w[8]) != 0 {
+    let frequency = s.frequency().cast_unsigned();
+    if frequency.wrapping_add(w[8]) != 0 {
         return 1;
     }
     unlike(frequency, w[9])
@@ -229,7 +226,7 @@ fn fill(xs: &mut [i32; BLOCK], seed: u32) {
     for i in 0..BLOCK {
         let x = spread(g);
         g = x.state;
-        xs[i] = u32_as_i32(x.value);
+        xs[i] = x.value.cast_signed();
     }
 }
 
@@ -238,16 +235,10 @@ fn steps_differ(p: PLL, xs: &[i32; BLOCK], ys: &[i32; BLOCK]) -> u64 {
     let mut differ: u64 = 0;
     let mut s = zero();
     for i in 0..BLOCK {
-        let r = p.process(s, xs[i]);
-        let next = r.state;
-        s = next;
-        differ = tally(differ, i32_as_u32(r.y), i32_as_u32(ys[i]));
+        let y = p.process(&mut s, xs[i]);
+        differ = tally(differ, y.cast_unsigned(), ys[i].cast_unsigned());
     }
     differ
-}
-
-fn block(p: PLL, xs: &[i32; BLOCK], ys: &mut [i32; BLOCK]) {
-    p.block(zero(), xs, ys);
 }
 
 // How many phases of a block from zero are not those of its steps.
@@ -255,7 +246,9 @@ fn block_differs(p: PLL) -> u64 {
     let mut xs = [0i32; BLOCK];
     let mut ys = [0i32; BLOCK];
     fill(&mut xs, 7);
-    block(p, &xs, &mut ys);
+    if p.block(&mut zero(), &xs, &mut ys).is_err() {
+        return 1;
+    }
     steps_differ(p, &xs, &ys)
 }
 
@@ -263,11 +256,9 @@ fn block_differs(p: PLL) -> u64 {
 fn unlike_differs(p: PLL) -> u64 {
     let xs = [0i32; BLOCK];
     let mut ys = [0i32; BLOCK];
-    let r = p.block(zero(), &xs[1..], &mut ys);
-    let verdict = r.verdict;
-    match verdict {
-        Verdict::Done => 1,
-        Verdict::Refused(k) => unlike(k, 31),
+    match p.block(&mut zero(), &xs[1..], &mut ys) {
+        Ok(()) => 1,
+        Err(refusal) => unlike(refusal.number(), 31),
     }
 }
 
@@ -296,8 +287,8 @@ fn compare(rt: &impl Print, text: &[u8], code: u32, name: &[u8]) -> io::Result<(
     for i in 0..LINES {
         let w = line(text, i * WIDTH);
         if w[0] == code {
-            cases = add_u64(cases, weight(w));
-            differ = add_u64(differ, differs(w));
+            cases = cases.wrapping_add(weight(w));
+            differ = differ.wrapping_add(differs(w));
         }
     }
     report(rt, name, cases, differ)?;

@@ -2,15 +2,12 @@
 
 #![tactic(auto)]
 
-use blocks::Verdict;
-use rpll::{Estimate, Processed, ProcessedBlock, RPLL, RPLLConfig, Timestamp};
+use blocks::Refusal;
+use rpll::{Estimate, RPLL, RPLLConfig};
 use rust_answers::input::read_full;
 use rust_answers::lines::{double, line, report, unlike, unlike_words};
 use rust_answers::runs::{digest, digest_words, draw, spread};
 use std::io;
-use words::casts::{i32_as_u32, u32_as_i32};
-use words::shifts::shl_u32;
-use words::unsigned::{add_u32, add_u64, mul_u32, sub_u32};
 
 const LINES: u32 = 1300;
 
@@ -35,10 +32,10 @@ fn configuration(w: [u32; 40]) -> RPLLConfig {
 // The state before a line's step.
 fn state_before(w: [u32; 40]) -> RPLL {
     RPLL {
-        x: u32_as_i32(w[4]),
+        x: w[4].cast_signed(),
         ff: w[5],
         f: w[6],
-        y: u32_as_i32(w[7]),
+        y: w[7].cast_signed(),
     }
 }
 
@@ -53,39 +50,38 @@ fn zero() -> RPLL {
 
 // The four words of a state, in the order of a line.
 fn words_of(s: RPLL) -> [u32; 4] {
-    [i32_as_u32(s.x), s.ff, s.frequency(), i32_as_u32(s.phase())]
+    [
+        s.x.cast_unsigned(),
+        s.ff,
+        s.frequency(),
+        s.phase().cast_unsigned(),
+    ]
 }
 
 // The digest d grown by phase and frequency, or by the number of a refusal.
-fn digest_estimate(d: u64, e: Estimate) -> u64 {
-    match e {
-        Estimate::Given(y, f) => digest(digest(d, i32_as_u32(y)), i32_as_u32(f)),
-        Estimate::Refused(k) => digest(d, k),
+fn digest_estimate(d: u64, answer: Result<Estimate, Refusal>) -> u64 {
+    match answer {
+        Ok(e) => digest(
+            digest(d, e.phase.cast_unsigned()),
+            e.frequency.cast_unsigned(),
+        ),
+        Err(refusal) => digest(d, refusal.number()),
     }
-}
-
-fn timestamp(given: bool, x: u32) -> Timestamp {
-    if given {
-        return Timestamp::At(u32_as_i32(x));
-    }
-    Timestamp::Missing
 }
 
 fn step(w: [u32; 40]) -> u64 {
-    let x = timestamp(w[8] != 0, w[9]);
-    let r = configuration(w).process(state_before(w), x);
-    let state = r.state;
-    let estimate = r.estimate;
-    let Estimate::Given(y, f) = estimate else {
+    let mut s = state_before(w);
+    let x = (w[8] != 0).then_some(w[9].cast_signed());
+    let Ok(e) = configuration(w).process(&mut s, x) else {
         return 1;
     };
-    if i32_as_u32(y) != w[10] {
+    if e.phase.cast_unsigned() != w[10] {
         return 1;
     }
-    if i32_as_u32(f) != w[11] {
+    if e.frequency.cast_unsigned() != w[11] {
         return 1;
     }
-    unlike_words(&words_of(state), &w[12..16])
+    unlike_words(&words_of(s), &w[12..16])
 }
 
 // A loop that runs, the generator that feeds it, the next timestamp of a steady reference, and the digest so far.
@@ -97,55 +93,47 @@ struct Running {
     digest: u64,
 }
 
-// After a step.
-fn processed(r: Running, t: Processed, draws: u64, next: u32) -> Running {
-    let state = t.state;
-    let estimate = t.estimate;
-    Running {
-        state,
-        draws,
-        next,
-        digest: digest_estimate(r.digest, estimate),
-    }
+// A step, whose answer is digested.
+fn process(r: &mut Running, c: RPLLConfig, x: Option<i32>) {
+    let answer = c.process(&mut r.state, x);
+    r.digest = digest_estimate(r.digest, answer);
 }
 
 // A step with a timestamp where the draw is odd, else without.
-fn drawn_turn(r: Running, c: RPLLConfig) -> Running {
+fn drawn_turn(r: &mut Running, c: RPLLConfig) {
     let u = draw(r.draws);
-    let s = r.state;
     if u.value % 2 == 0 {
-        return processed(r, c.process(s, Timestamp::Missing), u.state, r.next);
+        r.draws = u.state;
+        process(r, c, None);
+        return;
     }
     let x = spread(u.state);
-    let t = c.process(s, Timestamp::At(u32_as_i32(x.value)));
-    processed(r, t, x.state, r.next)
-}
-
-// The timestamp after now, where one was due before it.
-fn after(due: bool, next: u32, period: u32) -> u32 {
-    if due { add_u32(next, period) } else { next }
+    r.draws = x.state;
+    process(r, c, Some(x.value.cast_signed()));
 }
 
 // A step on the timestamps of a steady reference.
-fn steady_turn(r: Running, c: RPLLConfig, now: u32, period: u32) -> Running {
-    let due = sub_u32(now, r.next) < 0x8000_0000;
-    let s = r.state;
-    let t = c.process(s, timestamp(due, r.next));
-    processed(r, t, r.draws, after(due, r.next, period))
+fn steady_turn(r: &mut Running, c: RPLLConfig, now: u32, period: u32) {
+    let due = now.wrapping_sub(r.next) < 0x8000_0000;
+    process(r, c, due.then_some(r.next.cast_signed()));
+    if due {
+        r.next = r.next.wrapping_add(period);
+    }
 }
 
 // The length of a step.
 fn interval(c: RPLLConfig) -> u32 {
-    shl_u32(1, c.dt2 as u32)
+    1u32.wrapping_shl(u32::from(c.dt2))
 }
 
 // Step number i of a line's run.
-fn turn(r: Running, w: [u32; 40], i: u32) -> Running {
+fn turn(r: &mut Running, w: [u32; 40], i: u32) {
     let c = configuration(w);
     if w[0] == 3 {
-        return steady_turn(r, c, mul_u32(add_u32(i, 1), interval(c)), w[8]);
+        steady_turn(r, c, i.wrapping_add(1).wrapping_mul(interval(c)), w[8]);
+        return;
     }
-    drawn_turn(r, c)
+    drawn_turn(r, c);
 }
 
 // A line's run from zero.
@@ -157,7 +145,7 @@ fn run(w: [u32; 40], steps: u32) -> Running {
         digest: 0,
     };
     for i in 0..steps {
-        r = turn(r, w, i);
+        turn(&mut r, w, i);
     }
     r
 }
@@ -173,7 +161,7 @@ fn long_run(w: [u32; 40]) -> u64 {
     if w[0] == 2 {
         return 0;
     }
-    if 398 < add_u32(sub_u32(s.frequency(), w[10]), 199) {
+    if 398 < s.frequency().wrapping_sub(w[10]).wrapping_add(199) {
         return 1;
     }
     unlike(s.frequency(), w[9])
@@ -193,14 +181,14 @@ fn drawn_stamp(draws: u64) -> Stamp {
     if u.value % 2 == 0 {
         return Stamp {
             there: false,
-            x: u32_as_i32(u.value),
+            x: u.value.cast_signed(),
             draws: u.state,
         };
     }
     let x = spread(u.state);
     Stamp {
         there: true,
-        x: u32_as_i32(x.value),
+        x: x.value.cast_signed(),
         draws: x.state,
     }
 }
@@ -211,8 +199,7 @@ fn fill(there: &mut [bool; BLOCK], xs: &mut [i32; BLOCK], draws: u64) -> u64 {
     for i in 0..BLOCK {
         let s = drawn_stamp(g);
         there[i] = s.there;
-        let x = s.x;
-        xs[i] = x;
+        xs[i] = s.x;
         g = s.draws;
     }
     g
@@ -222,38 +209,20 @@ fn fill(there: &mut [bool; BLOCK], xs: &mut [i32; BLOCK], draws: u64) -> u64 {
 fn digest_block(d: u64, ys: &[i32; BLOCK], fs: &[i32; BLOCK]) -> u64 {
     let mut e = d;
     for i in 0..BLOCK {
-        e = digest(digest(e, i32_as_u32(ys[i])), i32_as_u32(fs[i]));
+        e = digest(digest(e, ys[i].cast_unsigned()), fs[i].cast_unsigned());
     }
     e
 }
 
-fn block(
-    c: RPLLConfig,
-    s: RPLL,
-    there: &[bool; BLOCK],
-    xs: &[i32; BLOCK],
-    ys: &mut [i32; BLOCK],
-    fs: &mut [i32; BLOCK],
-) -> ProcessedBlock {
-    c.block(s, there, xs, ys, fs)
-}
-
 // A thousand drawn steps as a block.
-fn drawn_block(r: Running, c: RPLLConfig) -> Running {
+fn drawn_block(r: &mut Running, c: RPLLConfig) {
     let mut there = [false; BLOCK];
     let mut xs = [0i32; BLOCK];
     let mut ys = [0i32; BLOCK];
     let mut fs = [0i32; BLOCK];
-    let draws = fill(&mut there, &mut xs, r.draws);
-    let s = r.state;
-    let done = block(c, s, &there, &xs, &mut ys, &mut fs);
-    let state = done.state;
-    Running {
-        state,
-        draws,
-        next: r.next,
-        digest: digest_block(r.digest, &ys, &fs),
-    }
+    r.draws = fill(&mut there, &mut xs, r.draws);
+    let _ = c.block(&mut r.state, &there, &xs, &mut ys, &mut fs);
+    r.digest = digest_block(r.digest, &ys, &fs);
 }
 
 // A line's run from zero, by blocks.
@@ -265,7 +234,7 @@ fn run_by_blocks(w: [u32; 40], blocks: u32) -> Running {
         digest: 0,
     };
     for _ in 0..blocks {
-        r = drawn_block(r, configuration(w));
+        drawn_block(&mut r, configuration(w));
     }
     r
 }
@@ -282,11 +251,9 @@ fn block_run(w: [u32; 40]) -> u64 {
 
 // 1 where a block of unlike lengths is not refused with 31, in a configuration that is refused too.
 fn unlike_differs(there: &[bool], xs: &[i32], ys: &mut [i32], fs: &mut [i32]) -> u64 {
-    let r = configured(31, 0, 0).block(zero(), there, xs, ys, fs);
-    let verdict = r.verdict;
-    match verdict {
-        Verdict::Done => 1,
-        Verdict::Refused(k) => unlike(k, 31),
+    match configured(31, 0, 0).block(&mut zero(), there, xs, ys, fs) {
+        Ok(()) => 1,
+        Err(refusal) => unlike(refusal.number(), 31),
     }
 }
 
@@ -301,14 +268,16 @@ fn lengths_differ() -> u64 {
     let stamps = unlike_differs(&there, &xs[1..], &mut ys, &mut fs);
     let phases = unlike_differs(&there, &xs, &mut two, &mut fs);
     let frequencies = unlike_differs(&there, &xs, &mut ys, &mut two);
-    add_u64(add_u64(flags, stamps), add_u64(phases, frequencies))
+    flags
+        .wrapping_add(stamps)
+        .wrapping_add(phases.wrapping_add(frequencies))
 }
 
 // 1 where the line differs from what the proved function gives.
 fn differs(w: [u32; 40]) -> u64 {
     match w[0] {
         1 => step(w),
-        2 => add_u64(long_run(w), block_run(w)),
+        2 => long_run(w).wrapping_add(block_run(w)),
         _ => long_run(w),
     }
 }
@@ -328,8 +297,8 @@ fn compare(rt: &impl Print, text: &[u8], code: u32, name: &[u8]) -> io::Result<(
     for i in 0..LINES {
         let w = line(text, i * WIDTH);
         if w[0] == code {
-            cases = add_u64(cases, weight(w));
-            differ = add_u64(differ, differs(w));
+            cases = cases.wrapping_add(weight(w));
+            differ = differ.wrapping_add(differs(w));
         }
     }
     report(rt, name, cases, differ)?;
@@ -350,34 +319,28 @@ fn rule(dt2: u32, shift_frequency: u32, shift_phase: u32) -> u32 {
     0
 }
 
-// 1 where the call's number is another, or a refused call changed the state.
-fn number_differs(r: Processed, s: RPLL, number: u32) -> u64 {
-    let state = r.state;
-    let estimate = r.estimate;
-    let Estimate::Refused(k) = estimate else {
-        return unlike(0, number);
-    };
-    if k != number {
-        return 1;
-    }
-    unlike_words(&words_of(s), &words_of(state))
-}
-
-// 1 where configuration number i is not refused as 01 has it.
+// 1 where configuration number i is not refused as 01 has it, or where a refused call changed the state s.
 fn configuration_differs(s: RPLL, i: u32) -> u64 {
     let dt2 = i / 65536;
     let shift_frequency = i / 256 % 256;
     let shift_phase = i % 256;
-    let c = configured(dt2, shift_frequency, shift_phase);
-    let r = c.process(s, Timestamp::At(5));
-    number_differs(r, s, rule(dt2, shift_frequency, shift_phase))
+    let number = rule(dt2, shift_frequency, shift_phase);
+    let mut after = s;
+    let Err(refusal) = configured(dt2, shift_frequency, shift_phase).process(&mut after, Some(5))
+    else {
+        return unlike(0, number);
+    };
+    if refusal.number() != number {
+        return 1;
+    }
+    unlike_words(&words_of(s), &words_of(after))
 }
 
 // How many configurations are not refused as 01 has it.
 fn refusals_differ(s: RPLL) -> u64 {
     let mut differ: u64 = 0;
     for i in 0..CONFIGURATIONS {
-        differ = add_u64(differ, configuration_differs(s, i));
+        differ = differ.wrapping_add(configuration_differs(s, i));
     }
     differ
 }

@@ -5,17 +5,15 @@
 
 ghost use Rattle.std.specs.Prelude.{◌≤◌};
 
+use blocks::Filter;
 use rust_answers::input::read_full;
 use rust_answers::lines::{double, line, report, unlike, unlike_double};
 use rust_answers::runs::{digest, digest_double, draw, spread};
 use std::io;
 use unwrap::clamp_wrap::ClampWrap;
-use unwrap::scale::{Scaled, saturating_scale};
+use unwrap::scale::saturating_scale;
 use unwrap::unwrapper::Unwrapper;
 use unwrap::wrapping::{Wrap, overflowing_sub};
-use words::casts::{i32_as_u32, i64_as_u64, u32_as_i32, u64_as_i64};
-use words::shifts::{shl_u32, shr_i32};
-use words::unsigned::{add_u32, add_u64, sub_u32};
 
 const LINES: u32 = 2750;
 
@@ -31,19 +29,17 @@ fn sign(w: Wrap) -> u32 {
 }
 
 fn wrap_of(sign: u32) -> Wrap {
-    if sign == 0 {
-        return Wrap::None;
+    match sign {
+        0 => Wrap::None,
+        1 => Wrap::Positive,
+        _ => Wrap::Negative,
     }
-    if sign == 1 {
-        return Wrap::Positive;
-    }
-    Wrap::Negative
 }
 
 fn scaled(lo: u32, hi: u32, shift: u32) -> u32 {
-    match saturating_scale(u32_as_i32(lo), u32_as_i32(hi), shift) {
-        Scaled::Value(v) => i32_as_u32(v),
-        Scaled::Refused(k) => k,
+    match saturating_scale(lo.cast_signed(), hi.cast_signed(), shift) {
+        Ok(v) => v.cast_unsigned(),
+        Err(refusal) => refusal.number(),
     }
 }
 
@@ -55,29 +51,26 @@ fn in_crate(y: u32, hi: u32, shift: u32) -> u32 {
     if 31 < shift {
         return y;
     }
-    let limit = shl_u32(1, shift - 1);
-    if u32_as_i32(limit) <= u32_as_i32(hi) {
-        return sub_u32(0x8000_0000, limit);
+    let limit = 1u32 << (shift - 1);
+    if limit.cast_signed() <= hi.cast_signed() {
+        return 0x8000_0000u32.wrapping_sub(limit);
     }
-    if u32_as_i32(hi) <= u32_as_i32(sub_u32(0, limit)) {
-        return add_u32(0x8000_0000, limit);
+    if hi.cast_signed() <= limit.wrapping_neg().cast_signed() {
+        return 0x8000_0000u32.wrapping_add(limit);
     }
     y
 }
 
 fn difference(w: [u32; 40]) -> u64 {
-    let d = overflowing_sub(u32_as_i32(w[1]), u32_as_i32(w[2]));
-    let wrap = d.wrap;
-    if i32_as_u32(d.delta) != w[3] {
+    let d = overflowing_sub(w[1].cast_signed(), w[2].cast_signed());
+    if d.delta.cast_unsigned() != w[3] {
         return 1;
     }
-    unlike(sign(wrap), w[4])
+    unlike(sign(d.wrap), w[4])
 }
 
 fn wrap_sum(w: [u32; 40]) -> u64 {
-    let a = wrap_of(w[1]);
-    let b = wrap_of(w[2]);
-    unlike(sign(a.add(b)), w[3])
+    unlike(sign(wrap_of(w[1]).add(wrap_of(w[2]))), w[3])
 }
 
 fn scale(w: [u32; 40]) -> u64 {
@@ -89,45 +82,39 @@ fn scale(w: [u32; 40]) -> u64 {
 }
 
 fn unwrap_step(w: [u32; 40]) -> u64 {
-    let u = Unwrapper {
-        y: u64_as_i64(double(w[1], w[2])),
+    let mut u = Unwrapper {
+        y: double(w[1], w[2]).cast_signed(),
     };
-    let r = u.process(u32_as_i32(w[3]));
-    let after = r.state;
-    if i32_as_u32(r.dx) != w[4] {
+    let dx = u.process(w[3].cast_signed());
+    if dx.cast_unsigned() != w[4] {
         return 1;
     }
-    if i64_as_u64(after.y) != double(w[5], w[6]) {
-        return 1;
-    }
-    0
+    unlike_double(u.y.cast_unsigned(), double(w[5], w[6]))
 }
 
 fn turns(w: [u32; 40]) -> u64 {
     let u = Unwrapper {
-        y: u64_as_i64(double(w[1], w[2])),
+        y: double(w[1], w[2]).cast_signed(),
     };
-    if i32_as_u32(u.wraps()) != w[3] {
+    if u.wraps().cast_unsigned() != w[3] {
         return 1;
     }
-    unlike(i32_as_u32(u.phase()), w[4])
+    unlike(u.phase().cast_unsigned(), w[4])
 }
 
 fn clamp_step(w: [u32; 40]) -> u64 {
-    let c = ClampWrap {
-        x0: u32_as_i32(w[1]),
+    let mut c = ClampWrap {
+        x0: w[1].cast_signed(),
         clamp: wrap_of(w[2]),
     };
-    let r = c.process(u32_as_i32(w[3]));
-    let after = r.state;
-    let clamp = after.clamp;
-    if i32_as_u32(r.y) != w[4] {
+    let y = c.process(w[3].cast_signed());
+    if y.cast_unsigned() != w[4] {
         return 1;
     }
-    if i32_as_u32(after.x0) != w[5] {
+    if c.x0.cast_unsigned() != w[5] {
         return 1;
     }
-    unlike(sign(clamp), w[6])
+    unlike(sign(c.clamp), w[6])
 }
 
 // What a run steps, the generator that feeds it, and what it answers: its digest so far, or a count. Of scaled words
@@ -145,7 +132,7 @@ struct Running {
 // From y, and from a clamp of zero.
 fn started(seed: u32, y: u64) -> Running {
     Running {
-        unwrapper: Unwrapper { y: u64_as_i64(y) },
+        unwrapper: Unwrapper { y: y.cast_signed() },
         clamp: ClampWrap {
             x0: 0,
             clamp: Wrap::None,
@@ -157,34 +144,16 @@ fn started(seed: u32, y: u64) -> Running {
     }
 }
 
-// The same states, with this answer.
-fn answered(r: Running, draws: u64, answer: u64) -> Running {
-    let unwrapper = r.unwrapper;
-    let clamp = r.clamp;
-    Running {
-        unwrapper,
-        clamp,
-        draws,
-        answer,
-        theirs: r.theirs,
-        clipped: r.clipped,
-    }
-}
-
-fn difference_turn(r: Running) -> Running {
+fn difference_turn(r: &mut Running) {
     let y = spread(r.draws);
     let x = spread(y.state);
-    let o = overflowing_sub(u32_as_i32(y.value), u32_as_i32(x.value));
-    let wrap = o.wrap;
-    answered(
-        r,
-        x.state,
-        digest(digest(r.answer, i32_as_u32(o.delta)), sign(wrap)),
-    )
+    let o = overflowing_sub(y.value.cast_signed(), x.value.cast_signed());
+    r.draws = x.state;
+    r.answer = digest(digest(r.answer, o.delta.cast_unsigned()), sign(o.wrap));
 }
 
 // Near: hi is first shifted to where the crate's clip begins.
-fn scale_turn(r: Running, near: bool) -> Running {
+fn scale_turn(r: &mut Running, near: bool) {
     let lo = spread(r.draws);
     let hi = spread(lo.state);
     let k = draw(hi.state);
@@ -192,61 +161,35 @@ fn scale_turn(r: Running, near: bool) -> Running {
     let high = placed(hi.value, shift, near);
     let y = scaled(lo.value, high, shift);
     let theirs = in_crate(y, high, shift);
-    let unwrapper = r.unwrapper;
-    let clamp = r.clamp;
-    Running {
-        unwrapper,
-        clamp,
-        draws: k.state,
-        answer: digest(r.answer, y),
-        theirs: digest(r.theirs, theirs),
-        clipped: add_u64(r.clipped, unlike(y, theirs)),
-    }
+    r.draws = k.state;
+    r.answer = digest(r.answer, y);
+    r.theirs = digest(r.theirs, theirs);
+    r.clipped = r.clipped.wrapping_add(unlike(y, theirs));
 }
 
 fn placed(hi: u32, shift: u32, near: bool) -> u32
-    requires { shift ≤ 32 }
+    requires { (1 ≤ shift) × (shift ≤ 32) }
 {
     if near {
-        return i32_as_u32(shr_i32(u32_as_i32(hi), 32 - shift));
+        return (hi.cast_signed() >> (32 - shift)).cast_unsigned();
     }
     hi
 }
 
-fn unwrap_turn(r: Running) -> Running {
+fn unwrap_turn(r: &mut Running) {
     let x = spread(r.draws);
-    let u = r.unwrapper;
-    let t = u.process(u32_as_i32(x.value));
-    let after = t.state;
-    let turned = digest(
-        digest(r.answer, i32_as_u32(t.dx)),
-        i32_as_u32(after.wraps()),
-    );
-    let clamp = r.clamp;
-    Running {
-        unwrapper: after,
-        clamp,
-        draws: x.state,
-        answer: digest(turned, i32_as_u32(after.phase())),
-        theirs: r.theirs,
-        clipped: r.clipped,
-    }
+    let dx = r.unwrapper.process(x.value.cast_signed());
+    r.draws = x.state;
+    r.answer = digest(r.answer, dx.cast_unsigned());
+    r.answer = digest(r.answer, r.unwrapper.wraps().cast_unsigned());
+    r.answer = digest(r.answer, r.unwrapper.phase().cast_unsigned());
 }
 
-fn clamp_turn(r: Running) -> Running {
+fn clamp_turn(r: &mut Running) {
     let x = spread(r.draws);
-    let c = r.clamp;
-    let t = c.process(u32_as_i32(x.value));
-    let after = t.state;
-    let unwrapper = r.unwrapper;
-    Running {
-        unwrapper,
-        clamp: after,
-        draws: x.state,
-        answer: digest(r.answer, i32_as_u32(t.y)),
-        theirs: r.theirs,
-        clipped: r.clipped,
-    }
+    let y = r.clamp.process(x.value.cast_signed());
+    r.draws = x.state;
+    r.answer = digest(r.answer, y.cast_unsigned());
 }
 
 // 1 where the scaled value steps back from hi, lo to the next larger pair.
@@ -256,29 +199,34 @@ fn steps_back(lo: u32, hi: u32, shift: u32) -> u64 {
             return 0;
         }
         return before(
-            scaled(0x8000_0000, add_u32(hi, 1), shift),
+            scaled(0x8000_0000, hi.wrapping_add(1), shift),
             scaled(lo, hi, shift),
         );
     }
-    before(scaled(add_u32(lo, 1), hi, shift), scaled(lo, hi, shift))
+    before(scaled(lo.wrapping_add(1), hi, shift), scaled(lo, hi, shift))
 }
 
 fn before(a: u32, b: u32) -> u64 {
-    if u32_as_i32(a) < u32_as_i32(b) { 1 } else { 0 }
+    if a.cast_signed() < b.cast_signed() {
+        1
+    } else {
+        0
+    }
 }
 
 // Counts where neighbours, near the crate's clip or not, step back.
-fn monotone_turn(r: Running, near: bool) -> Running {
+fn monotone_turn(r: &mut Running, near: bool) {
     let lo = spread(r.draws);
     let hi = spread(lo.state);
     let k = draw(hi.state);
     let shift = 1 + k.value % 32;
     let back = steps_back(lo.value, placed(hi.value, shift, near), shift);
-    answered(r, k.state, add_u64(r.answer, back))
+    r.draws = k.state;
+    r.answer = r.answer.wrapping_add(back);
 }
 
 // Turn number i of a run with this code.
-fn turn(r: Running, code: u32, i: u32) -> Running {
+fn turn(r: &mut Running, code: u32, i: u32) {
     match code {
         7 => difference_turn(r),
         8 => scale_turn(r, false),
@@ -292,7 +240,7 @@ fn turn(r: Running, code: u32, i: u32) -> Running {
 fn run(code: u32, first: Running, steps: u32) -> Running {
     let mut r = first;
     for i in 0..steps {
-        r = turn(r, code, i);
+        turn(&mut r, code, i);
     }
     r
 }
@@ -300,12 +248,12 @@ fn run(code: u32, first: Running, steps: u32) -> Running {
 // The run of a line: what it answers, and the state after it.
 fn long_run(w: [u32; 40]) -> u64 {
     let r = run(w[0], started(w[1], double(w[3], w[4])), w[2]);
-    let u = r.unwrapper;
-    let c = r.clamp;
-    let clamp = c.clamp;
     let d = match w[0] {
-        10 => digest_double(r.answer, i64_as_u64(u.y)),
-        11 => digest(digest(r.answer, i32_as_u32(c.x0)), sign(clamp)),
+        10 => digest_double(r.answer, r.unwrapper.y.cast_unsigned()),
+        11 => digest(
+            digest(r.answer, r.clamp.x0.cast_unsigned()),
+            sign(r.clamp.clamp),
+        ),
         _ => r.answer,
     };
     unlike_double(d, double(w[5], w[6]))
@@ -362,9 +310,9 @@ fn compare(rt: &impl Print, text: &[u8], code: u32, name: &[u8]) -> io::Result<u
     for i in 0..LINES {
         let w = line(text, i * WIDTH);
         if w[0] == code {
-            cases = add_u64(cases, weight(w));
-            differ = add_u64(differ, differs(w));
-            clips = add_u64(clips, clipped(w));
+            cases = cases.wrapping_add(weight(w));
+            differ = differ.wrapping_add(differs(w));
+            clips = clips.wrapping_add(clipped(w));
         }
     }
     report(rt, name, cases, differ)?;

@@ -6,33 +6,24 @@
 
 ghost use Rattle.std.specs.Prelude.{◌≡◌, ◌≤◌, length, IfOk};
 
+use blocks::Refusal;
 use std::io;
 use std::io::Read;
-use wav::header::{Head, read_header};
+use wav::header::{Recording, read_header};
 
-fn wide(b: u8) -> u64
-    ensures { result ≤ 255 }
-{
-    b as u64
-}
-
-// The number of four bytes, lowest first.
-fn number(bytes: &[u8; 4]) -> u64 {
-    wide(bytes[0]) + 256 * wide(bytes[1]) + 65536 * wide(bytes[2]) + 16777216 * wide(bytes[3])
-}
-
-fn print(rt: &impl Print, head: Head) -> io::Result<()> {
+fn print(rt: &impl Print, head: Result<Recording, Refusal>) -> io::Result<()> {
     match head {
-        Head::Of(told) => {
+        Ok(told) => {
             let rate = told.rate;
             let size = told.size;
             print!(rt; "rate {rate}, size {size}")
         }
-        Head::Refused(number) => rt.print(number),
+        Err(refusal) => rt.print(refusal.number()),
     }
 }
 
 // Reads until buf is full or the input ends: how many bytes came, put at the start of buf.
+// Kept: an end within it is no error here, as it is one of `read_exact`.
 fn read_full(input: &mut impl Read, buf: &mut [u8]) -> io::Result<usize>
     ensures count { IfOk result (λ n. n ≤ length buf.new) }
     ensures size { length buf.new ≡ length buf.old }
@@ -56,22 +47,20 @@ fn next(rt: &impl Print, input: &mut impl Read) -> io::Result<bool> {
     if read_full(input, &mut bytes)? < 4 {
         return Ok(false);
     }
-    let length = number(&bytes);
+    let length = u64::from(u32::from_le_bytes(bytes));
     print(rt, read_header(&head, length))?;
     print!(rt; "; one byte longer, ")?;
-    print(
-        rt,
-        read_header(&head, std::num::wrapping_add_u64(length, 1)),
-    )?;
+    print(rt, read_header(&head, length + 1))?;
     println!(rt; "")?;
     Ok(true)
 }
 
 fn main(rt: HostRuntime) -> io::Result<()> {
     let mut input = rt.stdin();
-    let mut left: u32 = 100;
-    while 0 < left {
-        left = if next(&rt, &mut input)? { left - 1 } else { 0 };
+    for _ in 0..100 {
+        if !next(&rt, &mut input)? {
+            break;
+        }
     }
     Ok(())
 }

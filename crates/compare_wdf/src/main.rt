@@ -5,14 +5,13 @@
 
 ghost use Rattle.std.specs.Prelude.{◌≤◌};
 
+use adapters::tpa::{Ports, Tpa};
+use blocks::Refusal;
 use rust_answers::input::read_full;
 use rust_answers::lines::{double, line, report, size, unlike, unlike_double, unlike_words};
 use rust_answers::runs::{digest, digest_first, spread};
 use std::io;
-use wdf::filter::{Out, Wdf};
-use wdf::tpa::{Ports, Tpa};
-use words::casts::{i32_as_u32, u32_as_i32};
-use words::unsigned::add_u64;
+use wdf::filter::Wdf;
 
 const LINES: u32 = 700;
 
@@ -34,175 +33,64 @@ const CORNERS: [u32; 10] = [
 // The outputs of a nibble's adapter.
 fn adapted(nibble: u32, x0: u32, x1: u32, a: u32) -> Ports {
     let code = Tpa::from((nibble % 256) as u8);
-    code.adapt(u32_as_i32(x0), u32_as_i32(x1), u32_as_i32(a))
+    code.adapt(x0.cast_signed(), x1.cast_signed(), a.cast_signed())
 }
 
 // The digest grown by both outputs.
 fn digest_ports(d: u64, p: Ports) -> u64 {
-    digest(digest(d, i32_as_u32(p.0)), i32_as_u32(p.1))
+    digest(digest(d, p.0.cast_unsigned()), p.1.cast_unsigned())
 }
 
 fn adapter(w: [u32; 40]) -> u64 {
     let p = adapted(w[1], w[2], w[3], w[4]);
-    if i32_as_u32(p.0) != w[5] {
+    if p.0.cast_unsigned() != w[5] {
         return 1;
     }
-    unlike(i32_as_u32(p.1), w[6])
+    unlike(p.1.cast_unsigned(), w[6])
 }
 
 // Eight words of a line, from number at on.
 fn eight(w: [u32; 40], at: usize) -> [i32; 8]
     requires { at ≤ 32 }
 {
-    [
-        u32_as_i32(w[at]),
-        u32_as_i32(w[at + 1]),
-        u32_as_i32(w[at + 2]),
-        u32_as_i32(w[at + 3]),
-        u32_as_i32(w[at + 4]),
-        u32_as_i32(w[at + 5]),
-        u32_as_i32(w[at + 6]),
-        u32_as_i32(w[at + 7]),
-    ]
+    let mut numbers = [0; 8];
+    for j in 0..8 {
+        numbers[j] = w[at + j].cast_signed();
+    }
+    numbers
 }
 
 fn cells(f: Wdf) -> [u32; 8] {
-    let z = f.z;
-    [
-        i32_as_u32(z[0]),
-        i32_as_u32(z[1]),
-        i32_as_u32(z[2]),
-        i32_as_u32(z[3]),
-        i32_as_u32(z[4]),
-        i32_as_u32(z[5]),
-        i32_as_u32(z[6]),
-        i32_as_u32(z[7]),
-    ]
+    f.z.map(i32::cast_unsigned)
 }
 
 // What a step gives out, as a word: its output, or the number of its refusal.
-fn given(out: Out) -> u32 {
+fn given(out: Result<i32, Refusal>) -> u32 {
     match out {
-        Out::Given(y) => i32_as_u32(y),
-        Out::Refused(k) => k,
+        Ok(y) => y.cast_unsigned(),
+        Err(refusal) => refusal.number(),
     }
 }
 
 fn step(w: [u32; 40]) -> u64 {
-    let f = Wdf {
+    let mut filter = Wdf {
         sections: size(w[1]),
         architecture: w[2],
         a: eight(w, 3),
         z: eight(w, 11),
     };
-    let r = f.process(u32_as_i32(w[19]));
-    let after = r.state;
-    let out = r.out;
-    if given(out) != w[20] {
+    if given(filter.process(w[19].cast_signed())) != w[20] {
         return 1;
     }
-    unlike_words(&cells(after), &w[21..29])
-}
-
-// Draws a slice full of inputs; the generator's state after them.
-fn fill(xs: &mut [i32], state: u64) -> u64 {
-    let mut s = state;
-    for i in 0..xs.len() {
-        let x = spread(s);
-        let v = u32_as_i32(x.value);
-        xs[i] = v;
-        s = x.state;
-    }
-    s
-}
-
-// The digest grown by the numbers of a slice.
-fn digest_all(d: u64, ys: &[i32]) -> u64 {
-    let mut e = d;
-    for i in 0..ys.len() {
-        let y = ys[i];
-        e = digest(e, i32_as_u32(y));
-    }
-    e
+    unlike_words(&cells(filter), &w[21..29])
 }
 
 // A filter that runs, the generator that feeds it, and the digest so far.
-#[derive(Clone, Copy)]
+#[derive(Drop)]
 struct Running {
-    state: Wdf,
+    filter: Wdf,
     draws: u64,
     digest: u64,
-}
-
-// A filter with drawn coefficients and cells, made form 1's way, since B1 and C1 are among its adapters.
-fn started(sections: usize, architecture: u32, seed: u32) -> Running {
-    let mut a = [0i32; 8];
-    let mut z = [0i32; 8];
-    let second = fill(&mut a, seed as u64);
-    let draws = fill(&mut z, second);
-    let made = Wdf::from_form1(sections, architecture, a);
-    let mut state = made.state;
-    state.z = z;
-    Running {
-        state,
-        draws,
-        digest: 0,
-    }
-}
-
-// The same filter, with this digest.
-fn digested(r: Running, draws: u64, digest: u64) -> Running {
-    let state = r.state;
-    Running {
-        state,
-        draws,
-        digest,
-    }
-}
-
-// Triple number i of the corners.
-fn corner_turn(r: Running, nibble: u32, i: u32) -> Running {
-    let x0 = (i / 100 % 10) as usize;
-    let x1 = (i / 10 % 10) as usize;
-    let a = (i % 10) as usize;
-    let p = adapted(nibble, CORNERS[x0], CORNERS[x1], CORNERS[a]);
-    digested(r, r.draws, digest_ports(r.digest, p))
-}
-
-fn adapter_turn(r: Running, nibble: u32) -> Running {
-    let x0 = spread(r.draws);
-    let x1 = spread(x0.state);
-    let a = spread(x1.state);
-    let p = adapted(nibble, x0.value, x1.value, a.value);
-    digested(r, a.state, digest_ports(r.digest, p))
-}
-
-fn step_turn(r: Running) -> Running {
-    let x = spread(r.draws);
-    let f = r.state;
-    let done = f.process(u32_as_i32(x.value));
-    let state = done.state;
-    let out = done.out;
-    Running {
-        state,
-        draws: x.state,
-        digest: digest(r.digest, given(out)),
-    }
-}
-
-// A block of 500 inputs.
-fn block_turn(r: Running) -> Running {
-    let mut xs = [0i32; 500];
-    let mut ys = [0i32; 500];
-    let draws = fill(&mut xs, r.draws);
-    let f = r.state;
-    let done = f.block(&xs, &mut ys);
-    let state = done.state;
-    Running {
-        state,
-        draws,
-        digest: digest_all(r.digest, &ys),
-    }
 }
 
 // What a turn of a run does; an adapter's has its nibble.
@@ -214,36 +102,97 @@ enum Turn {
     Block,
 }
 
-fn turned(r: Running, turn: Turn, i: u32) -> Running {
-    match turn {
-        Turn::Corner(nibble) => corner_turn(r, nibble, i),
-        Turn::Adapter(nibble) => adapter_turn(r, nibble),
-        Turn::Step => step_turn(r),
-        Turn::Block => block_turn(r),
+impl Running {
+    // No filter, from a seed.
+    fn of_seed(seed: u32) -> Running {
+        Running {
+            filter: Wdf::EMPTY,
+            draws: u64::from(seed),
+            digest: 0,
+        }
+    }
+
+    // A filter with drawn coefficients and cells, made form 1's way, since B1 and C1 are among its adapters.
+    fn of_filter(sections: usize, architecture: u32, seed: u32) -> Running {
+        let mut running = Running::of_seed(seed);
+        let mut a = [0; 8];
+        let mut z = [0; 8];
+        running.fill(&mut a);
+        running.fill(&mut z);
+        running.filter = Wdf::from_form1(sections, architecture, a).unwrap_or(Wdf::EMPTY);
+        running.filter.z = z;
+        running
+    }
+
+    // The next input's word.
+    fn draw(&mut self) -> u32 {
+        let drawn = spread(self.draws);
+        self.draws = drawn.state;
+        drawn.value
+    }
+
+    // Draws a slice full of inputs.
+    fn fill(&mut self, xs: &mut [i32]) {
+        for i in 0..xs.len() {
+            xs[i] = self.draw().cast_signed();
+        }
+    }
+
+    // Triple number i of the corners.
+    fn corner(&mut self, nibble: u32, i: u32) {
+        let x0 = CORNERS[(i / 100 % 10) as usize];
+        let x1 = CORNERS[(i / 10 % 10) as usize];
+        let a = CORNERS[(i % 10) as usize];
+        self.digest = digest_ports(self.digest, adapted(nibble, x0, x1, a));
+    }
+
+    fn adapter(&mut self, nibble: u32) {
+        let x0 = self.draw();
+        let x1 = self.draw();
+        let a = self.draw();
+        self.digest = digest_ports(self.digest, adapted(nibble, x0, x1, a));
+    }
+
+    fn step(&mut self) {
+        let x = self.draw().cast_signed();
+        self.digest = digest(self.digest, given(self.filter.process(x)));
+    }
+
+    // A block of 500 inputs.
+    fn block(&mut self) {
+        let mut xs = [0; 500];
+        let mut ys = [0; 500];
+        self.fill(&mut xs);
+        let _ran = self.filter.block(&xs, &mut ys);
+        for y in ys {
+            self.digest = digest(self.digest, y.cast_unsigned());
+        }
+    }
+
+    fn turns(&mut self, turn: Turn, count: u32) {
+        for i in 0..count {
+            match turn {
+                Turn::Corner(nibble) => self.corner(nibble, i),
+                Turn::Adapter(nibble) => self.adapter(nibble),
+                Turn::Step => self.step(),
+                Turn::Block => self.block(),
+            }
+        }
     }
 }
 
-fn run(turn: Turn, first: Running, turns: u32) -> Running {
-    let mut r = first;
-    for i in 0..turns {
-        r = turned(r, turn, i);
-    }
-    r
-}
-
-fn adapter_run(turn: Turn, seed: u32, turns: u32, answer: u64) -> u64 {
-    let mut first = started(0, 0, 0);
-    first.draws = seed as u64;
-    let r = run(turn, first, turns);
-    unlike_double(r.digest, answer)
+fn adapter_run(turn: Turn, seed: u32, count: u32, answer: u64) -> u64 {
+    let mut running = Running::of_seed(seed);
+    running.turns(turn, count);
+    unlike_double(running.digest, answer)
 }
 
 // A run of a filter: its outputs, then its cells.
-fn filter_run(w: [u32; 40], turn: Turn, turns: u32) -> u64 {
+fn filter_run(w: [u32; 40], turn: Turn, count: u32) -> u64 {
     let sections = size(w[1]);
-    let r = run(turn, started(sections, w[2], w[3]), turns);
-    let f = r.state;
-    let d = digest_first(r.digest, &cells(f), sections);
+    let mut running = Running::of_filter(sections, w[2], w[3]);
+    running.turns(turn, count);
+    let d = digest_first(running.digest, &cells(running.filter), sections);
     unlike_double(d, double(w[5], w[6]))
 }
 
@@ -276,8 +225,8 @@ fn compare(rt: &impl Print, text: &[u8], code: u32, kind: u32, name: &[u8]) -> i
     for i in 0..LINES {
         let w = line(text, i * WIDTH);
         if w[0] == code {
-            cases = add_u64(cases, weight(w));
-            differ = add_u64(differ, differs(w, kind));
+            cases = cases.wrapping_add(weight(w));
+            differ = differ.wrapping_add(differs(w, kind));
         }
     }
     report(rt, name, cases, differ)?;

@@ -1,18 +1,18 @@
 -- Ranges, counted from an offset so that they are omega's: a carry and the difference of two numbers in a range are in the next range.
 use mathlib.Core.Path.{◌≡◌, refl, sym, ap, ◌∙◌, subst}
-use mathlib.Core.Bool.{Bool, true, false, true≢false, not, ◌&&◌}
+use mathlib.Core.Bool.{Bool, true, false, true≢false, ◌&&◌}
 use mathlib.Core.List.{List, [], ◌∷◌, ◌++◌}
 use Prim.Native.Nat.{ℕ, suc, ◌+◌, ◌^◌, ◌<◌, ◌≤◌}
 use native.Mathlib.Nat.{two-pow-succ, add-zero}
 use native.Mathlib.Numerals.{add-one}
 use native.Mathlib.Omega.{arith}
-use lib.Dec.{T, ltb, leb}
+use lib.Dec.{T}
 use lib.Pow.{pow_mono}
 use lib.IntN.{ℤ, pos, negsuc, ◌+ℤ◌, ◌-ℤ◌}
 use lib.ListN.{length, take, drop, get_or, set}
 use lib.Seq.{slice, slice-cons, slice_empty, take-suc-set, take-set-lt, drop-set-lt, length-take-le}
-use lib.Signed.{mag, lt_z, le_z, le_z_yes}
-use borrow.Author.Tests.{leb-true, ltb-true, ltb-false, le-leb, lt-leb}
+use lib.Signed.{mag, le_z, le_z_yes}
+use borrow.Author.Tests.{leb-true, le-leb}
 use Rattle.words.proofs.Sizes.{off, off_add, off_minus, mag_add, mag_minus}
 use Rattle.dsm.specs.Modulator.{inside, inside_from, InRange}
 
@@ -23,20 +23,6 @@ both false false h = (h, h)
 
 pub all : (a b : Bool) → a ≡ true → b ≡ true → (a && b) ≡ true
 all a b h k = rw (h, k)
-
-not_below : (m n : ℕ) → leb n m ≡ not (ltb m n)
-not_below m n = pick (ltb m n) refl
-  where
-    pick : (t : Bool) → ltb m n ≡ t → leb n m ≡ not (ltb m n)
-    pick true e = rw e (lt-leb n m (ltb-true m n e))
-    pick false e = rw e (le-leb n m (ltb-false m n e))
-
--- the two tests of an order
-pub not_less : (a b : ℤ) → le_z b a ≡ not (lt_z a b)
-not_less (pos m) (pos n) = not_below m n
-not_less (pos m) (negsuc n) = refl
-not_less (negsuc m) (pos n) = refl
-not_less (negsuc m) (negsuc n) = not_below n m
 
 -- from 1 - 2 ^ j to 2 ^ j
 pub record Near (j : ℕ) (z : ℤ) : Type 0 where

@@ -8,11 +8,11 @@ use lib.IntN.{ℤ, pos}
 use lib.ListN.{length, get_or, set}
 use lib.Seq.{get_or-set_same, get_or-set_other}
 use borrow.Author.Count.{below_more}
-use Rattle.blocks.proofs.Turns.{Going, start, turn, done}
+use Rattle.blocks.proofs.Turns.{Going, turn}
 use Rattle.dsm.specs.declared.Dsm.{Dsm}
 use Rattle.dsm.specs.Modulator.{modulator_out, next_of, InRange}
 use Rattle.dsm.specs.Calls.{state_number, Keeps}
-use Rattle.dsm.specs.Cells.{Accumulates, Combines, Turns, Modulates}
+use Rattle.dsm.specs.Cells.{Accumulates, Combines, Turns}
 use Rattle.dsm.proofs.Shapes.{beyond_keeping, used, beyond}
 use Rattle.dsm.proofs.Refusals.{none, none-order}
 
@@ -53,13 +53,6 @@ pub record Running (s : Dsm) (xs : List ℕ) (ys : List ℤ) (t : Dsm) (i : ℕ)
   pub range : (j : ℕ) → j < i → InRange s.order (get_or ys j (pos 0))
 
 module _ (s : Dsm) (xs : List ℕ) where
-  pub running_start : (ys : List ℤ) → length xs ≡ length ys → Running s xs ys s 0
-  running_start ys e = record {
-    going = start modulator_out next_of s xs ys (sym e);
-    keeps = keeps_same s;
-    range = λ j h. absurd (omega arith);
-  }
-
   pub running_turn : (ys : List ℤ) (t u : Dsm) (i : ℕ) (y : ℤ) → i < length xs → Running s xs ys t i → Turns t (get_or xs i 0) u y
       → Running s xs (set ys i y) u (i + 1)
   running_turn ys t u i y h g r =
@@ -71,8 +64,3 @@ module _ (s : Dsm) (xs : List ℕ) where
             (λ j k. rw (get_or-set_other ys i j y (pos 0) (ne_of_lt k)) (g.range j k))
             (rw (get_or-set_same ys i y (pos 0) short) (rw g.keeps.order at r.range));
       }
-
-  pub running_end : (ys : List ℤ) (t : Dsm) (i : ℕ) → length xs ≤ i → Running s xs ys t i → Modulates s xs t ys
-  running_end ys t i h g =
-      let d = done modulator_out next_of s xs ys t i h g.going in
-      record { state = d.0; written = d.1; keeps = g.keeps; range = λ j k. g.range j (omega (arith, g.going.same)) }

@@ -9,7 +9,7 @@ ghost use Rattle.std.specs.Prelude.{◌≡◌, true, ◌+◌, ◌-◌, ◌/◌, 
 ghost use Rattle.std.specs.Int.Signed.{mag};
 ghost use Rattle.blocks.specs.Refusals.{answer};
 ghost use Rattle.dsm.specs.Modulator.{inside, inside_from};
-ghost use Rattle.dsm.specs.Calls.{order_number, cells_number, state_number, modulator_of, range_of, Steps, Runs};
+ghost use Rattle.dsm.specs.Calls.{order_number, cells_number, state_number, zeros_of, modulator_of, range_of, Steps, Runs};
 ghost use Rattle.dsm.specs.Cells.{Accumulates, Combines, Turns, Modulates};
 
 use blocks::Refusal;
@@ -97,10 +97,9 @@ fn in_range(j: usize, cell: i16) -> bool
 
 // Whether each of the K - 1 used cells lies in its range.
 fn cells_in_range(c: &[i16; 8], order: usize) -> bool
-    requires { order ≤ 8 }
     ensures { result ≡ inside_from 0 (take (order - 1) c.now) }
 {
-    for i in 0..order.saturating_sub(1) {
+    for i in 0..order.saturating_sub(1).min(8) {
         if !in_range(i, c[i]) {
             return false;
         }
@@ -140,7 +139,6 @@ impl Dsm {
 
     // 32 where a used retained cell is out of range.
     fn cells_fit(&self) -> Result<(), Refusal>
-        requires { self.now.order ≤ 8 }
         ensures { result ≡ answer (cells_number self.now) tt }
     {
         if cells_in_range(&self.retained, self.order) {
@@ -241,4 +239,11 @@ impl Dsm {
             greatest: high,
         })
     }
+}
+
+// Nothing calls it: its promise says what the constant `IDLE` is.
+fn idle() -> Dsm
+    ensures { result ≡ zeros_of 0 }
+{
+    Dsm::IDLE
 }

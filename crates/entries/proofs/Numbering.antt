@@ -1,26 +1,31 @@
 -- An entry's numbers are its record's.
 use native.Mathlib.Omega.{arith}
 use native.Mathlib.Nat.{pow-le-pow_right}
-use mathlib.Core.Path.{◌≡◌, refl, sym, ap, ◌∙◌}
-use mathlib.Core.Bool.{Bool, true, false, cond, ◌&&◌}
+use mathlib.Core.Path.{◌≡◌, refl, ap}
+use mathlib.Core.Bool.{Bool, true, false, cond, ◌&&◌, ◌||◌}
 use mathlib.Core.List.{List, [], ◌∷◌, map}
-use Prim.Native.Nat.{ℕ, zero, suc, ◌%◌, ◌^◌, ◌≤◌, ◌<◌}
-use lib.Dec.{leb, ltb, eqb}
+use Prim.Native.Nat.{ℕ, zero, suc, ◌*◌, ◌%◌, ◌^◌, ◌≤◌, ◌<◌}
+use lib.Dec.{ltb, eqb}
 use lib.IntN.{ℤ, pos, negsuc}
 use lib.ListN.{length, get_or}
 use lib.Signed.{lt_z}
 use mir.Syntax.{w32}
 use mir.Val.{SFits}
-use borrow.Author.Tests.{leb-true, le-leb, lt-leb, lt-ltb, ltb-true, ltb-false, eqb-true}
+use borrow.Author.Tests.{leb-true, lt-ltb, ltb-true, ltb-false, eqb-true}
+use Rattle.std.specs.Prelude.{Result, Ok, Err}
+use Rattle.blocks.specs.declared.refusal.Refusal.{Refusal}
+use Rattle.blocks.specs.Refusals.{answer}
+use Rattle.blocks.proofs.Refusals.{taken_number}
 use Rattle.words.specs.Words.{wrap}
 use Rattle.words.proofs.Reading.{wrap_is}
+use Rattle.sums.specs.State.{refusal_of}
 use Rattle.sums.specs.Calls.{new_number}
-use Rattle.wdf.specs.Calls.{sections_number}
+use Rattle.wdf.specs.Calls.{sections_number, holds_retired}
 use Rattle.wdf.specs.Calls as wdf
 use Rattle.text.specs.Ranges.{signed, unsigned, lies, all_lie}
 use Rattle.text.proofs.Ranges.{two}
 use Rattle.settings_text.specs.Fields.{is_name}
-use Rattle.settings_text.specs.Lines.{Setting, Cic, Wdf, Dither, cic_number, wdf_number, crossed, dither_number, formed, form_of, record_name, parameters}
+use Rattle.settings_text.specs.Lines.{Setting, Cic, Wdf, Dither, wdf_number, crossed, dither_number, formed, form_of, record_name, parameters}
 use Rattle.settings_text.specs.Stores.{or_else, record_number}
 use Rattle.settings_text.specs.declared.version.Version.{Version}
 use Rattle.settings_text.specs.declared.version.Version.TheVariants.{One, Two}
@@ -93,27 +98,34 @@ pub number-kept : (v : Version) (k : ℕ) (last : List ℕ) (s : Setting) → fi
 unfolding number_for record_number form_of
 number-kept v k last s h g = rw (entry-name s, kind_kept v s h g)
 
--- the numbers of a `cic` in form 2: order and delay first, then R
-module _ (n m r k : ℕ) (e : k ≡ new_number n m 0) where
-  pub other_first : (k ≡ 0 → ⊥) → k ≡ cic_number Two n m r
-  other_first h = rw (← e) (by k h)
+-- the last of the numbers that refuse a new `cic`
+pub rate_left : (n m r : ℕ) → (new_number n m r ≡ 0 → ⊥) → (new_number n m r ≡ 10 → ⊥) → (new_number n m r ≡ 11 → ⊥) → new_number n m r ≡ 12
+unfolding refusal_of
+rate_left n m r h i j = by (ltb 8 n) (eqb m 0 || ltb 8 m) (ltb 65535 r) (ltb (n * m) 0) refl h i j
+  where
+    by : (a b t u : Bool) → ltb (n * m) 0 ≡ u → (cond {A = ℕ} a 10 (cond b 11 (cond t 12 (cond u 15 0))) ≡ 0 → ⊥)
+        → (cond {A = ℕ} a 10 (cond b 11 (cond t 12 (cond u 15 0))) ≡ 10 → ⊥)
+        → (cond {A = ℕ} a 10 (cond b 11 (cond t 12 (cond u 15 0))) ≡ 11 → ⊥) → cond {A = ℕ} a 10 (cond b 11 (cond t 12 (cond u 15 0))) ≡ 12
+    by true b t u f h i j = absurd (i refl)
+    by false true t u f h i j = absurd (j refl)
+    by false false true u f h i j = refl
+    by false false false false f h i j = absurd (h refl)
+    by false false false true f h i j = absurd (let z = ltb-true (n * m) 0 f in omega arith)
+
+-- an answer by the first number that isn't 0
+module _ (k j : ℕ) where
+  pub refused_first : (e : Refusal) → ◌≡◌ {A = Result (Unit {0}) Refusal} (Err e) (answer k tt)
+      → ◌≡◌ {A = Result (Unit {0}) Refusal} (Err e) (answer (or_else k j) tt)
+  unfolding answer
+  refused_first e h = by k h
     where
-      by : (k : ℕ) → (k ≡ 0 → ⊥) → k ≡ or_else k (cond (leb 1 r && leb r 65536) 0 12)
-      by zero h = absurd (h refl)
-      by (suc k) h = refl
+      by : (k : ℕ) → ◌≡◌ {A = Result (Unit {0}) Refusal} (Err e) (answer k tt)
+          → ◌≡◌ {A = Result (Unit {0}) Refusal} (Err e) (answer (or_else k j) tt)
+      by zero h = cc
+      by (suc k) h = h
 
-  module _ (z : k ≡ 0) where
-    none : new_number n m 0 ≡ 0
-    none = sym e ∙ z
-
-    pub factor_none : r < 1 → 12 ≡ cic_number Two n m r
-    factor_none h = sym (rw (none, lt-leb 1 r h))
-
-    pub factor_large : 1 ≤ r → 65536 < r → 12 ≡ cic_number Two n m r
-    factor_large g h = sym (rw (none, le-leb 1 r g, lt-leb r 65536 h))
-
-    pub factor_right : 1 ≤ r → r ≤ 65536 → 0 ≡ cic_number Two n m r
-    factor_right g h = sym (rw (none, le-leb 1 r g, le-leb r 65536 h))
+  pub taken_first : ◌≡◌ {A = Result (Unit {0}) Refusal} (Ok tt) (answer k tt) → or_else k j ≡ j
+  taken_first h = rw (taken_number k tt tt h)
 
 -- the limits are the last two
 pub crossed-last : (k : ℕ) (a : List ℤ) → length a ≡ suc (suc k) → crossed a ≡ lt_z (get_or a (suc k) (pos 0)) (get_or a k (pos 0))

@@ -36,14 +36,8 @@ fn first_decimated(order: u32, delay: u32, rate: u32) -> i32 {
 }
 
 fn first_passed(sections: usize, architecture: u32, a: [i32; 8]) -> i32 {
-    let made = Wdf::from_form1(sections, architecture, a);
-    let filter = made.state;
-    let stepped = filter.process(1000);
-    let out = stepped.out;
-    match out {
-        wdf::filter::Out::Given(y) => y,
-        wdf::filter::Out::Refused(_) => 0,
-    }
+    let mut filter = Wdf::from_form1(sections, architecture, a).unwrap_or(Wdf::EMPTY);
+    filter.process(1000).unwrap_or(0)
 }
 
 fn run(rt: &impl Print, entry: Entry) -> io::Result<()> {
@@ -69,16 +63,11 @@ fn main(rt: HostRuntime) -> io::Result<()> {
     let read = read_form1(
         b"set\t1\ncic\tcrankshaft\t3\t1\t63\nwdf\thalfband\t2\ta1\t-1073741824\t536870912\nwdf\told\t1\te\t-1073741824\n",
     );
-    let settings = read.settings;
-    let count = settings.count;
-    let entries = settings.entries;
-    let mut i: usize = 0;
-    while i < count {
-        if 64 <= i {
-            return Ok(());
-        }
-        run(&rt, entries[i])?;
-        i += 1;
+    let Ok(settings) = read else {
+        return Ok(());
+    };
+    for entry in &settings.entries[..settings.count.min(64)] {
+        run(&rt, *entry)?;
     }
     Ok(())
 }

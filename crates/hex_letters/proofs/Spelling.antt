@@ -10,8 +10,8 @@ use lib.ListN.{length, drop, set, length-append, length-set, drop_of_length-le}
 use lib.Seq.{drop-cons, drop-set-lt, get_or-set_same}
 use borrow.Author.Tests.{lt-ltb, le-ltb, ltb-true, ltb-false, le-leb, lt-leb, leb-true}
 use Rattle.text.specs.Hex.{hex_digit, hex_from}
-use Rattle.text.specs.declared.hex.Pattern.{Pattern}
-use Rattle.text.specs.declared.hex.Pattern.TheVariants.{Bits, Wrong}
+use Rattle.std.specs.Prelude as std
+use Rattle.std.specs.Prelude.{Some, None}
 use Rattle.hex_letters.specs.Letters.{letter_of, letters_of}
 
 pub digit_again : (d : ℕ) → d < 16 → hex_digit (letter_of d) ≡ d
@@ -39,28 +39,28 @@ long zero n = refl
 long (suc k) n = length-append (letters_of k (n / 16)) (letter_of (n % 16) ∷ []) ∙ omega (arith, long k (n / 16))
 
 -- the digits after those that were read
-abbrev pub onto : Pattern → List ℕ → Pattern
-onto (Bits v) bs = hex_from v bs
-onto Wrong bs = Wrong
+abbrev pub onto : std.Option ℕ → List ℕ → std.Option ℕ
+onto (Some v) bs = hex_from v bs
+onto None bs = None
 
 pub hex_parts : (v : ℕ) (xs bs : List ℕ) → hex_from v (xs ++ bs) ≡ onto (hex_from v xs) bs
 unfolding hex_from
 hex_parts v [] bs = refl
 hex_parts v (x ∷ xs) bs = by _ _ (ltb 15 (hex_digit x)) (hex_parts (v * 16 + hex_digit x) xs bs)
   where
-    by : (p q : Pattern) (t : Bool) → p ≡ onto q bs → cond t Wrong p ≡ onto (cond t Wrong q) bs
+    by : (p q : std.Option ℕ) (t : Bool) → p ≡ onto q bs → cond t None p ≡ onto (cond t None q) bs
     by p q true e = refl
     by p q false e = e
 
-pub letters-again : (k v n : ℕ) → n < 16 ^ k → hex_from v (letters_of k n) ≡ Bits (v * 16 ^ k + n)
+pub letters-again : (k v n : ℕ) → n < 16 ^ k → hex_from v (letters_of k n) ≡ Some (v * 16 ^ k + n)
 unfolding hex_from letters_of
-letters-again zero v n h = ap Bits (omega arith)
+letters-again zero v n h = ap Some (omega arith)
 letters-again (suc k) v n h =
     let p = pow-suc 16 k in
     let d : n % 16 < 16 = omega arith in
     let e : (v * 16 ^ k + n / 16) * 16 + n % 16 ≡ v * (16 ^ k * 16) + n = omega arith in
     hex_parts v (letters_of k (n / 16)) (letter_of (n % 16) ∷ [])
-    ∙ rw (letters-again k v (n / 16) (omega arith), digit_again (n % 16) d, le-ltb 15 (n % 16) (omega arith)) (ap Bits (rw p e))
+    ∙ rw (letters-again k v (n / 16) (omega arith), digit_again (n % 16) d, le-ltb 15 (n % 16) (omega arith)) (ap Some (rw p e))
 
 -- Letters written from the last on: those before place i are yet to come.
 pub letter_on : (whole l : List ℕ) (left i b : ℕ) → 0 < i → i ≤ length l → b ≡ letter_of (left % 16) → whole ≡ letters_of i left ++ drop i l
@@ -117,13 +117,13 @@ letters_parts j (suc k) n =
     ∙ append_assoc (letters_of j (n / 16 / 16 ^ k)) (letters_of k (n / 16)) (letter_of (n % 16) ∷ []) ∙ rw e
 
 -- what was read before the last digits
-pub hex_before : (bs : List ℕ) (u v : ℕ) → hex_from u bs ≡ Bits v → v / 16 ^ length bs ≡ u
+pub hex_before : (bs : List ℕ) (u v : ℕ) → hex_from u bs ≡ Some v → v / 16 ^ length bs ≡ u
 unfolding hex_from
 hex_before [] u v e = let p : u ≡ v = cc in omega arith
 hex_before (b ∷ bs) u v e = by (ltb 15 (hex_digit b)) refl e (hex_before bs (u * 16 + hex_digit b) v)
   where
-    by : (t : Bool) → ltb 15 (hex_digit b) ≡ t → cond t Wrong (hex_from (u * 16 + hex_digit b) bs) ≡ Bits v
-        → (hex_from (u * 16 + hex_digit b) bs ≡ Bits v → v / 16 ^ length bs ≡ u * 16 + hex_digit b) → v / 16 ^ length (b ∷ bs) ≡ u
+    by : (t : Bool) → ltb 15 (hex_digit b) ≡ t → cond t None (hex_from (u * 16 + hex_digit b) bs) ≡ Some v
+        → (hex_from (u * 16 + hex_digit b) bs ≡ Some v → v / 16 ^ length bs ≡ u * 16 + hex_digit b) → v / 16 ^ length (b ∷ bs) ≡ u
     by true g k again = absurd (let z : ◌≡◌ {A = ℕ} 0 1 = cc in omega arith)
     by false g k again =
         let q = 16 ^ length bs in
@@ -132,15 +132,15 @@ hex_before (b ∷ bs) u v e = by (ltb 15 (hex_digit b)) refl e (hex_before bs (u
         let m : v / q / 16 ≡ u = omega arith in
         ap (λ (n : ℕ). v / n) (pow-suc 16 (length bs)) ∙ sym (div-div-eq-div-mul v q 16) ∙ m
 
-pub letters-only : (bs : List ℕ) (u v : ℕ) → hex_from u bs ≡ Bits v → bs ≡ letters_of (length bs) v
+pub letters-only : (bs : List ℕ) (u v : ℕ) → hex_from u bs ≡ Some v → bs ≡ letters_of (length bs) v
 unfolding hex_from letters_of
 letters-only [] u v e = refl
 letters-only (b ∷ bs) u v e =
     by (ltb 15 (hex_digit b)) refl e (hex_before bs (u * 16 + hex_digit b) v) (letters-only bs (u * 16 + hex_digit b) v)
   where
-    by : (t : Bool) → ltb 15 (hex_digit b) ≡ t → cond t Wrong (hex_from (u * 16 + hex_digit b) bs) ≡ Bits v
-        → (hex_from (u * 16 + hex_digit b) bs ≡ Bits v → v / 16 ^ length bs ≡ u * 16 + hex_digit b)
-        → (hex_from (u * 16 + hex_digit b) bs ≡ Bits v → bs ≡ letters_of (length bs) v) → b ∷ bs ≡ letters_of (suc (length bs)) v
+    by : (t : Bool) → ltb 15 (hex_digit b) ≡ t → cond t None (hex_from (u * 16 + hex_digit b) bs) ≡ Some v
+        → (hex_from (u * 16 + hex_digit b) bs ≡ Some v → v / 16 ^ length bs ≡ u * 16 + hex_digit b)
+        → (hex_from (u * 16 + hex_digit b) bs ≡ Some v → bs ≡ letters_of (length bs) v) → b ∷ bs ≡ letters_of (suc (length bs)) v
     by true g k before rest = absurd (let z : ◌≡◌ {A = ℕ} 0 1 = cc in omega arith)
     by false g k before rest =
         let d = ltb-false 15 (hex_digit b) g in

@@ -15,7 +15,8 @@ use Rattle.text.specs.Writing.{Wrote}
 use Rattle.text.proofs.Parting.{before-plain, parted-plain, end_at, end_part}
 use Rattle.text.proofs.Numerals.{number-count}
 use Rattle.text.proofs.Putting.{nothing, then, wrote-same as rewritten}
-use Rattle.text.specs.declared.numbers.Number.TheVariants.{Wrong}
+use Rattle.std.specs.Prelude as std
+use Rattle.std.specs.Prelude.{Some, None}
 use Rattle.text.specs.Same.{same}
 use Rattle.words.specs.Words.{wrap}
 use Rattle.records.specs.Lines.{name_of, word_range, number_number, value_of, record_of}
@@ -38,7 +39,7 @@ sampled-more (Advances.more l p s r on) line rest x e plain short reads = Advanc
     (sampled-more on line rest x e plain short reads)
 
 -- `x`, a tab and a field that is a number of the word
-number_some : (wide : Bool) (field : List ℕ) → number_number (word_range wide) (number_of field) ≡ 0 → number_of field ≡ Wrong → ⊥
+number_some : (wide : Bool) (field : List ℕ) → number_number (word_range wide) (number_of field) ≡ 0 → number_of field ≡ None → ⊥
 number_some wide field e w = let k : ◌≡◌ {A = ℕ} 75 0 = sym (ap (number_number (word_range wide)) w) ∙ e in omega arith
 
 field_some : (wide : Bool) (field : List ℕ) → number_number (word_range wide) (number_of field) ≡ 0 → 1 ≤ length field

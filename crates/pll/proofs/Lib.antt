@@ -1,3 +1,4 @@
 pub mod Sums
 pub mod Staying
 pub mod Splitting
+pub mod Carrying

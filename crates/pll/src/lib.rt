@@ -73,6 +73,7 @@ fn scaled(a1: i32, f0: i64) -> i64
 
 impl PLL {
     // The wide state f0 after the lead lag, from the last two values y0 and y1 after the Nyquist zero.
+    #[tactic(auto, using(words::proofs::Std::signed, crate::proofs::Sums::lead))]
     fn lead_lag(self, f0: i64, y0: i32, y1: i32) -> i64
         ensures { result ≡ lead_lag self f0 y0 y1 }
     {
@@ -99,12 +100,33 @@ impl PLL {
     pub fn block(self, state: &mut PLLState, xs: &[i32], ys: &mut [i32]) -> Result<(), Refusal>
         ensures { Blocked 0 (tracked_phase self) (tracked_next self) state.old xs.now ys.old state.new result ys.new }
     {
-        if xs.len() != ys.len() {
-            return Err(Refusal::Lengths);
-        }
-        for (i, &x) in xs.iter().enumerate() {
-            ys[i] = self.process(state, x);
-        }
-        Ok(())
+        let mut tracking = Tracking {
+            pll: self,
+            state: *state,
+        };
+        let answer = blocks::block(&mut tracking, xs, ys);
+        *state = tracking.state;
+        answer
+    }
+}
+
+// A loop at work: its coefficients beside its state.
+#[derive(Clone, Copy)]
+struct Tracking {
+    pll: PLL,
+    state: PLLState,
+}
+
+impl Filter for Tracking {
+    type Input = i32;
+
+    type Output = i32;
+
+    ghost gives = { λ t x. tracked_phase t.pll t.state x };
+
+    ghost after = { λ t x. record t { state = tracked_next t.pll t.state x } };
+
+    fn process(&mut self, x: i32) -> i32 {
+        self.pll.process(&mut self.state, x)
     }
 }

@@ -13,7 +13,9 @@ use Rattle.blocks.specs.Blocks.{unless}
 use Rattle.sums.proofs.Carried.{nil_in}
 use Rattle.text.specs.Numbers.{number_of}
 use Rattle.text.specs.declared.numbers.Number.{Number}
-use Rattle.text.specs.declared.numbers.Number.TheVariants.{Plus, Minus, Wrong}
+use Rattle.text.specs.declared.numbers.Number.TheVariants.{Plus, Minus}
+use Rattle.std.specs.Prelude as std
+use Rattle.std.specs.Prelude.{Some, None}
 use Rattle.records.specs.Lines.{
   sample,
   kinds_of,
@@ -41,31 +43,31 @@ Holds wide (Rate rate) = Unit
 Holds wide Clear = Unit
 Holds wide (Bad f) = Unit
 
-number_fits : (wide : Bool) (n : Number) → number_number (word_range wide) n ≡ 0 → SFits (width_of wide) (value_of n)
-number_fits true (Plus v) = by (leb v 9223372036854775807) refl
+number_fits : (wide : Bool) (n : std.Option Number) → number_number (word_range wide) n ≡ 0 → SFits (width_of wide) (value_of n)
+number_fits true (Some (Plus v)) = by (leb v 9223372036854775807) refl
   where
     by : (t : Bool) → leb v 9223372036854775807 ≡ t → ◌≡◌ {A = ℕ} (cond t 0 76) 0 → SFits w64 (pos v)
     by true e z = let h = leb-true v 9223372036854775807 e in record { sfits = omega arith }
     by false e z = absurd (omega arith)
-number_fits false (Plus v) = by (leb v 2147483647) refl
+number_fits false (Some (Plus v)) = by (leb v 2147483647) refl
   where
     by : (t : Bool) → leb v 2147483647 ≡ t → ◌≡◌ {A = ℕ} (cond t 0 76) 0 → SFits w32 (pos v)
     by true e z = let h = leb-true v 2147483647 e in record { sfits = omega arith }
     by false e z = absurd (omega arith)
-number_fits true (Minus v) = by (eqb v 0) (leb v 9223372036854775808) refl refl
+number_fits true (Some (Minus v)) = by (eqb v 0) (leb v 9223372036854775808) refl refl
   where
     by : (s t : Bool) → eqb v 0 ≡ s → leb v 9223372036854775808 ≡ t → ◌≡◌ {A = ℕ} (cond s 75 (cond t 0 76)) 0 → SFits w64 (negsuc (v - 1))
     by true t d e z = absurd (omega arith)
     by false true d e z =
         let k = eqb-false v 0 d in let h = leb-true v 9223372036854775808 e in record { sfits = omega arith }
     by false false d e z = absurd (omega arith)
-number_fits false (Minus v) = by (eqb v 0) (leb v 2147483648) refl refl
+number_fits false (Some (Minus v)) = by (eqb v 0) (leb v 2147483648) refl refl
   where
     by : (s t : Bool) → eqb v 0 ≡ s → leb v 2147483648 ≡ t → ◌≡◌ {A = ℕ} (cond s 75 (cond t 0 76)) 0 → SFits w32 (negsuc (v - 1))
     by true t d e z = absurd (omega arith)
     by false true d e z = let k = eqb-false v 0 d in let h = leb-true v 2147483648 e in record { sfits = omega arith }
     by false false d e z = absurd (omega arith)
-number_fits wide Wrong = λ z. absurd (omega arith)
+number_fits wide None = λ z. absurd (omega arith)
 
 holds_else : (wide : Bool) (f : Fault) (x : Record) → (f.number ≡ 0 → Holds wide x) → Holds wide (or_else f x)
 holds_else wide f x h = by (eqb f.number 0) refl

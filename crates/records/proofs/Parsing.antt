@@ -19,7 +19,9 @@ use Rattle.text.specs.Parts.{parted, behind, count, end_of}
 use Rattle.text.specs.Ranges.{Range, unsigned}
 use Rattle.text.proofs.Parting.{parted-length, end_high, end_parted}
 use Rattle.text.specs.declared.numbers.Number.{Number}
-use Rattle.text.specs.declared.numbers.Number.TheVariants.{Plus, Minus, Wrong}
+use Rattle.text.specs.declared.numbers.Number.TheVariants.{Plus, Minus}
+use Rattle.std.specs.Prelude as std
+use Rattle.std.specs.Prelude.{Some, None}
 use Rattle.words.specs.Words.{wrap}
 use Rattle.words.proofs.Reading.{word_is}
 use Rattle.records.specs.Lines.{natural, word_range, number_number, field_at, size_of, value_of, fault_at, unknown_record, wrong_count, fields_fault, or_else, held_record, name_of, is_known, wanted_of, shaped_of, fields_record, record_of}
@@ -44,7 +46,7 @@ inside l e h = by (ltb e (length l)) refl
 behind_some : (l : List ℕ) (e : ℕ) → e < length l → behind tab (drop e l) ≡ parted tab (drop (e + 1) l)
 behind_some l e h = rw (add-one, drop-cons l e 0 h)
 
-pub reads : (l : List ℕ) (e f : ℕ) (v : Number) → 1 ≤ length (behind tab (drop e l)) → f ≡ end_of tab l (e + 1) → v
+pub reads : (l : List ℕ) (e f : ℕ) (v : std.Option Number) → 1 ≤ length (behind tab (drop e l)) → f ≡ end_of tab l (e + 1) → v
     ≡ capped (number_of (take (f - (e + 1)) (drop (e + 1) l))) → Reads l e v f
 reads l e f v h q n =
     let k = inside l e h in
@@ -58,38 +60,38 @@ reads l e f v h q n =
 
 -- a size above the cap is outside each range
 module _ (r : Range) (most : r.most < cap) (least : r.least < cap) where
-  same_number : (n : Number) → number_number r (capped n) ≡ number_number r n
-  same_number (Plus v) = by (leb v r.most) refl
+  same_number : (n : std.Option Number) → number_number r (capped n) ≡ number_number r n
+  same_number (Some (Plus v)) = by (leb v r.most) refl
     where
-      by : (t : Bool) → leb v r.most ≡ t → number_number r (Plus (min v cap)) ≡ number_number r (Plus v)
+      by : (t : Bool) → leb v r.most ≡ t → number_number r (Some (Plus (min v cap))) ≡ number_number r (Some (Plus v))
       by true e = let h = leb-true v r.most e in let m : min v cap ≡ v = omega arith in rw m
       by false e = let h = leb-false v r.most e in rw (e, lt-leb (min v cap) r.most (omega arith))
-  same_number (Minus v) = by (leb v r.least) refl
+  same_number (Some (Minus v)) = by (leb v r.least) refl
     where
-      by : (t : Bool) → leb v r.least ≡ t → number_number r (Minus (min v cap)) ≡ number_number r (Minus v)
+      by : (t : Bool) → leb v r.least ≡ t → number_number r (Some (Minus (min v cap))) ≡ number_number r (Some (Minus v))
       by true e = let h = leb-true v r.least e in let m : min v cap ≡ v = omega arith in rw m
       by false e =
           let h = leb-false v r.least e in
           let x : v ≡ 0 → ⊥ = λ z. omega arith in
           let y : min v cap ≡ 0 → ⊥ = λ z. omega arith in
           rw (ne_eqb v 0 x, ne_eqb (min v cap) 0 y, e, lt-leb (min v cap) r.least (omega arith))
-  same_number Wrong = refl
+  same_number None = refl
 
-  same_size : (n : Number) → number_number r n ≡ 0 → capped n ≡ n
-  same_size (Plus v) = by (leb v r.most) refl
+  same_size : (n : std.Option Number) → number_number r n ≡ 0 → capped n ≡ n
+  same_size (Some (Plus v)) = by (leb v r.most) refl
     where
-      by : (t : Bool) → leb v r.most ≡ t → ◌≡◌ {A = ℕ} (cond t 0 76) 0 → Plus (min v cap) ≡ Plus v
-      by true e z = let h = leb-true v r.most e in let m : min v cap ≡ v = omega arith in ap Plus m
+      by : (t : Bool) → leb v r.most ≡ t → ◌≡◌ {A = ℕ} (cond t 0 76) 0 → Some (Plus (min v cap)) ≡ Some (Plus v)
+      by true e z = let h = leb-true v r.most e in let m : min v cap ≡ v = omega arith in ap (λ (k : ℕ). Some (Plus k)) m
       by false e z = absurd (omega arith)
-  same_size (Minus v) = by (eqb v 0) (leb v r.least) refl
+  same_size (Some (Minus v)) = by (eqb v 0) (leb v r.least) refl
     where
-      by : (s t : Bool) → leb v r.least ≡ t → ◌≡◌ {A = ℕ} (cond s 75 (cond t 0 76)) 0 → Minus (min v cap) ≡ Minus v
+      by : (s t : Bool) → leb v r.least ≡ t → ◌≡◌ {A = ℕ} (cond s 75 (cond t 0 76)) 0 → Some (Minus (min v cap)) ≡ Some (Minus v)
       by true t e z = absurd (omega arith)
-      by false true e z = let h = leb-true v r.least e in let m : min v cap ≡ v = omega arith in ap Minus m
+      by false true e z = let h = leb-true v r.least e in let m : min v cap ≡ v = omega arith in ap (λ (k : ℕ). Some (Minus k)) m
       by false false e z = absurd (omega arith)
-  same_size Wrong = λ z. refl
+  same_size None = λ z. refl
 
-  judged-capped : {A : Type 0} (none : A) (f : Number → A) (n : Number)
+  judged-capped : {A : Type 0} (none : A) (f : std.Option Number → A) (n : std.Option Number)
       → unless (number_number r (capped n)) none (f (capped n)) ≡ unless (number_number r n) none (f n)
   judged-capped none f n = by (eqb (number_number r n) 0) refl
     where
@@ -98,12 +100,12 @@ module _ (r : Range) (most : r.most < cap) (least : r.least < cap) where
       by true e = rw (same_size n (eqb-true _ _ e))
       by false e = rw (same_number n, e)
 
-pub natural-capped : (n : Number) → natural_of (capped n) ≡ natural_of n
+pub natural-capped : (n : std.Option Number) → natural_of (capped n) ≡ natural_of n
 natural-capped n =
     ap₂ (λ (k v : ℕ). record { number = k; value = v }) (same_number unsigned (omega arith) (omega arith) n)
     (judged-capped unsigned (omega arith) (omega arith) 0 size_of n)
 
-pub integer_capped : (wide : Bool) (n : Number) → integer_of wide (capped n) ≡ integer_of wide n
+pub integer_capped : (wide : Bool) (n : std.Option Number) → integer_of wide (capped n) ≡ integer_of wide n
 integer_capped wide n =
     ap₂ (λ (k : ℕ) (v : ℤ). record { number = k; value = v }) (same_number (word_range wide) (most wide) (least wide) n)
     (judged-capped (word_range wide) (most wide) (least wide) (pos 0) value_of n)
@@ -140,19 +142,19 @@ most_is true = refl
 most_is false = refl
 
 module _ (wide : Bool) (v least : ℕ) (is : least ≡ (word_range wide).least) where
-  pub plus-held : v < least → of_word 0 (pos v) ≡ integer_of wide (Plus v)
+  pub plus-held : v < least → of_word 0 (pos v) ≡ integer_of wide (Some (Plus v))
   plus-held h = sym (rw (le-leb v (word_range wide).most (omega (arith, most_is wide))))
 
-  pub plus-outside : least ≤ v → of_word 76 (pos 0) ≡ integer_of wide (Plus v)
+  pub plus-outside : least ≤ v → of_word 76 (pos 0) ≡ integer_of wide (Some (Plus v))
   plus-outside h = sym (rw (lt-leb v (word_range wide).most (omega (arith, most_is wide))))
 
-  pub minus-none : v ≡ 0 → of_word 75 (pos 0) ≡ integer_of wide (Minus v)
+  pub minus-none : v ≡ 0 → of_word 75 (pos 0) ≡ integer_of wide (Some (Minus v))
   minus-none z = sym (rw (eq-eqb v 0 z))
 
-  pub minus-held : (v ≡ 0 → ⊥) → v ≤ least → of_word 0 (negsuc (v - 1)) ≡ integer_of wide (Minus v)
+  pub minus-held : (v ≡ 0 → ⊥) → v ≤ least → of_word 0 (negsuc (v - 1)) ≡ integer_of wide (Some (Minus v))
   minus-held z h = sym (rw (ne_eqb v 0 z, le-leb v (word_range wide).least (omega arith)))
 
-  pub minus-outside : (v ≡ 0 → ⊥) → least < v → of_word 76 (pos 0) ≡ integer_of wide (Minus v)
+  pub minus-outside : (v ≡ 0 → ⊥) → least < v → of_word 76 (pos 0) ≡ integer_of wide (Some (Minus v))
   minus-outside z h = sym (rw (ne_eqb v 0 z, lt-leb v (word_range wide).least (omega arith)))
 
 -- the second field is the first of what follows the first, and so on
@@ -162,13 +164,13 @@ second fs gs e = ap (λ (x : List (List ℕ)). field_at x 0) e ∙ ap number_of 
 pub third : (fs gs hs : List (List ℕ)) → gs ≡ drop 1 fs → hs ≡ drop 1 gs → field_at hs 0 ≡ field_at fs 2
 third fs gs hs e d = second gs hs d ∙ ap (λ (x : List (List ℕ)). field_at x 1) e ∙ ap number_of (get_or-drop 1 fs 1 [])
 
-pub fewer : (l : List ℕ) (e : ℕ) (v : Number) (f : ℕ) → Reads l e v f → length (behind tab (drop f l)) ≡ length (behind tab (drop e l)) - 1
+pub fewer : (l : List ℕ) (e : ℕ) (v : std.Option Number) (f : ℕ) → Reads l e v f → length (behind tab (drop f l)) ≡ length (behind tab (drop e l)) - 1
 fewer l e v f r = ap (λ (x : List (List ℕ)). length x) r.rest ∙ length-drop 1 (behind tab (drop e l))
 
-pub natural_is : (v : Number) (r : Natural) (n : Number) → v ≡ capped n → r ≡ natural_of v → r ≡ natural_of n
+pub natural_is : (v : std.Option Number) (r : Natural) (n : std.Option Number) → v ≡ capped n → r ≡ natural_of v → r ≡ natural_of n
 natural_is v r n e d = d ∙ ap natural_of e ∙ natural-capped n
 
-pub integer_is : (wide : Bool) (v : Number) (r : Integer) (n : Number) → v ≡ capped n → r ≡ integer_of wide v → r ≡ integer_of wide n
+pub integer_is : (wide : Bool) (v : std.Option Number) (r : Integer) (n : std.Option Number) → v ≡ capped n → r ≡ integer_of wide v → r ≡ integer_of wide n
 integer_is wide v r n e d = d ∙ ap (integer_of wide) e ∙ integer_capped wide n
 
 pub opening_is : (wide : Bool) (fs : List (List ℕ)) (a b c : Natural) → a ≡ natural_of (field_at fs 0) → b ≡ natural_of (field_at fs 1) → c

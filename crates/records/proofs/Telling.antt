@@ -28,7 +28,9 @@ use Rattle.sums.specs.Counted.{
 use Rattle.text.specs.Numbers.{number_of}
 use Rattle.text.specs.Ranges.{Range}
 use Rattle.text.specs.declared.numbers.Number.{Number}
-use Rattle.text.specs.declared.numbers.Number.TheVariants.{Plus, Minus, Wrong}
+use Rattle.text.specs.declared.numbers.Number.TheVariants.{Plus, Minus}
+use Rattle.std.specs.Prelude as std
+use Rattle.std.specs.Prelude.{Some, None}
 use Rattle.records.specs.Lines.{
   Kind,
   kinds_of,
@@ -56,19 +58,19 @@ use Rattle.records.specs.declared.session.Taken.{Taken}
 abbrev Told : Fault → Type 0
 Told f = (f.number ≡ 0 → ⊥) → Tells f
 
-number-told : (r : Range) (n : Number) (place : ℕ) → 2 ≤ place → Told (fault_at (number_number r n) place)
-number-told r (Plus v) place h = by (leb v r.most)
+number-told : (r : Range) (n : std.Option Number) (place : ℕ) → 2 ≤ place → Told (fault_at (number_number r n) place)
+number-told r (Some (Plus v)) place h = by (leb v r.most)
   where
     by : (t : Bool) → Told (fault_at (cond t 0 76) place)
     by true z = absurd (z refl)
     by false z = outside place h
-number-told r (Minus v) place h = by (eqb v 0) (leb v r.least)
+number-told r (Some (Minus v)) place h = by (eqb v 0) (leb v r.least)
   where
     by : (s t : Bool) → Told (fault_at (cond s 75 (cond t 0 76)) place)
     by true t z = malformed place h
     by false true z = absurd (z refl)
     by false false z = outside place h
-number-told r Wrong place h = λ z. malformed place h
+number-told r None place h = λ z. malformed place h
 
 first-told : (p : ℕ) (place : ℕ) (rest : Fault) → Told (fault_at p place) → Told rest → Told (unless p (fault_at p place) rest)
 first-told p place rest h k = by (eqb p 0)

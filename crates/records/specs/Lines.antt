@@ -9,7 +9,9 @@ use Rattle.text.specs.Parts.{parted}
 use Rattle.text.specs.Ranges.{Range, range, unsigned, signed}
 use Rattle.text.specs.Same.{same}
 use Rattle.text.specs.declared.numbers.Number.{Number}
-use Rattle.text.specs.declared.numbers.Number.TheVariants.{Plus, Minus, Wrong}
+use Rattle.text.specs.declared.numbers.Number.TheVariants.{Plus, Minus}
+use Rattle.std.specs.Prelude as std
+use Rattle.std.specs.Prelude.{Some, None}
 use Rattle.records.specs.declared.parse.Name.{Name}
 use Rattle.records.specs.declared.parse.Fault.{Fault}
 use Rattle.records.specs.declared.parse.Record.{Record}
@@ -59,24 +61,24 @@ range_of wide natural = unsigned
 range_of wide sample = word_range wide
 
 -- 75: not a well-formed number, and none is minus 0; 76: outside its range; else 0
-abbrev pub number_number : Range → Number → ℕ
-number_number r (Plus v) = cond (leb v r.most) 0 76
-number_number r (Minus v) = cond (eqb v 0) 75 (cond (leb v r.least) 0 76)
-number_number r Wrong = 75
+abbrev pub number_number : Range → std.Option Number → ℕ
+number_number r (Some (Plus v)) = cond (leb v r.most) 0 76
+number_number r (Some (Minus v)) = cond (eqb v 0) 75 (cond (leb v r.least) 0 76)
+number_number r None = 75
 
 -- the number in field i after the name, its size and its value
-abbrev pub field_at : List (List ℕ) → ℕ → Number
+abbrev pub field_at : List (List ℕ) → ℕ → std.Option Number
 field_at fields i = number_of (get_or fields i [])
 
-abbrev pub size_of : Number → ℕ
-size_of (Plus v) = v
-size_of (Minus v) = v
-size_of Wrong = 0
+abbrev pub size_of : std.Option Number → ℕ
+size_of (Some (Plus v)) = v
+size_of (Some (Minus v)) = v
+size_of None = 0
 
-abbrev pub value_of : Number → ℤ
-value_of (Plus v) = pos v
-value_of (Minus v) = negsuc (v - 1)
-value_of Wrong = pos 0
+abbrev pub value_of : std.Option Number → ℤ
+value_of (Some (Plus v)) = pos v
+value_of (Some (Minus v)) = negsuc (v - 1)
+value_of None = pos 0
 
 -- a number, and the place in the line of the field that it is about (the name's is 1), or 0
 abbrev pub fault_at : ℕ → ℕ → Fault

@@ -65,7 +65,7 @@ pub struct Integer {
 // The number in a field, and where the field ends.
 #[derive(Clone, Copy)]
 pub struct Cell {
-    pub value: Number,
+    pub value: Option<Number>,
     pub end: usize,
 }
 
@@ -119,11 +119,11 @@ fn wanted(name: Name) -> usize
 }
 
 // N, M or rate. Refused with 75 where it is no well-formed number, with 76 outside u32.
-fn natural_of(n: Number) -> Natural
+fn natural_of(n: Option<Number>) -> Natural
     ensures { result ≡ natural_of n }
 {
     match n {
-        Number::Plus(v) => {
+        Some(Number::Plus(v)) => {
             if v <= 4294967295 {
                 Natural {
                     number: 0,
@@ -136,7 +136,7 @@ fn natural_of(n: Number) -> Natural
                 }
             }
         }
-        Number::Minus(v) => {
+        Some(Number::Minus(v)) => {
             if v == 0 {
                 Natural {
                     number: MALFORMED,
@@ -149,7 +149,7 @@ fn natural_of(n: Number) -> Natural
                 }
             }
         }
-        Number::Wrong => Natural {
+        None => Natural {
             number: MALFORMED,
             value: 0,
         },
@@ -168,12 +168,12 @@ fn least_size(wide: bool) -> u64
 }
 
 // A sample. Refused with 75 where it is no well-formed number, with 76 outside the word, i64 or i32.
-pub fn integer_of(wide: bool, n: Number) -> Integer
+pub fn integer_of(wide: bool, n: Option<Number>) -> Integer
     ensures { result ≡ integer_of wide n }
 {
     let least = least_size(wide);
     match n {
-        Number::Plus(v) => {
+        Some(Number::Plus(v)) => {
             if v < least {
                 Integer {
                     number: 0,
@@ -186,7 +186,7 @@ pub fn integer_of(wide: bool, n: Number) -> Integer
                 }
             }
         }
-        Number::Minus(v) => {
+        Some(Number::Minus(v)) => {
             if v == 0 {
                 return Integer {
                     number: MALFORMED,
@@ -205,7 +205,7 @@ pub fn integer_of(wide: bool, n: Number) -> Integer
                 }
             }
         }
-        Number::Wrong => Integer {
+        None => Integer {
             number: MALFORMED,
             value: 0,
         },

@@ -6,19 +6,19 @@ use biquad::pair::Pair;
 use cic::questions::{Fitting, Told};
 use cic::state::Cic;
 use std::io;
-use unwrap::scale::{Scaled, saturating_scale};
+use unwrap::scale::saturating_scale;
 
 fn scaled(rt: &impl Print, hi: i32) -> io::Result<()> {
     text(rt, b"shift 31, lo 0, hi ")?;
     signed(rt, hi)?;
     match saturating_scale(0, hi, 31) {
-        Scaled::Value(v) => {
+        Ok(v) => {
             text(rt, b" gives ")?;
             signed(rt, v)?;
         }
-        Scaled::Refused(n) => {
+        Err(refusal) => {
             text(rt, b" is ")?;
-            number(rt, n as u64)?;
+            number(rt, u64::from(refusal.number()))?;
         }
     }
     text(rt, b"\n")

@@ -1,35 +1,33 @@
 // Numbers 50 to 65, and 31 of a loop: wave digital sections and coefficients, the reciprocal loop, and the scale.
-use crate::print::{refusal, row};
-use rpll::{Estimate, RPLL, RPLLConfig, Timestamp};
+use crate::print::{refused, row};
+use rpll::{RPLL, RPLLConfig};
 use std::io;
-use unwrap::scale::{Scaled, saturating_scale};
+use unwrap::scale::saturating_scale;
 use wdf::filter::Wdf;
-use wdf::quantize::Quantized;
 use wdf::tpa::Tpa;
 
 fn scale(shift: u32) -> u32 {
-    match saturating_scale(0, 1, shift) {
-        Scaled::Value(_) => 0,
-        Scaled::Refused(n) => n,
-    }
+    refused(saturating_scale(0, 1, shift))
 }
 
 fn sections(count: usize, architecture: u32) -> u32 {
-    let made = Wdf::new(count, architecture, [0; 8]);
-    let verdict = made.verdict;
-    refusal(verdict)
+    refused(Wdf::new(count, architecture, [0; 8]))
 }
 
 fn sections_of_form1(count: usize, architecture: u32) -> u32 {
-    let made = Wdf::from_form1(count, architecture, [0; 8]);
-    let verdict = made.verdict;
-    refusal(verdict)
+    refused(Wdf::from_form1(count, architecture, [0; 8]))
 }
 
 fn coefficient(code: Tpa, g: f64) -> u32 {
-    match code.quantize(g) {
-        Quantized::Bits(_) => 0,
-        Quantized::Refused(n) => n,
+    refused(code.quantize(g))
+}
+
+fn zero() -> RPLL {
+    RPLL {
+        x: 0,
+        ff: 0,
+        f: 0,
+        y: 0,
     }
 }
 
@@ -39,18 +37,7 @@ fn loops(dt2: u8, shift_frequency: u8, shift_phase: u8) -> u32 {
         shift_frequency,
         shift_phase,
     };
-    let state = RPLL {
-        x: 0,
-        ff: 0,
-        f: 0,
-        y: 0,
-    };
-    let done = config.process(state, Timestamp::Missing);
-    let estimate = done.estimate;
-    match estimate {
-        Estimate::Given(_, _) => 0,
-        Estimate::Refused(n) => n,
-    }
+    refused(config.process(&mut zero(), None))
 }
 
 fn loop_block(there: &[bool], xs: &[i32], ys: &mut [i32], fs: &mut [i32]) -> u32 {
@@ -59,15 +46,7 @@ fn loop_block(there: &[bool], xs: &[i32], ys: &mut [i32], fs: &mut [i32]) -> u32
         shift_frequency: 9,
         shift_phase: 8,
     };
-    let state = RPLL {
-        x: 0,
-        ff: 0,
-        f: 0,
-        y: 0,
-    };
-    let done = config.block(state, there, xs, ys, fs);
-    let verdict = done.verdict;
-    refusal(verdict)
+    refused(config.block(&mut zero(), there, xs, ys, fs))
 }
 
 pub(crate) fn print_block(rt: &impl Print) -> io::Result<()> {

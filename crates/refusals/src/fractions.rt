@@ -1,6 +1,6 @@
 // Number 40: fraction bits, and 41 of the fixed-point forms.
-use crate::print::row;
-use biquad_fixed::coefficients::{Answer, Biquad, BiquadClamp};
+use crate::print::{refused, row};
+use biquad_fixed::coefficients::{Biquad, BiquadClamp};
 use biquad_fixed::dither::DirectForm1Dither;
 use biquad_fixed::wide::DirectForm1Wide;
 use std::io;
@@ -16,23 +16,14 @@ fn coefficients(f: u32) -> Biquad {
     }
 }
 
-fn refused(out: Answer) -> u32 {
-    match out {
-        Answer::Value(_) => 0,
-        Answer::Refused(n) => n,
-    }
-}
-
 fn wide(f: u32) -> u32 {
-    let state = DirectForm1Wide {
+    let mut state = DirectForm1Wide {
         x1: 0,
         x2: 0,
         y1: 0,
         y2: 0,
     };
-    let done = state.process(coefficients(f), 1);
-    let out = done.out;
-    refused(out)
+    refused(state.process(coefficients(f), 1))
 }
 
 fn zero() -> DirectForm1Dither {
@@ -46,22 +37,19 @@ fn zero() -> DirectForm1Dither {
 }
 
 fn dither(f: u32) -> u32 {
-    let done = zero().process(coefficients(f), 1);
-    let out = done.out;
-    refused(out)
+    let mut state = zero();
+    refused(state.process(coefficients(f), 1))
 }
 
 fn clamped(min: i32, max: i32) -> u32 {
-    let coeff = coefficients(1);
     let c = BiquadClamp {
-        coeff,
+        coeff: coefficients(1),
         u: 0,
         min,
         max,
     };
-    let done = zero().process_clamp(c, 1);
-    let out = done.out;
-    refused(out)
+    let mut state = zero();
+    refused(state.process_clamp(c, 1))
 }
 
 pub(crate) fn print_all(rt: &impl Print) -> io::Result<()> {

@@ -1,7 +1,10 @@
 // Lines of the table.
-use blocks::{Refusal, Verdict};
+use blocks::Verdict;
 use std::io;
 use words::casts::i32_as_u32;
+
+// The number of a call's refusal, 0 for none.
+pub(crate) use blocks::number as refused;
 
 pub(crate) fn text(rt: &impl Print, s: &[u8]) -> io::Result<()> {
     rt.write_all(s)
@@ -25,14 +28,6 @@ pub(crate) fn refusal(v: Verdict) -> u32 {
     match v {
         Verdict::Done => 0,
         Verdict::Refused(n) => n,
-    }
-}
-
-// The number of a call's refusal, 0 for none.
-pub(crate) fn refused<T: Drop>(answer: Result<T, Refusal>) -> u32 {
-    match answer {
-        Ok(_) => 0,
-        Err(refusal) => refusal.number(),
     }
 }
 

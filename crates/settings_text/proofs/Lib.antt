@@ -4,3 +4,4 @@ pub mod Stores
 pub mod Lines
 pub mod Forms
 pub mod Moves
+pub mod Refusals

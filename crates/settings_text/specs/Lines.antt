@@ -132,6 +132,11 @@ parameters v (Cic name n m rate) = cic_number v n m rate
 parameters v (Wdf name arch cs) = wdf_number v (length cs) arch
 parameters v (Dither name f cs) = dither_number f cs
 
+-- a form's number
+abbrev pub version_number : Version → ℕ
+version_number One = 1
+version_number Two = 2
+
 -- first line: `set` and 1, or `set` and 2
 abbrev pub heading : Version → List ℕ
 heading One = bytes "set\t1"

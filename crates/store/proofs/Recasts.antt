@@ -15,23 +15,22 @@ use Rattle.wdf.specs.Retired.{moved}
 use Rattle.wdf.proofs.Retired.{moved_at_most}
 use Rattle.text.proofs.Ranges.{both_some}
 use Rattle.settings_text.specs.Lines.{Setting, Cic, Wdf, Dither, parameters, form_of}
-use Rattle.settings_text.specs.Moves.{Text, placed, placed_text, move, raised, lowered, back, any_dither}
+use Rattle.settings_text.specs.Moves.{Text, placed, placed_text, move, moved_by, raised, lowered, back, any_dither}
 use Rattle.settings_text.specs.Stores.{Found, Good, Bad, listed_number, list_from, read_of, text_of}
 use Rattle.settings_text.specs.declared.version.Version.{Version}
 use Rattle.settings_text.specs.declared.version.Version.TheVariants.{One, Two}
 use Rattle.settings_text.proofs.Forms.{only-text}
 use Rattle.settings_text.proofs.Lines.{wdf_small, below}
 use Rattle.settings_text.proofs.Moves.{Keeps, list_kept, all_placed, missing, dither_missing, number_parts}
-use Rattle.settings_text.proofs.Stores.{both_zero, write_zero, no_parameter, numbered}
+use Rattle.settings_text.proofs.Stores.{both_zero, write_zero, no_parameter}
 use Rattle.entries.specs.Entries.{empty_entry, entry_of, number_as}
-use Rattle.store.specs.Moving.{Moves, third_in, architecture_in, recast_entry, recast_in, dither_kind, any_dither_in}
-use Rattle.store_read.specs.Reading.{found}
+use Rattle.store.specs.Moving.{Moves, unblamed, third_in, architecture_in, recast_entry, recast_in, dither_kind, any_dither_in}
+use Rattle.store_read.specs.Reading.{found, settings_of}
 use Rattle.store_write.specs.Saving.{SavesAs, text_as}
-use Rattle.store.specs.declared.moving.Move.TheVariants as moves
-use Rattle.store.specs.declared.moving.Move.{Move}
-use Rattle.store_read.specs.declared.reading.Read.{Read}
-use Rattle.store_write.specs.declared.saving.Written.TheVariants as writes
-use Rattle.store_write.specs.declared.saving.Written.{Written}
+use Rattle.std.specs.Prelude.{Result, Ok, Err}
+use Rattle.blocks.specs.declared.refusal.Refusal.{Refusal}
+use Rattle.blocks.specs.Refusals.{refusal_at}
+use Rattle.store_read.specs.declared.reading.BadLine.{BadLine}
 use Rattle.entries.specs.declared.settings.Entry.{Entry}
 use Rattle.entries.specs.declared.settings.Settings.{Settings}
 use Rattle.store_laws.proofs.Copied.{settings_back, settings_number, small}
@@ -80,29 +79,19 @@ module _ (v : Version) (old : List Entry) where
       g.shape ∙ rw (take_all i old q, drop_of_length-le old q) (append-nil (map (recast_entry v) old))
 
 -- the entries that are left to look at
-pub record Looking (entries : List Entry) (i : ℕ) : Type 0 where
-  pub few : i ≤ 64
-  pub whole : length entries ≡ 64
-  pub rest : any_dither_in entries ≡ any_dither_in (drop i entries)
-
-pub looking_none : (entries : List Entry) → length entries ≡ 64 → Looking entries 0
-looking_none entries l = record { few = omega arith; whole = l; rest = refl }
-
-module _ (entries : List Entry) (i : ℕ) (d : Entry) (h : i < 64) (g : Looking entries i) where
+module _ (entries : List Entry) (i : ℕ) (d : Entry) (h : i < length entries) (g : any_dither_in entries ≡ any_dither_in (drop i entries)) where
   here : any_dither_in entries ≡ (dither_kind (get_or entries i d).kind || any_dither_in (drop (suc i) entries))
-  here = let w = g.whole in let inside : i < length entries = omega arith in g.rest ∙ ap any_dither_in (drop-cons entries i d inside)
+  here = g ∙ ap any_dither_in (drop-cons entries i d h)
 
   pub dither_here : dither_kind (get_or entries i d).kind ≡ true → true ≡ any_dither_in entries
   dither_here e = sym (here ∙ rw e)
 
-  pub looking_on : dither_kind (get_or entries i d).kind ≡ false → Looking entries (i + 1)
-  looking_on e = record { few = omega arith; whole = g.whole; rest = rw add-one (here ∙ rw e) }
+  pub looking_on : dither_kind (get_or entries i d).kind ≡ false → any_dither_in entries ≡ any_dither_in (drop (i + 1) entries)
+  looking_on e = rw add-one (here ∙ rw e)
 
-pub looking_all : (entries : List Entry) (i : ℕ) → 64 ≤ i → Looking entries i → false ≡ any_dither_in entries
-looking_all entries i h g =
-    let w = g.whole in
-    let q : length entries ≤ i = omega arith in
-    sym (g.rest ∙ rw (drop_of_length-le entries q))
+pub looking_all : (entries : List Entry) (i : ℕ) → length entries ≤ i → any_dither_in entries ≡ any_dither_in (drop i entries)
+    → false ≡ any_dither_in entries
+looking_all entries i h g = sym (g ∙ rw (drop_of_length-le entries h))
 
 -- the entries of what was read
 empty_dither : (k : ℕ) → any_dither_in (replicate k empty_entry) ≡ false
@@ -146,53 +135,47 @@ module _ (from to : Version) (place : Setting → Option Setting) (keeps : Keeps
       let q : b.first ∷ b.second ≡ ts = b.is in
       rw (← q) (ap suc (placed-length ss b.second b.there))
 
-  module _ (text : List ℕ) (read : Read) (pr : read ≡ found (read_of (form_of from) text)) (o : List ℕ) where
-    pub move-refused : (read.number ≡ 0 → ⊥) → Moves (move (form_of from) (form_of to) place text) o
-        (moves.Refused read.line read.number) o
+  module _ (text : List ℕ) (o : List ℕ) where
+    pub move-refused : (b : BadLine) → Err b ≡ found (read_of (form_of from) text) → Moves (move (form_of from) (form_of to) place text) o (Err b) o
     unfolding move
-    move-refused h = by (read_of (form_of from) text) refl
+    move-refused b e = by (read_of (form_of from) text) refl e
       where
-        by : (x : Found Setting) → read_of (form_of from) text ≡ x → Moves (move (form_of from) (form_of to) place text) o
-            (moves.Refused read.line read.number) o
-        by (Good ss) f = absurd (h (ap (λ (y : Read). y.number) (pr ∙ ap found f)))
-        by (Bad line n) f =
-            let l : read.line ≡ line = ap (λ (y : Read). y.line) (pr ∙ ap found f) in
-            let m : read.number ≡ n = ap (λ (y : Read). y.number) (pr ∙ ap found f) in
-            rw (f, l, m) (record { answer = refl; written = refl })
+        by : (x : Found Setting) → read_of (form_of from) text ≡ x → Err b ≡ found x
+            → Moves (moved_by (form_of from) (form_of to) place (read_of (form_of from) text)) o (Err b) o
+        by (Good ss) f e = cc
+        by (Bad line n) f e =
+            let q : b ≡ record { line = line; refusal = refusal_at n } = cc in
+            rw f (record { answer = ap (λ (x : BadLine). Err x) q; written = refl })
 
-    -- what was read, where nothing refuses it
-    pub record Held : Type 0 where
+    -- what was read
+    pub record Held (s : Settings) : Type 0 where
       pub ss : List Setting
       pub good : read_of (form_of from) text ≡ Good ss
-      pub is : read.settings ≡ (found (Good ss)).settings
+      pub is : s ≡ settings_of ss
 
-    pub held : read.number ≡ 0 → Held
-    held z = by (read_of (form_of from) text) refl
+    pub held : (s : Settings) → Ok s ≡ found (read_of (form_of from) text) → Held s
+    held s e = by (read_of (form_of from) text) refl e
       where
-        by : (x : Found Setting) → read_of (form_of from) text ≡ x → Held
-        by (Good ss) f = record { ss = ss; good = f; is = ap (λ (y : Read). y.settings) (pr ∙ ap found f) }
-        by (Bad line zero) f = absurd (numbered (form_of from) text line f)
-        by (Bad line (suc n)) f = absurd (let m : suc n ≡ 0 = sym (ap (λ (y : Read). y.number) (pr ∙ ap found f)) ∙ z in omega arith)
+        by : (x : Found Setting) → read_of (form_of from) text ≡ x → Ok s ≡ found x → Held s
+        by (Good ss) f e = let q : s ≡ settings_of ss = cc in record { ss = ss; good = f; is = q }
+        by (Bad line n) f e = cc
 
-    abbrev pub as_move : Written → Move
-    as_move (writes.Bytes n) = moves.Bytes n
-    as_move (writes.Refused n) = moves.Refused 0 n
-
-    turned : (s : Settings) (t : List ℕ) (r : Written) (o' : List ℕ) → number_as to s ≡ 0 → text_as to s ≡ t → SavesAs to s o r o'
-        → Moves (Text t) o (as_move r) o'
+    turned : (s : Settings) (t : List ℕ) (r : Result ℕ Refusal) (o' : List ℕ) → number_as to s ≡ 0 → text_as to s ≡ t → SavesAs to s o r o'
+        → Moves (Text t) o (unblamed r) o'
     turned s t r o' z e w = record {
-      answer = ap as_move w.answer ∙ rw (z, e) (by (leb (length t) (length o)));
+      answer = ap unblamed w.answer ∙ rw (z, e) (by (leb (length t) (length o)));
       written = w.written ∙ rw (z, e);
     }
       where
-        by : (b : Bool) → as_move (cond b (writes.Bytes (length t)) (writes.Refused 20)) ≡ cond b (moves.Bytes (length t)) (moves.Refused 0 20)
+        by : (b : Bool) → unblamed (cond b (Ok (length t)) (Err (refusal_at 20)))
+            ≡ cond b (Ok (length t)) (Err (record { line = 0; refusal = refusal_at 20 }))
         by true = refl
         by false = refl
 
-    pub move-written : (k : Held) → Placed place k.ss → (s : Settings) → s ≡ recast_in to read.settings → (r : Written) (o' : List ℕ)
-        → SavesAs to s o r o' → Moves (move (form_of from) (form_of to) place text) o (as_move r) o'
+    pub move-written : (h : Settings) (k : Held h) → Placed place k.ss → (s : Settings) → s ≡ recast_in to h → (r : Result ℕ Refusal) (o' : List ℕ)
+        → SavesAs to s o r o' → Moves (move (form_of from) (form_of to) place text) o (unblamed r) o'
     unfolding move
-    move-written k p s ps r o' w =
+    move-written h k p s ps r o' w =
         let good = (only-text from text k.ss k.good).1 in
         let kept = list_kept (form_of from) (form_of to) place keeps k.ss p.there 0 [] good p.is in
         let fill = replicate (64 - length k.ss) empty_entry in
@@ -247,14 +230,14 @@ back-placed ss e = by (placed lowered ss) refl
     by none f = absurd (let z : true ≡ false = sym (dither_missing ss ∙ ap missing f) ∙ e in let y : ◌≡◌ {A = ℕ} 0 1 = cc in omega arith)
 
 pub back_none : (text : List ℕ) (ss : List Setting) (o : List ℕ) → read_of (form_of Two) text ≡ Good ss → any_dither ss ≡ true → Moves (back text) o
-    (moves.Refused 0 84) o
-unfolding move
+    (Err (record { line = 0; refusal = Refusal.DitherPresent })) o
+unfolding move refusal_at
 back_none text ss o g e = rw g (by (placed lowered ss) refl)
   where
     by : (x : Option (List Setting)) → placed lowered ss ≡ x → Moves (placed_text (form_of Two) (form_of One) lowered (placed lowered ss)) o
-        (moves.Refused 0 84) o
+        (Err (record { line = 0; refusal = Refusal.DitherPresent })) o
     by (some ts) f = absurd (let z : false ≡ true = sym (dither_missing ss ∙ ap missing f) ∙ e in let y : ◌≡◌ {A = ℕ} 0 1 = cc in omega arith)
     by none f = rw f (record { answer = refl; written = refl })
 
-pub dither_read : (s : Settings) (ss : List Setting) → s ≡ (found (Good ss)).settings → any_dither_in s.entries ≡ any_dither ss
+pub dither_read : (s : Settings) (ss : List Setting) → s ≡ settings_of ss → any_dither_in s.entries ≡ any_dither ss
 dither_read s ss e = ap (λ (x : Settings). any_dither_in x.entries) e ∙ dither_entries ss (64 - length ss)

@@ -1,12 +1,13 @@
 -- What a move answers. 02, A12: 84 before 20, and nothing is written on a refusal.
-use Rattle.std.specs.Prelude.{Bool, true, false, cond, ◌||◌, ◌≡◌, List, [], ◌∷◌, map, ℕ, ◌+◌, ◌-◌, leb, ltb, length}
+use Rattle.std.specs.Prelude.{Bool, true, false, cond, ◌||◌, ◌≡◌, List, [], ◌∷◌, map, ℕ, ◌+◌, ◌-◌, leb, ltb, length, Result, Ok, Err}
+use Rattle.blocks.specs.declared.refusal.Refusal.{Refusal}
+use Rattle.blocks.specs.Refusals.{refusal_at}
 use Rattle.text.specs.Writing.{overlaid}
 use Rattle.wdf.specs.Retired.{moved}
 use Rattle.settings_text.specs.Moves.{Moved, Text, Refused}
 use Rattle.settings_text.specs.declared.version.Version.{Version}
 use Rattle.settings_text.specs.declared.version.Version.TheVariants.{One, Two}
-use Rattle.store.specs.declared.moving.Move.{Move}
-use Rattle.store.specs.declared.moving.Move.TheVariants as moves
+use Rattle.store_read.specs.declared.reading.BadLine.{BadLine}
 use Rattle.entries.specs.declared.settings.Entry.{Entry}
 use Rattle.entries.specs.declared.settings.Kind.{Kind}
 use Rattle.entries.specs.declared.settings.Kind.TheVariants as kinds
@@ -17,12 +18,21 @@ abbrev pub move_ends : {A : Type 0} → Moved → List ℕ → (ℕ → ℕ → 
 move_ends (Text text) o refused done = cond (leb (length text) (length o)) (done text) (refused 0 20)
 move_ends (Refused line number) o refused done = refused line number
 
--- the count written, or line and number; and the slice, whose rest stays and where nothing is written on a refusal
-pub record Moves (m : Moved) (o : List ℕ) (r : Move) (o' : List ℕ) : Type 0 where
-  pub answer : r ≡ move_ends m o moves.Refused (λ text. moves.Bytes (length text))
+-- the count written, or line and refusal
+abbrev pub move_result : Moved → List ℕ → Result ℕ BadLine
+move_result m o = move_ends m o (λ line number. Err (record { line = line; refusal = refusal_at number })) (λ text. Ok (length text))
+
+-- and the slice, whose rest stays and where nothing is written on a refusal
+pub record Moves (m : Moved) (o : List ℕ) (r : Result ℕ BadLine) (o' : List ℕ) : Type 0 where
+  pub answer : r ≡ move_result m o
   pub written : o' ≡ move_ends m o (λ line number. o) (λ text. overlaid o 0 text)
 
--- For private functions: an entry as it stands in a form. No rate that can be written is 2^32 - 1
+-- For private functions: what writing answers, with no line to blame
+abbrev pub unblamed : Result ℕ Refusal → Result ℕ BadLine
+unblamed (Ok n) = Ok n
+unblamed (Err r) = Err (record { line = 0; refusal = r })
+
+-- an entry as it stands in a form. No rate that can be written is 2^32 - 1
 unfoldable pub third_in : Version → ℕ → ℕ
 third_in One r = r - 1
 third_in Two rate = cond (ltb rate 4294967295) (rate + 1) 0

@@ -1,20 +1,14 @@
 // The moves of a store from form 1 to form 2 and back, over lent slices.
 ghost use Rattle.std.specs.Prelude.{◌≡◌};
 ghost use Rattle.settings_text.specs.Moves.{forth, back};
-ghost use Rattle.store.specs.Moving.{Moves, third_in, architecture_in, recast_kind, recast_entry, recast_in, dither_kind, any_dither_in};
+ghost use Rattle.store.specs.Moving.{Moves, unblamed, third_in, architecture_in, recast_kind, recast_entry, recast_in, dither_kind, any_dither_in};
 
+use blocks::Refusal;
 use entries::settings::{Entry, Kind, Settings};
 use settings_text::version::Version;
-use store_read::reading::{read_form1, read_form2};
-use store_write::saving::{Written, write_form1, write_form2};
+use store_read::reading::{BadLine, read_form1, read_form2};
+use store_write::saving::{write_form1, write_form2};
 use wdf::filter::current_architecture;
-
-// How many bytes were written; or the line, 0 where no line is to blame, and the number of the refusal.
-#[derive(Clone, Copy)]
-pub enum Move {
-    Bytes(usize),
-    Refused(usize, u32),
-}
 
 // A `cic`'s third number as it stands in a form: R is the rate + 1.
 fn third(version: Version, n: u32) -> u32
@@ -74,12 +68,8 @@ fn recast_all(version: Version, settings: Settings) -> Settings
 {
     let count = settings.count;
     let mut entries = settings.entries;
-    let mut i: usize = 0;
-    while i < 64 {
-        let held = entries[i];
-        let entry = recast(version, held);
-        entries[i] = entry;
-        i += 1;
+    for entry in entries.iter_mut() {
+        *entry = recast(version, *entry);
     }
     Settings { count, entries }
 }
@@ -87,63 +77,49 @@ fn recast_all(version: Version, settings: Settings) -> Settings
 fn is_dither(kind: Kind) -> bool
     ensures { result ≡ dither_kind kind }
 {
-    match kind {
-        Kind::Cic(_, _, _) => false,
-        Kind::Wdf(_, _) => false,
-        Kind::Dither(_) => true,
-    }
+    matches!(kind, Kind::Dither(_))
 }
 
-fn has_dither(settings: Settings) -> bool
-    ensures { result ≡ any_dither_in settings.entries }
+fn has_dither(entries: &[Entry; 64]) -> bool
+    ensures { result ≡ any_dither_in entries.now }
 {
-    let entries = settings.entries;
-    let mut i: usize = 0;
-    while i < 64 {
-        let entry = entries[i];
-        let kind = entry.kind;
-        if is_dither(kind) {
+    for entry in entries {
+        if is_dither(entry.kind) {
             return true;
         }
-        i += 1;
     }
     false
 }
 
-// Moves a store of form 1 to form 2, with b and c in the places of e and f, at the start of the slice; the rest of it stays. A store that can't be read is
-// refused by its own number, else a short slice by 20: then nothing is written.
-pub fn move_forth(text: &[u8], out: &mut [u8]) -> Move
-    ensures { Moves (forth text.now) out.old result out.new }
+// What writing answers: no line is to blame.
+fn unblamed(wrote: Result<usize, Refusal>) -> Result<usize, BadLine>
+    ensures { result ≡ unblamed wrote }
 {
-    let read = read_form1(text);
-    let number = read.number;
-    if number != 0 {
-        return Move::Refused(read.line, number);
-    }
-    let held = read.settings;
-    let settings = recast_all(Version::Two, held);
-    match write_form2(settings, out) {
-        Written::Bytes(n) => Move::Bytes(n),
-        Written::Refused(n) => Move::Refused(0, n),
+    match wrote {
+        Ok(n) => Ok(n),
+        Err(refusal) => Err(BadLine { line: 0, refusal }),
     }
 }
 
+// Moves a store of form 1 to form 2, with b and c in the places of e and f, at the start of the slice: how many bytes. The rest of the slice
+// stays. A store that can't be read is refused by its own number, else a short slice by 20: then nothing is written.
+pub fn move_forth(text: &[u8], out: &mut [u8]) -> Result<usize, BadLine>
+    ensures { Moves (forth text.now) out.old result out.new }
+{
+    let settings = read_form1(text)?;
+    unblamed(write_form2(recast_all(Version::Two, settings), out))
+}
+
 // Moves a store of form 2 back to form 1. One that holds a `dither` record is refused by 84, before 20.
-pub fn move_back(text: &[u8], out: &mut [u8]) -> Move
+pub fn move_back(text: &[u8], out: &mut [u8]) -> Result<usize, BadLine>
     ensures { Moves (back text.now) out.old result out.new }
 {
-    let read = read_form2(text);
-    let number = read.number;
-    if number != 0 {
-        return Move::Refused(read.line, number);
+    let settings = read_form2(text)?;
+    if has_dither(&settings.entries) {
+        return Err(BadLine {
+            line: 0,
+            refusal: Refusal::DitherPresent,
+        });
     }
-    let held = read.settings;
-    if has_dither(held) {
-        return Move::Refused(0, 84);
-    }
-    let settings = recast_all(Version::One, held);
-    match write_form1(settings, out) {
-        Written::Bytes(n) => Move::Bytes(n),
-        Written::Refused(n) => Move::Refused(0, n),
-    }
+    unblamed(write_form1(recast_all(Version::One, settings), out))
 }

@@ -5,7 +5,7 @@ use Rattle.settings_text.specs.declared.version.Version.{Version}
 use Rattle.settings_text.specs.Lines.{Setting, form_of, form1, form2, dither_number}
 use Rattle.settings_text.specs.Stores.{Good, Bad, read_of}
 use Rattle.entries.specs.Entries.{records_in, number_as}
-use Rattle.store_read.specs.Reading.{found}
+use Rattle.store_read.specs.Reading.{found, settings_of}
 use Rattle.store_write.specs.Saving.{text_as}
 use Rattle.entries.specs.declared.settings.Settings.{Settings}
 
@@ -13,11 +13,11 @@ use Rattle.entries.specs.declared.settings.Settings.{Settings}
 abbrev pub WrittenReads : Version → Type 0
 WrittenReads v = (s : Settings) → number_as v s ≡ 0 → read_of (form_of v) (text_as v s) ≡ Good (records_in s)
 
--- what was read is written as the same bytes
+-- what was read, `settings_of`, is written as the same bytes
 abbrev pub CopySame : Version → Type 0
 CopySame v =
     (text : List ℕ) (ss : List Setting) → read_of (form_of v) text ≡ Good ss
-    → (number_as v (found (Good ss)).settings ≡ 0) × (text_as v (found (Good ss)).settings ≡ text)
+    → (number_as v (settings_of ss) ≡ 0) × (text_as v (settings_of ss) ≡ text)
 
 -- what `read_form1` answers to a text that form 2 doesn't refuse by its first line
 abbrev pub OldRefuses : Type 0

@@ -1,4 +1,4 @@
-pub mod Copying
+pub mod Parts
 pub mod Counting
 pub mod Ends
 pub mod Turns

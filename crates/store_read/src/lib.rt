@@ -3,5 +3,6 @@
 
 #![tactic(auto)]
 
-pub mod line;
+mod cutting;
+mod line;
 pub mod reading;

@@ -11,10 +11,13 @@ use lib.ListN.{length, take, drop, get_or, replicate, length-append, length-repl
 use lib.Seq.{drop-cons, get_or-take, take-suc}
 use mir.Syntax.{w32}
 use mir.Val.{SFits}
-use borrow.Author.Tests.{le-leb, lt-leb}
+use borrow.Author.Tests.{le-leb, lt-leb, leb-true, leb-false}
+use Rattle.std.specs.Prelude.{Result, Ok, Err, OnOk}
+use Rattle.blocks.specs.declared.refusal.Refusal.{Refusal}
+use Rattle.blocks.specs.Refusals.{answer}
+use Rattle.blocks.proofs.Refusals.{taken_number}
 use Rattle.words.proofs.Reading.{wrap-fits}
 use Rattle.words.specs.Words.{wrap}
-use Rattle.text.specs.Order.{precedes}
 use Rattle.text.specs.Parts.{joined_by}
 use Rattle.text.specs.Ranges.{all_lie, lies, signed, unsigned}
 use Rattle.text.proofs.Putting.{nothing, then, wrote-same}
@@ -25,6 +28,7 @@ use Rattle.settings_text.specs.declared.version.Version.{Version}
 use Rattle.settings_text.specs.declared.version.Version.TheVariants.{One, Two}
 use Rattle.settings_text.proofs.Lines.{wdf_small}
 use Rattle.settings_text.proofs.Names.{long-name}
+use Rattle.settings_text.proofs.Stores.{write_zero, no_parameter}
 use Rattle.entries.specs.Entries.{kind_number, name_bytes, number_for, setting_by, entry_setting, records_in, number_as, whole_name}
 use Rattle.store_write.specs.Writing.{Ended, allowed_in, sections}
 use Rattle.entries.specs.declared.settings.Entry.{Entry}
@@ -188,20 +192,38 @@ module _ (v : Version) where
           ∙ whole-name e.name s in
           record { few = omega arith; room = omega arith; rest = left ∙ rw (w, add-one i, m) }
 
--- what is not refused has at most 8 sections
-pub few-sections : (v : Version) (k : ℕ) (last name : List ℕ) (kind : Kind) (a : List ℤ) → number_for v k last name kind a ≡ 0 → sections kind ≤ 8
-unfolding number_for
-few-sections v k last name kind a h = by (leb 64 k) (precedes last name) h
-  where
-    small : (kind : Kind) → kind_number v kind a ≡ 0 → sections kind ≤ 8
-    small (kinds.Cic n m r) e = omega arith
-    small (kinds.Dither f) e = omega arith
-    small (kinds.Wdf k arch) e = (wdf_small v k arch e).0
+-- what is not refused has at most 16 letters and 8 sections
+module _ (v : Version) (k : ℕ) (last : List ℕ) (e : Entry) (l : length e.a ≡ 8) (b : length e.name.bytes ≡ 16)
+    (z : listed_number (form_of v) k last (entry_setting e) ≡ 0) where
+  pub few_letters : e.name.len ≤ 16
+  few_letters = by (leb e.name.len 16) refl
+    where
+      by : (t : Bool) → leb e.name.len 16 ≡ t → e.name.len ≤ 16
+      by true f = leb-true e.name.len 16 f
+      by false f = absurd (let q = name-long v k last e l b (leb-false e.name.len 16 f) in omega arith)
 
-    by : (t b : Bool) → cond t 83 (cond b (kind_number v kind a) 82) ≡ 0 → sections kind ≤ 8
-    by true b e = absurd (omega arith)
-    by false true e = small kind e
-    by false false e = absurd (omega arith)
+  small : (kind : Kind) → kind_number v kind (map (wrap w32) e.a) ≡ 0 → sections kind ≤ 8
+  small (kinds.Cic n m r) e = omega arith
+  small (kinds.Dither f) e = omega arith
+  small (kinds.Wdf k arch) e = (wdf_small v k arch e).0
+
+  pub few-sections : sections e.kind ≤ 8
+  unfolding form_of
+  few-sections =
+      let m : length (map (wrap w32) e.a) ≡ 8 = wrapped_length e.a ∙ l in
+      let w = write_zero (form_of v) k last (entry_setting e) z in
+      let p = no_parameter (form_of v) k last (entry_setting e) w.1 in
+      small e.kind (sym (number_is v (whole_name e.name) e.kind (map (wrap w32) e.a) m) ∙ p)
+
+-- what is refused has a number
+pub nonzero : {A : Type 0} (k : ℕ) (v : A) (r : Refusal) → ◌≡◌ {A = Result A Refusal} (Err r) (answer k v) → k ≡ 0 → ⊥
+unfolding answer
+nonzero zero v r e z = cc
+nonzero (suc k) v r e z = absurd (omega arith)
+
+pub room_law : (r : Result (Unit {0}) Refusal) (k : ℕ) (P : Type 0) → r ≡ answer k tt → (k ≡ 0 → P) → OnOk r P
+room_law (Ok u) k P e h = h (taken_number k tt u e)
+room_law (Err x) k P e h = tt
 
 -- a text is its first line and its records' lines
 abbrev pub lines : List Setting → List ℕ

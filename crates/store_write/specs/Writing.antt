@@ -1,5 +1,7 @@
 -- For private functions: fields put into a lent buffer that has room.
-use Rattle.std.specs.Prelude.{Bool, true, false, ◌≡◌, List, [], ◌∷◌, ◌++◌, ℕ, ◌+◌, ◌≤◌, ℤ, pos, length, take}
+use Rattle.std.specs.Prelude.{Bool, true, false, ◌≡◌, List, [], ◌∷◌, ◌++◌, ℕ, ◌+◌, ◌≤◌, ℤ, pos, length, take, Result}
+use Rattle.blocks.specs.declared.refusal.Refusal.{Refusal}
+use Rattle.blocks.specs.Refusals.{answer}
 use Rattle.text.specs.Letters.{bytes, tab}
 use Rattle.text.specs.Numbers.{decimal_of}
 use Rattle.text.specs.Ranges.{unsigned, all_lie, texts}
@@ -29,10 +31,10 @@ pub record Ended (o : List ℕ) (at : ℕ) (bs : List ℕ) (most r : ℕ) (o' : 
 abbrev pub Fielded : List ℕ → ℕ → List (List ℕ) → ℕ → ℕ → List ℕ → Type 0
 Fielded o at fs most r o' = Ended o at (tabs fs) most r o'
 
--- a list's number, and where that is 0 its text and where it ends
-pub record Composing (v : Version) (s : Settings) (o : List ℕ) (number end : ℕ) (o' : List ℕ) : Type 0 where
-  pub judged : number ≡ number_as v s
-  pub wrote : number ≡ 0 → Ended o 0 (text_of (form_of v) (records_in s)) 9030 end o'
+-- where a list's text ends, or what refuses the list; and the text, where it isn't refused
+pub record Composing (v : Version) (s : Settings) (o : List ℕ) (r : Result ℕ Refusal) (o' : List ℕ) : Type 0 where
+  pub judged : r ≡ answer (number_as v s) (length (text_of (form_of v) (records_in s)))
+  pub wrote : number_as v s ≡ 0 → Ended o 0 (text_of (form_of v) (records_in s)) 9030 (length (text_of (form_of v) (records_in s))) o'
   pub long : length o' ≡ length o
 
 -- a record of the kind has a place in the form, and its numbers are u32

@@ -1,5 +1,6 @@
 // Writing a store: the list is judged first, then the slice.
-ghost use Rattle.std.specs.Prelude.{◌≡◌, [], ◌∷◌, ◌++◌, ◌≤◌, length};
+ghost use Rattle.std.specs.Prelude.{◌≡◌, [], ◌∷◌, ◌++◌, ◌≤◌, length, OnOk};
+ghost use Rattle.blocks.specs.Refusals.{answer};
 ghost use Rattle.text.specs.Letters.{newline};
 ghost use Rattle.settings_text.specs.Lines.{heading, form_of};
 ghost use Rattle.settings_text.specs.Stores.{listed_number};
@@ -9,8 +10,8 @@ ghost use Rattle.store_write.specs.Writing.{Ended, Composing, allowed_in, sectio
 ghost use Rattle.store_write.specs.Saving.{Saves, SavesAs};
 
 use crate::writing::put_line;
+use blocks::Refusal;
 use entries::names::is_name;
-use entries::numbers::number_of;
 use entries::settings::{Entry, Kind, Name, Settings, no_name};
 use settings_text::version::Version;
 use text::writing::put_bytes;
@@ -29,32 +30,21 @@ fn allowed(version: Version, kind: Kind) -> bool
     }
 }
 
-// The number that refuses an entry after k, the last of them named `last`; or 0.
-fn entry_number(version: Version, k: usize, last: Name, entry: Entry) -> u32
-    ensures { (result ≡ listed_number (form_of version) k (name_bytes last) (entry_setting entry)) × (result ≡ 0 → (entry.name.len ≤ 16) × (sections entry.kind ≤ 8)) }
+// What refuses an entry after k, the last of them named `last`.
+fn check_entry(version: Version, k: usize, last: &Name, entry: Entry) -> Result<(), Refusal>
+    ensures number { result ≡ answer (listed_number (form_of version) k (name_bytes last.now) (entry_setting entry)) tt }
+    ensures room { OnOk result ((entry.name.len ≤ 16) × (sections entry.kind ≤ 8)) }
 {
-    let name = entry.name;
-    let bytes = name.bytes;
-    let len = name.len;
-    let kind = entry.kind;
-    if 16 < len {
-        return 81;
+    if 16 < entry.name.len {
+        return Err(Refusal::SettingsLine);
     }
-    if !is_name(&bytes[..len]) {
-        return 81;
+    if !is_name(entry.name.letters()) {
+        return Err(Refusal::SettingsLine);
     }
-    if !allowed(version, kind) {
-        return 81;
+    if !allowed(version, entry.kind) {
+        return Err(Refusal::SettingsLine);
     }
-    let a = entry.a;
-    number_of(version, k, last, name, kind, a)
-}
-
-// A list's number, and where its text ends in the buffer.
-#[derive(Clone, Copy)]
-pub struct Composed {
-    pub end: usize,
-    pub number: u32,
+    entry.check(version, k, last)
 }
 
 // The first line and its newline.
@@ -68,68 +58,48 @@ fn put_heading(version: Version, out: &mut [u8]) -> usize
     }
 }
 
-// Judges the records in turn and puts their lines into a buffer that has room for 64.
-fn compose(version: Version, settings: Settings, out: &mut [u8]) -> Composed
+// Judges the records in turn and puts their lines into a buffer that has room for 64; where the text ends.
+fn compose(version: Version, settings: Settings, out: &mut [u8]) -> Result<usize, Refusal>
     requires { 9030 ≤ length out.old }
-    ensures { Composing version settings out.old result.number result.end out.new }
+    ensures { Composing version settings out.old result out.new }
 {
-    let entries = settings.entries;
-    let count = settings.count;
     let mut last = no_name();
     let mut end = put_heading(version, out);
-    let mut i: usize = 0;
-    while i < count {
+    for i in 0..settings.count {
         if 64 <= i {
-            return Composed { end: 0, number: 83 };
+            return Err(Refusal::ManySettings);
         }
-        let entry = entries[i];
-        let number = entry_number(version, i, last, entry);
-        if number != 0 {
-            return Composed { end: 0, number };
-        }
+        let entry = settings.entries[i];
+        check_entry(version, i, &last, entry)?;
         end = put_line(out, end, entry);
-        let name = entry.name;
-        last = name;
-        i += 1;
+        last = entry.name;
     }
-    Composed { end, number: 0 }
+    Ok(end)
 }
 
-// How many bytes were written, or the number of the refusal.
-#[derive(Clone, Copy)]
-pub enum Written {
-    Bytes(usize),
-    Refused(u32),
-}
-
-// Writes a store of a form at the start of the slice; the rest of it stays. A bad list is refused by its number, else a
-// short slice by 20: then nothing is written.
-pub fn write_store(version: Version, settings: Settings, out: &mut [u8]) -> Written
+// Writes a store of a form at the start of the slice: how many bytes. The rest of the slice stays. A bad list is refused by its
+// number, else a short slice by 20: then nothing is written.
+pub fn write_store(version: Version, settings: Settings, out: &mut [u8]) -> Result<usize, Refusal>
     ensures { SavesAs version settings out.old result out.new }
 {
     let mut buf = [0u8; 9030];
-    let c = compose(version, settings, &mut buf);
-    let number = c.number;
-    if number != 0 {
-        return Written::Refused(number);
-    }
-    let end = c.end;
+    let end = compose(version, settings, &mut buf)?;
     if out.len() < end {
-        return Written::Refused(20);
+        return Err(Refusal::ShortOutput);
     }
     put_bytes(out, 0, &buf[..end]);
-    Written::Bytes(end)
+    Ok(end)
 }
 
 // The same of form 1.
-pub fn write_form1(settings: Settings, out: &mut [u8]) -> Written
+pub fn write_form1(settings: Settings, out: &mut [u8]) -> Result<usize, Refusal>
     ensures { Saves settings out.old result out.new }
 {
     write_store(Version::One, settings, out)
 }
 
 // The same of form 2.
-pub fn write_form2(settings: Settings, out: &mut [u8]) -> Written
+pub fn write_form2(settings: Settings, out: &mut [u8]) -> Result<usize, Refusal>
     ensures { SavesAs Two settings out.old result out.new }
 {
     write_store(Version::Two, settings, out)

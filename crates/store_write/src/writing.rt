@@ -1,4 +1,5 @@
 // A record's line, put into a lent buffer that has room for it.
+// Kept: places in the buffer, since the calls of text::writing take a place and give the next.
 ghost use Rattle.std.specs.Prelude.{◌≡◌, [], ◌∷◌, ◌++◌, map, ◌+◌, ◌*◌, ◌≤◌, ◌<◌, length, take};
 ghost use Rattle.std.specs.Int.{w32};
 ghost use Rattle.words.specs.Words.{wrap};
@@ -47,15 +48,12 @@ fn put_integer(out: &mut [u8], at: usize, v: i32) -> usize
 
 // The first k coefficients.
 fn put_integers(out: &mut [u8], at: usize, a: &[i32; 8], k: usize) -> usize
-    requires { (at + 12 * k ≤ length out.old) × (k ≤ 8) × (length a.now ≡ 8) }
+    requires { (at + 12 * k ≤ length out.old) × (k ≤ 8) }
     ensures { Fielded out.old at (texts (take k (map (wrap w32) a.now))) (12 * k) result out.new }
 {
     let mut next = at;
-    let mut i: usize = 0;
-    while i < k {
-        let v = a[i];
-        next = put_integer(out, next, v);
-        i += 1;
+    for i in 0..k {
+        next = put_integer(out, next, a[i]);
     }
     next
 }
@@ -78,11 +76,9 @@ fn put_hexes(out: &mut [u8], at: usize, k: usize, m: u32) -> usize
 {
     let mut left = m;
     let mut next = at;
-    let mut i: usize = 0;
-    while i < k {
+    for _i in 0..k {
         next = put_byte(out, next, hex_byte(left % 16));
-        left = left / 16;
-        i += 1;
+        left /= 16;
     }
     next
 }
@@ -110,7 +106,7 @@ fn put_cic(out: &mut [u8], at: usize, n: u32, m: u32, rate: u32) -> usize
 }
 
 fn put_wdf(out: &mut [u8], at: usize, k: usize, m: u32, a: &[i32; 8]) -> usize
-    requires { (at + 117 ≤ length out.old) × (k ≤ 8) × (length a.now ≡ 8) }
+    requires { (at + 117 ≤ length out.old) × (k ≤ 8) }
     ensures { Fielded out.old at (decimal_of k ∷ nibbles_of k m ∷ texts (take k (map (wrap w32) a.now))) 117 result out.new }
 {
     let x = put_natural(out, at, k as u32);
@@ -119,7 +115,7 @@ fn put_wdf(out: &mut [u8], at: usize, k: usize, m: u32, a: &[i32; 8]) -> usize
 }
 
 fn put_dither(out: &mut [u8], at: usize, f: u32, a: &[i32; 8]) -> usize
-    requires { (at + 117 ≤ length out.old) × (length a.now ≡ 8) }
+    requires { at + 117 ≤ length out.old }
     ensures { Fielded out.old at (decimal_of f ∷ texts (take 8 (map (wrap w32) a.now))) 117 result out.new }
 {
     let x = put_natural(out, at, f);
@@ -140,7 +136,7 @@ fn put_kind(out: &mut [u8], at: usize, kind: Kind) -> usize
 
 // The fields after the name.
 fn put_body(out: &mut [u8], at: usize, kind: Kind, a: &[i32; 8]) -> usize
-    requires { (at + 117 ≤ length out.old) × (sections kind ≤ 8) × (length a.now ≡ 8) }
+    requires { (at + 117 ≤ length out.old) × (sections kind ≤ 8) }
     ensures { Fielded out.old at (body_of kind (map (wrap w32) a.now)) 117 result out.new }
 {
     match kind {

@@ -1,42 +1,46 @@
 -- Parts between separators: the first part ends where `end_of` says, and the rest is parted again.
 use native.Mathlib.Omega.{arith}
-use native.Mathlib.Numerals.{add-one}
 use mathlib.Core.Path.{◌≡◌, refl, sym, ap, ◌∙◌}
 use mathlib.Core.Bool.{Bool, true, false, cond}
 use mathlib.Core.List.{List, [], ◌∷◌, ◌++◌}
 use Prim.Native.Nat.{ℕ, suc, ◌+◌, ◌-◌, ◌≤◌, ◌<◌}
-use lib.Dec.{eqb}
+use lib.Dec.{eqb, ltb}
 use lib.ListN.{length, take, drop, get_or, drop_of_length-le, length-drop}
-use lib.Seq.{drop-cons, drop-drop, get_or-drop}
-use borrow.Author.Tests.{eq-eqb, ne_eqb, eqb-true}
+use lib.Seq.{drop-drop, get_or-drop}
+use borrow.Author.Tests.{eqb-true, ltb-false}
+use Rattle.std.specs.Prelude.{◌==◌, Some, None, position}
+use Rattle.std.specs.Option.{unwrap_or}
+use Rattle.std.specs.List.{position_or_len, count_by}
+use Rattle.std.proofs.lemmas.List.Recursion.{is_position_or_len, is_count_by}
 use Rattle.text.specs.Parts.{onto, parted, before, behind, count, end_of}
 
 module _ (sep : ℕ) where
-  -- a loop that looks for the separator
-  pub end_here : (l : List ℕ) (i : ℕ) → i < length l → get_or l i 0 ≡ sep → end_of sep l i ≡ i
+  -- the first part's length is the place of the first separator, and their count what a filter leaves
+  pub length-before : (l : List ℕ) → length (before sep l) ≡ position_or_len (λ b. b == sep) l
   unfolding before
-  end_here l i h e = rw (drop-cons l i 0 h, eq-eqb _ _ e) (omega arith)
+  length-before l = is_position_or_len (λ k. length (before sep k)) (λ b. b == sep) refl step l
+    where
+      step : (b : ℕ) (k : List ℕ) → length (cond (eqb b sep) [] (b ∷ before sep k)) ≡ cond (eqb b sep) 0 (1 + length (before sep k))
+      step b k = by (eqb b sep)
+        where
+          by : (t : Bool) → length (cond t [] (b ∷ before sep k)) ≡ cond t 0 (1 + length (before sep k))
+          by true = refl
+          by false = omega arith
 
-  pub end_on : (l : List ℕ) (i : ℕ) → i < length l → (get_or l i 0 ≡ sep → ⊥) → end_of sep l i ≡ end_of sep l (i + 1)
-  unfolding before
-  end_on l i h e = rw (add-one, drop-cons l i 0 h, ne_eqb _ _ e) (omega arith)
+  pub count-count_by : (l : List ℕ) → count sep l ≡ count_by (λ b. b == sep) l
+  unfolding count
+  count-count_by l = is_count_by (count sep) (λ b. b == sep) refl more l
+    where
+      more : (b : ℕ) (k : List ℕ) → cond (eqb b sep) (suc (count sep k)) (count sep k) ≡ cond (eqb b sep) (1 + count sep k) (count sep k)
+      more b k = by (eqb b sep)
+        where
+          by : (t : Bool) → cond t (suc (count sep k)) (count sep k) ≡ cond t (1 + count sep k) (count sep k)
+          by true = omega arith
+          by false = refl
 
   pub end_past : (l : List ℕ) (i : ℕ) → length l ≤ i → end_of sep l i ≡ i
   unfolding before
   end_past l i h = rw (drop_of_length-le l h) (omega arith)
-
-  -- a loop that counts the separators
-  pub count_yes : (l : List ℕ) (i : ℕ) → i < length l → get_or l i 0 ≡ sep → count sep (drop i l) ≡ suc (count sep (drop (i + 1) l))
-  unfolding count
-  count_yes l i h e = rw (add-one, drop-cons l i 0 h, eq-eqb _ _ e)
-
-  pub count_no : (l : List ℕ) (i : ℕ) → i < length l → (get_or l i 0 ≡ sep → ⊥) → count sep (drop i l) ≡ count sep (drop (i + 1) l)
-  unfolding count
-  count_no l i h e = rw (add-one, drop-cons l i 0 h, ne_eqb _ _ e)
-
-  pub count_past : (l : List ℕ) (i : ℕ) → length l ≤ i → count sep (drop i l) ≡ 0
-  unfolding count
-  count_past l i h = rw (drop_of_length-le l h)
 
   -- a text starts with its first part
   pub before-short : (l : List ℕ) → length (before sep l) ≤ length l
@@ -47,6 +51,18 @@ module _ (sep : ℕ) where
       by : (t : Bool) → length (before sep l) ≤ length l → length (cond t [] (b ∷ before sep l)) ≤ suc (length l)
       by true h = omega arith
       by false h = omega arith
+
+  -- where the first part ends, by the place of the first separator if there is one
+  pub first-length : (l : List ℕ) → unwrap_or (position (λ b. b == sep) l) (length l) ≡ length (before sep l)
+  first-length l = by (position_or_len (λ b. b == sep) l) (length-before l) (before-short l)
+    where
+      by : (n : ℕ) → length (before sep l) ≡ n → length (before sep l) ≤ length l
+          → unwrap_or (cond (ltb n (length l)) (Some n) None) (length l) ≡ length (before sep l)
+      by n e h = at (ltb n (length l)) refl
+        where
+          at : (t : Bool) → ltb n (length l) ≡ t → unwrap_or (cond t (Some n) None) (length l) ≡ length (before sep l)
+          at true f = sym e
+          at false f = let g = ltb-false n (length l) f in omega arith
 
   pub before-take : (l : List ℕ) → take (length (before sep l)) l ≡ before sep l
   unfolding before

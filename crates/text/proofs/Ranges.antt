@@ -12,8 +12,10 @@ use borrow.Author.Tests.{leb-true, lt-leb}
 use Rattle.text.specs.Numbers.{number_of, decimal_of, signed_of}
 use Rattle.text.specs.Ranges.{both, Range, unsigned, lies, all_lie, within, number_in, numbers_in, texts}
 use Rattle.text.specs.Parts.{count}
+use Rattle.std.specs.Prelude as std
+use Rattle.std.specs.Prelude.{Some, None}
 use Rattle.text.specs.declared.numbers.Number.{Number}
-use Rattle.text.specs.declared.numbers.Number.TheVariants.{Plus, Minus, Wrong}
+use Rattle.text.specs.declared.numbers.Number.TheVariants.{Plus, Minus}
 use Rattle.text.proofs.Numerals.{number-count}
 use Rattle.text.proofs.Spelling.{decimal_most}
 use Rattle.text.proofs.OneSpelling.{number-spelt, number-one, minus-spelt, minus_one_law}
@@ -50,7 +52,7 @@ module _ (r : Range) (low : r.least < 10 ^ 20) (high : r.most < 10 ^ 20) where
   unfolding number_in
   number-only f z e = by (number_of f) refl e
     where
-      plus : (v : ℕ) → number_of f ≡ Plus v → (t : Bool) → leb v r.most ≡ t → cond t (some (pos v)) none ≡ some z →
+      plus : (v : ℕ) → number_of f ≡ Some (Plus v) → (t : Bool) → leb v r.most ≡ t → cond t (some (pos v)) none ≡ some z →
           (f ≡ signed_of z) × (lies r z ≡ true)
       plus v g true h k =
           let p : pos v ≡ z = cc in
@@ -58,7 +60,7 @@ module _ (r : Range) (low : r.least < 10 ^ 20) (high : r.most < 10 ^ 20) where
           rw (← p) (number-one f v (omega arith) g, h)
       plus v g false h k = absurd (let z : ◌≡◌ {A = ℕ} 0 1 = cc in omega arith)
 
-      minus : (v : ℕ) → number_of f ≡ Minus (suc v) → (t : Bool) → leb (suc v) r.least ≡ t → cond t (some (negsuc v)) none
+      minus : (v : ℕ) → number_of f ≡ Some (Minus (suc v)) → (t : Bool) → leb (suc v) r.least ≡ t → cond t (some (negsuc v)) none
           ≡ some z → (f ≡ signed_of z) × (lies r z ≡ true)
       minus v g true h k =
           let p : negsuc v ≡ z = cc in
@@ -66,11 +68,11 @@ module _ (r : Range) (low : r.least < 10 ^ 20) (high : r.most < 10 ^ 20) where
           rw (← p) ((minus_one_law f (suc v) (omega arith) g).0, h)
       minus v g false h k = absurd (let z : ◌≡◌ {A = ℕ} 0 1 = cc in omega arith)
 
-      by : (m : Number) → number_of f ≡ m → within r m ≡ some z → (f ≡ signed_of z) × (lies r z ≡ true)
-      by (Plus v) g k = plus v g (leb v r.most) refl k
-      by (Minus zero) g k = absurd (let z : ◌≡◌ {A = ℕ} 0 1 = cc in omega arith)
-      by (Minus (suc v)) g k = minus v g (leb (suc v) r.least) refl k
-      by Wrong g k = absurd (let z : ◌≡◌ {A = ℕ} 0 1 = cc in omega arith)
+      by : (m : std.Option Number) → number_of f ≡ m → within r m ≡ some z → (f ≡ signed_of z) × (lies r z ≡ true)
+      by (Some (Plus v)) g k = plus v g (leb v r.most) refl k
+      by (Some (Minus zero)) g k = absurd (let z : ◌≡◌ {A = ℕ} 0 1 = cc in omega arith)
+      by (Some (Minus (suc v))) g k = minus v g (leb (suc v) r.least) refl k
+      by None g k = absurd (let z : ◌≡◌ {A = ℕ} 0 1 = cc in omega arith)
 
   pub number-plain : (sep : ℕ) → sep < 45 → (f : List ℕ) (z : ℤ) → number_in r f ≡ some z → count sep f ≡ 0
   unfolding number_in
@@ -78,7 +80,7 @@ module _ (r : Range) (low : r.least < 10 ^ 20) (high : r.most < 10 ^ 20) where
       let nd : (leb 48 sep && leb sep 57) ≡ false = rw (lt-leb 48 sep (omega arith)) in
       let nm : sep ≡ 45 → ⊥ = λ q. omega arith in
       number-count sep nd nm f
-      (λ w. let q : within r Wrong ≡ some z = sym (ap (within r) w) ∙ e in let y : ◌≡◌ {A = ℕ} 0 1 = cc in omega arith)
+      (λ w. let q : within r None ≡ some z = sym (ap (within r) w) ∙ e in let y : ◌≡◌ {A = ℕ} 0 1 = cc in omega arith)
 
   pub numbers-again : (zs : List ℤ) → all_lie r zs ≡ true → numbers_in r (texts zs) ≡ some zs
   unfolding numbers_in

@@ -2,12 +2,12 @@
 use mathlib.Core.Path.{◌≡◌, refl, ap}
 use mathlib.Core.Bool.{Bool, true, false, cond}
 use mathlib.Core.List.{List, [], ◌∷◌}
-use Prim.Native.Nat.{ℕ, ◌+◌, ◌<◌, ◌≤◌}
-use native.Mathlib.Numerals.{add-one}
+use Prim.Native.Nat.{ℕ}
 use lib.Dec.{eqb}
-use lib.ListN.{length, drop, get_or, drop_of_length-le}
-use lib.Seq.{drop-cons}
-use borrow.Author.Tests.{eq-eqb, ne_eqb, eqb-true}
+use lib.ListN.{length}
+use borrow.Author.Tests.{eq-eqb, eqb-true}
+use Rattle.std.specs.Prelude.{◌&&◌, nat_eq}
+use Rattle.std.specs.Cmp.Lexicographic.{pointwise}
 use Rattle.text.specs.Same.{same}
 
 pub same_self : (l : List ℕ) → same l l ≡ true
@@ -33,15 +33,14 @@ same_length l k h = by (same l k) refl
     by true e = absurd (h (ap length (same_eq l k e)))
     by false e = refl
 
--- a loop that compares byte by byte
-module _ (l k : List ℕ) (i : ℕ) where
-  pub same_on : i < length l → i < length k → get_or l i 0 ≡ get_or k i 0 → same (drop i l) (drop i k) ≡ same (drop (i + 1) l) (drop (i + 1) k)
-  unfolding same
-  same_on h g e = rw (add-one, drop-cons l i 0 h, drop-cons k i 0 g, eq-eqb _ _ e)
-
-  pub same_off : i < length l → i < length k → (get_or l i 0 ≡ get_or k i 0 → ⊥) → same (drop i l) (drop i k) ≡ false
-  unfolding same
-  same_off h g e = rw (drop-cons l i 0 h, drop-cons k i 0 g, ne_eqb _ _ e)
-
-  pub same_past : length l ≤ i → length k ≤ i → same (drop i l) (drop i k) ≡ true
-  same_past h g = rw (drop_of_length-le l h, drop_of_length-le k g) (same_self [])
+-- what `==` says of two slices of bytes
+pub pointwise-same : (l k : List ℕ) → pointwise nat_eq l k ≡ same l k
+unfolding same
+pointwise-same [] [] = refl
+pointwise-same [] (b ∷ k) = refl
+pointwise-same (a ∷ l) [] = refl
+pointwise-same (a ∷ l) (b ∷ k) = by (nat_eq a b) (pointwise-same l k)
+  where
+    by : (t : Bool) → pointwise nat_eq l k ≡ same l k → (t && pointwise nat_eq l k) ≡ cond t (same l k) false
+    by true e = e
+    by false e = refl

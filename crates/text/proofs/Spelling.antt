@@ -5,14 +5,15 @@ use mathlib.Core.Path.{◌≡◌, refl, sym, ap, ◌∙◌}
 use mathlib.Core.Bool.{Bool, true, false, cond}
 use mathlib.Core.List.{List, [], ◌∷◌, ◌++◌, append_assoc}
 use Prim.Native.Nat.{ℕ, zero, suc, ◌+◌, ◌-◌, ◌*◌, ◌/◌, ◌%◌, ◌^◌, ◌≤◌, ◌<◌}
-use lib.Dec.{ltb}
-use lib.IntN.{ℤ, pos, negsuc}
+use lib.Dec.{ltb, leb}
+use lib.IntN.{ℤ, pos, negsuc, nat_abs}
+use lib.Signed.{le_z}
 use lib.ListN.{length, take, drop, set, get_or, length-append, length-drop, length-set}
 use lib.Seq.{drop-cons, take-suc, drop-length, take-length, length-take-le, set_at}
 use mir.Syntax.{w32, w64}
-use mir.Val.{SFits}
-use borrow.Author.Tests.{lt-ltb, le-ltb, ltb-true}
-use Rattle.words.specs.Words.{word}
+use mir.Val.{SFits, to_z, of_z}
+use mir.ValLaws.{to_z-of_z}
+use borrow.Author.Tests.{lt-ltb, le-ltb, ltb-true, le-leb}
 use Rattle.text.specs.Numbers.{spelt, decimal_of, signed_of}
 use Rattle.text.specs.Writing.{overlaid}
 use Rattle.text.proofs.Putting.{put-nil}
@@ -176,19 +177,21 @@ filling_done o ds at o' left i h f =
     let z : at - at ≡ 0 = omega arith in
     f.text ∙ ap (λ (k : ℕ). overlaid o k (drop (k - at) ds)) e ∙ rw z refl
 
--- a number's sign and size, from its bits
-pub from_zero : (v : ℤ) (u : ℕ) → SFits w64 v → u ≡ word w64 v → u < 9223372036854775808 → decimal_of u ≡ signed_of v
-unfolding word
-from_zero (pos n) u f e h = ap decimal_of (e ∙ omega (arith, f.sfits))
-from_zero (negsuc n) u f e h = absurd (omega (arith, f.sfits))
+-- a number by its sign and its size, as they are told of the number that its bits are read as
+module _ (v : ℤ) (fits : SFits w64 v) (size : ℕ) (sized : size ≡ nat_abs (to_z w64 (of_z w64 v))) where
+  pub from_zero : le_z (pos 0) (to_z w64 (of_z w64 v)) ≡ true → decimal_of size ≡ signed_of v
+  from_zero h = ap decimal_of (rw (to_z-of_z w64 v fits) at sized) ∙ by v (rw (to_z-of_z w64 v fits) at h)
+    where
+      by : (z : ℤ) → le_z (pos 0) z ≡ true → decimal_of (nat_abs z) ≡ signed_of z
+      by (pos n) e = refl
+      by (negsuc n) e = absurd (let z : ◌≡◌ {A = ℕ} 0 1 = cc in omega arith)
 
-pub below-zero : (v : ℤ) (u size : ℕ) → SFits w64 v → u ≡ word w64 v → 9223372036854775808 ≤ u → size + u ≡ 18446744073709551616
-    → 45 ∷ decimal_of size ≡ signed_of v
-unfolding word
-below-zero (pos n) u size f e h m = absurd (omega (arith, f.sfits))
-below-zero (negsuc n) u size f e h m =
-    let k : size ≡ suc n = omega (arith, f.sfits) in
-    ap (λ (k : ℕ). 45 ∷ decimal_of k) k
+  pub below-zero : le_z (pos 0) (to_z w64 (of_z w64 v)) ≡ false → 45 ∷ decimal_of size ≡ signed_of v
+  below-zero h = ap (λ (k : ℕ). 45 ∷ decimal_of k) (rw (to_z-of_z w64 v fits) at sized) ∙ by v (rw (to_z-of_z w64 v fits) at h)
+    where
+      by : (z : ℤ) → le_z (pos 0) z ≡ false → 45 ∷ decimal_of (nat_abs z) ≡ signed_of z
+      by (pos n) e = let g : leb 0 n ≡ true = le-leb 0 n (omega arith) in absurd (let z : ◌≡◌ {A = ℕ} 0 1 = cc in omega arith)
+      by (negsuc n) e = refl
 
 -- a number of 32 bits has at most 10 digits, and with its sign at most 11 bytes; one of 64 bits at most 20 bytes
 pub decimal_most : (n : ℕ) → n < 2 ^ 32 → length (decimal_of n) ≤ 10

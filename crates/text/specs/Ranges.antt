@@ -2,8 +2,10 @@
 use Rattle.std.specs.Prelude.{Bool, true, cond, ◌&&◌, List, [], ◌∷◌, map, ℕ, zero, suc, leb, ℤ, pos, negsuc}
 use Rattle.std.proofs.Math.Option.{Option, none, some}
 use Rattle.text.specs.Numbers.{number_of, signed_of}
+use Rattle.std.specs.Prelude as std
+use Rattle.std.specs.Prelude.{Some, None}
 use Rattle.text.specs.declared.numbers.Number.{Number}
-use Rattle.text.specs.declared.numbers.Number.TheVariants.{Plus, Minus, Wrong}
+use Rattle.text.specs.declared.numbers.Number.TheVariants.{Plus, Minus}
 
 -- from - least to most
 pub record Range : Type 0 where
@@ -34,11 +36,11 @@ both f (some a) (some b) = some (f a b)
 both f (some a) none = none
 both f none b = none
 
-abbrev pub within : Range → Number → Option ℤ
-within r (Plus v) = cond (leb v r.most) (some (pos v)) none
-within r (Minus zero) = none
-within r (Minus (suc v)) = cond (leb (suc v) r.least) (some (negsuc v)) none
-within r Wrong = none
+abbrev pub within : Range → std.Option Number → Option ℤ
+within r (Some (Plus v)) = cond (leb v r.most) (some (pos v)) none
+within r (Some (Minus zero)) = none
+within r (Some (Minus (suc v))) = cond (leb (suc v) r.least) (some (negsuc v)) none
+within r None = none
 
 -- a field's number, if it is one of the range
 unfoldable pub number_in : Range → List ℕ → Option ℤ

@@ -7,17 +7,7 @@ ghost use Rattle.text.specs.Same.{same};
 pub fn same_bytes(a: &[u8], b: &[u8]) -> bool
     ensures { result ≡ same a.now b.now }
 {
-    if a.len() != b.len() {
-        return false;
-    }
-    let mut i: usize = 0;
-    while i < a.len() {
-        if a[i] != b[i] {
-            return false;
-        }
-        i += 1;
-    }
-    true
+    a == b
 }
 
 // Whether the bytes a come before the bytes b in ascending order: the first byte that differs decides, and a beginning
@@ -25,23 +15,5 @@ pub fn same_bytes(a: &[u8], b: &[u8]) -> bool
 pub fn comes_before(a: &[u8], b: &[u8]) -> bool
     ensures { result ≡ precedes a.now b.now }
 {
-    let mut i: usize = 0;
-    while i < a.len() {
-        if b.len() <= i {
-            return false;
-        }
-        let x = a[i];
-        let y = b[i];
-        if x < y {
-            return true;
-        }
-        if y < x {
-            return false;
-        }
-        i += 1;
-    }
-    if i < b.len() {
-        return true;
-    }
-    false
+    a < b
 }

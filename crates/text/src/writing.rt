@@ -4,11 +4,6 @@ ghost use Rattle.std.specs.Prelude.{◌≡◌, [], ◌∷◌, ◌+◌, leb, leng
 ghost use Rattle.text.specs.Numbers.{decimal_of, signed_of};
 ghost use Rattle.text.specs.Writing.{Puts};
 
-use words::casts::{i32_as_i64, i64_as_u64};
-
-// The byte of the digit 0.
-const ZERO: u64 = b'0' as u64;
-
 // Whether n bytes fit at a place of a buffer of len.
 fn has_room(len: usize, at: usize, n: usize) -> bool
     ensures { result ≡ leb (at + n) len }
@@ -37,28 +32,23 @@ pub fn put_bytes(out: &mut [u8], at: usize, s: &[u8]) -> usize
     if !has_room(out.len(), at, s.len()) {
         return at;
     }
-    let mut i: usize = 0;
-    while i < s.len() {
-        out[at + i] = s[i];
-        i += 1;
-    }
-    at + i
+    let end = at + s.len();
+    out[at..end].copy_from_slice(s);
+    end
 }
 
 // How many decimal digits n has.
 fn width(n: u64) -> usize
     ensures { result ≡ length (decimal_of n) }
 {
-    let mut w: usize = 1;
     let mut p: u64 = 10;
-    while p <= n {
-        if w == 19 {
-            return 20;
+    for w in 1..19 {
+        if n < p {
+            return w;
         }
         p = p * 10;
-        w += 1;
     }
-    w
+    if n < p { 19 } else { 20 }
 }
 
 // A number's decimal digits.
@@ -71,10 +61,8 @@ pub fn put_decimal(out: &mut [u8], at: usize, n: u64) -> usize
     }
     let end = at + w;
     let mut left = n;
-    let mut i = end;
-    while at < i {
-        i -= 1;
-        out[i] = (ZERO + left % 10) as u8;
+    for i in (at..end).rev() {
+        out[i] = b'0' + (left % 10) as u8;
         left = left / 10;
     }
     end
@@ -84,11 +72,10 @@ pub fn put_decimal(out: &mut [u8], at: usize, n: u64) -> usize
 pub fn put_signed64(out: &mut [u8], at: usize, v: i64) -> usize
     ensures { Puts out.old at (signed_of v) result out.new }
 {
-    let bits = i64_as_u64(v);
-    if bits < 9223372036854775808 {
-        return put_decimal(out, at, bits);
+    let size = v.unsigned_abs();
+    if 0 <= v {
+        return put_decimal(out, at, size);
     }
-    let size = (18446744073709551615 - bits) + 1;
     if !has_room(out.len(), at, width(size) + 1) {
         return at;
     }
@@ -100,5 +87,5 @@ pub fn put_signed64(out: &mut [u8], at: usize, v: i64) -> usize
 pub fn put_signed(out: &mut [u8], at: usize, v: i32) -> usize
     ensures { Puts out.old at (signed_of v) result out.new }
 {
-    put_signed64(out, at, i32_as_i64(v))
+    put_signed64(out, at, i64::from(v))
 }

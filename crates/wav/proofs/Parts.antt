@@ -1,26 +1,26 @@
--- Samples and their bytes, one more with each turn; what a sample's two bytes are as bits; the numbers of the part calls.
+-- Samples and their bytes, one more with each turn.
 use native.Mathlib.Omega.{arith}
 use native.Mathlib.Numerals.{add-one}
 use mathlib.Core.Path.{◌≡◌, refl, sym, ap, ◌∙◌}
 use mathlib.Core.Bool.{Bool, true, false, ◌&&◌}
 use mathlib.Core.List.{List, [], ◌∷◌, ◌++◌}
-use Prim.Native.Nat.{ℕ, zero, suc, ◌+◌, ◌-◌, ◌*◌, ◌/◌, ◌%◌, ◌^◌, ◌≤◌, ◌<◌}
-use lib.Dec.{ltb}
+use Prim.Native.Nat.{ℕ, zero, suc, ◌+◌, ◌*◌, ◌/◌, ◌%◌, ◌≤◌, ◌<◌}
 use lib.IntN.{ℤ, pos, negsuc}
-use lib.Signed.{lt_z, le_z}
-use lib.ListN.{length, take, drop, get_or, set}
+use lib.ListN.{length, take, drop, get_or, set, length-append, length-drop}
 use lib.Seq.{take-suc, take_all, length-take-le, paste, paste-suc}
-use borrow.Author.Tests.{eq-eqb, ne_eqb, le-leb, lt-leb, ltb-true, ltb-false}
-use mir.Syntax.{w16, w32}
-use mir.Val.{to_z}
-use mir.ValLaws.{to_z_pos, to_z-neg}
-use Rattle.words.specs.Words.{word, wrap, floor_div}
-use Rattle.words.proofs.Reading.{word_is, word_narrow}
+use borrow.Author.Tests.{leb-true}
+use mir.Syntax.{w16}
+use mir.Val.{SFits}
+use Rattle.std.specs.Simd.{first_chunks}
+use Rattle.words.specs.Words.{word}
 use Rattle.text.specs.Writing.{overlaid}
 use Rattle.text.proofs.Putting.{put-put, put_one, length-put}
+use Rattle.std.specs.Result.{result_unwrap_or}
+use Rattle.blocks.specs.Refusals.{answer}
+use Rattle.blocks.specs.Blocks.{unless}
 use Rattle.wav.specs.Bytes.{little}
 use Rattle.wav.proofs.Headers.{put_front}
-use Rattle.wav.specs.Samples.{data_of, sample_in, samples_of, in_i16, all_in_i16, read_number, write_number}
+use Rattle.wav.specs.Samples.{data_of, sample_in, samples_of, in_i16, all_in_i16}
 
 -- the number of samples, and each of them
 pub samples-length : (bs : List ℕ) → length (samples_of bs) ≡ length bs / 2
@@ -38,6 +38,34 @@ samples_at (a ∷ b ∷ bs) (suc i) h =
     let q : 2 * suc i + 1 ≡ suc (suc (2 * i + 1)) = omega arith in
     rw (q, p) (samples_at bs i (omega arith))
 
+-- a pair of bytes is the two at its place
+pub pair_at : (bs : List ℕ) (k i : ℕ) (d : List ℕ) → k ≡ length bs / 2 → i < k
+    → get_or (first_chunks 2 k bs) i d ≡ get_or bs (2 * i) 0 ∷ get_or bs (2 * i + 1) 0 ∷ []
+pair_at bs zero i d e h = absurd (omega arith)
+pair_at [] (suc k) i d e h = absurd (omega arith)
+pair_at (a ∷ []) (suc k) i d e h = absurd (omega arith)
+pair_at (a ∷ b ∷ bs) (suc k) zero d e h = refl
+pair_at (a ∷ b ∷ bs) (suc k) (suc i) d e h =
+    let p : 2 * suc i ≡ suc (suc (2 * i)) = omega arith in
+    let q : 2 * suc i + 1 ≡ suc (suc (2 * i + 1)) = omega arith in
+    rw (q, p) (pair_at bs k i d (omega arith) (omega arith))
+
+-- what is within i16 fits 16 bits
+pub fits16 : (x : ℤ) → in_i16 x ≡ true → SFits w16 x
+fits16 (pos n) e = record { sfits = let k = leb-true n 32767 e in omega arith }
+fits16 (negsuc n) e = record { sfits = let k = leb-true n 32767 e in omega arith }
+
+-- one of samples that are all within i16
+pub fits_at : (xs : List ℤ) (i : ℕ) → i < length xs → all_in_i16 xs ≡ true → in_i16 (get_or xs i (pos 0)) ≡ true
+fits_at [] i h k = absurd (omega arith)
+fits_at (x ∷ xs) i h k = by (in_i16 x) refl (fits_at xs) i h k
+  where
+    by : (t : Bool) → in_i16 x ≡ t → ((i : ℕ) → i < length xs → all_in_i16 xs ≡ true → in_i16 (get_or xs i (pos 0)) ≡ true) → (i : ℕ) → i < suc (length xs)
+        → (t && all_in_i16 xs) ≡ true → in_i16 (get_or (x ∷ xs) i (pos 0)) ≡ true
+    by true e f zero h k = e
+    by true e f (suc i) h k = f i (omega arith) k
+    by false e f i h k = cc
+
 pub bytes-length : (xs : List ℤ) → length (data_of xs) ≡ 2 * length xs
 bytes-length [] = refl
 bytes-length (x ∷ xs) = let h = bytes-length xs in omega arith
@@ -46,51 +74,12 @@ pub bytes-append : (xs ys : List ℤ) → data_of (xs ++ ys) ≡ data_of xs ++ d
 bytes-append [] ys = refl
 bytes-append (x ∷ xs) ys = rw (bytes-append xs ys)
 
--- 16 bits in the upper half of a word, moved down with their sign
-pub sample_shift : (u : ℕ) → u ≤ 65535 → floor_div (wrap w32 (pos (u * 65536))) (2 ^ 16) ≡ wrap w16 (pos u)
-unfolding wrap
-sample_shift u h =
-    let e = word_is w32 (u * 65536) (record { fits = omega arith }) in
-    let f = word_is w16 u (record { fits = omega arith }) in
-    rw (e, f) (by (ltb u 32768) refl)
-  where
-    by : (t : Bool) → ltb u 32768 ≡ t → floor_div (to_z w32 (u * 65536)) (2 ^ 16) ≡ to_z w16 u
-    by true e =
-        let k = ltb-true u 32768 e in
-        rw (to_z_pos w32 (u * 65536) (omega arith), to_z_pos w16 u (omega arith)) (ap pos (omega arith))
-    by false e =
-        let k = ltb-false u 32768 e in
-        let n = 65536 * (65535 - u) + 65535 in
-        let a : u * 65536 ≡ 2 ^ 32 - suc n = omega arith in
-        let b : u ≡ 2 ^ 16 - suc (65535 - u) = omega arith in
-        ap (λ (x : ℕ). floor_div (to_z w32 x) (2 ^ 16)) a
-        ∙ ap (λ (z : ℤ). floor_div z (2 ^ 16)) (to_z-neg w32 n (omega arith))
-        ∙ ap negsuc (omega arith)
-        ∙ sym (ap (to_z w16) b ∙ to_z-neg w16 (65535 - u) (omega arith))
-
-pub low_bits : (x : ℤ) → word w32 x % 65536 ≡ word w16 x
-unfolding word
-low_bits x = word_narrow w16 w32 16 x refl
-
--- inI16 i16
-pub below : (z : ℤ) → lt_z z (negsuc 32767) ≡ true → false ≡ in_i16 z
-below (pos n) h = cc
-below (negsuc n) h = sym (lt-leb n 32767 (ltb-true 32767 n h))
-
-pub not_below : (z : ℤ) → lt_z z (negsuc 32767) ≡ false → le_z z (pos 32767) ≡ in_i16 z
-not_below (pos n) h = refl
-not_below (negsuc n) h = sym (le-leb n 32767 (ltb-false 32767 n h))
-
 and_true : (a : Bool) → (a && true) ≡ a
 and_true true = refl
 and_true false = refl
 
-and_false : (a : Bool) → (a && false) ≡ false
-and_false true = refl
-and_false false = refl
-
 -- all of a list's front, one sample more
-fit_on : (xs : List ℤ) (i : ℕ) → i < length xs → all_in_i16 (take (i + 1) xs) ≡ (all_in_i16 (take i xs) && in_i16 (get_or xs i (pos 0)))
+pub fit_on : (xs : List ℤ) (i : ℕ) → i < length xs → all_in_i16 (take (i + 1) xs) ≡ (all_in_i16 (take i xs) && in_i16 (get_or xs i (pos 0)))
 fit_on xs i h =
     let e : take (i + 1) xs ≡ take i xs ++ (get_or xs i (pos 0) ∷ []) = rw add-one (take-suc xs i (pos 0) h) in
     ap all_in_i16 e ∙ fit_append (take i xs) (get_or xs i (pos 0))
@@ -103,28 +92,15 @@ fit_on xs i h =
     fit_append [] x = and_true (in_i16 x)
     fit_append (y ∷ l) x = ap (λ (b : Bool). in_i16 y && b) (fit_append l x) ∙ and_assoc (in_i16 y) (all_in_i16 l) (in_i16 x)
 
-pub fit_all : (xs : List ℤ) (i : ℕ) → length xs ≤ i → all_in_i16 (take i xs) ≡ all_in_i16 xs
-fit_all xs i h = rw (take_all i xs h)
-
--- one more that fits, and one that does not
-module _ (xs : List ℤ) (i : ℕ) (inside : i < length xs) where
-  pub stays_good : (g : Bool) → g ≡ all_in_i16 (take i xs) → in_i16 (get_or xs i (pos 0)) ≡ true → g ≡ all_in_i16 (take (i + 1) xs)
-  stays_good g e f = e ∙ sym (fit_on xs i inside ∙ rw f (and_true (all_in_i16 (take i xs))))
-
-  pub turns_bad : in_i16 (get_or xs i (pos 0)) ≡ false → false ≡ all_in_i16 (take (i + 1) xs)
-  turns_bad f = sym (fit_on xs i inside ∙ rw f (and_false (all_in_i16 (take i xs))))
-
 -- two bytes put
-pub put_two : (o : List ℕ) (at u : ℕ) → at + 2 ≤ length o → u < 65536
-    → set (set o at (u % 256)) (at + 1) (u / 256) ≡ overlaid o at (little 2 u)
-put_two o at u h k =
-    let e : u / 256 ≡ u / 256 % 256 = omega arith in
+pub put_two : (o : List ℕ) (at u : ℕ) → at + 2 ≤ length o
+    → set (set o at (u % 256)) (at + 1) (u / 256 % 256) ≡ overlaid o at (little 2 u)
+put_two o at u h =
     let a = put_one o at (u % 256) (omega arith) in
     let n = length-put o at (u % 256 ∷ []) (omega arith) in
-    ap (λ (l : List ℕ). set l (at + 1) (u / 256)) a
-    ∙ put_one (overlaid o at (u % 256 ∷ [])) (at + 1) (u / 256) (omega arith)
-    ∙ put-put o at (u % 256 ∷ []) (u / 256 ∷ []) (omega arith)
-    ∙ ap (λ (b : ℕ). overlaid o at (u % 256 ∷ b ∷ [])) e
+    ap (λ (l : List ℕ). set l (at + 1) (u / 256 % 256)) a
+    ∙ put_one (overlaid o at (u % 256 ∷ [])) (at + 1) (u / 256 % 256) (omega arith)
+    ∙ put-put o at (u % 256 ∷ []) (u / 256 % 256 ∷ []) (omega arith)
 
 pub write_on : (o : List ℕ) (xs : List ℤ) (i : ℕ) → i < length xs
     → overlaid (overlaid o 0 (data_of (take i xs))) (2 * i) (little 2 (word w16 (get_or xs i (pos 0))))
@@ -158,29 +134,10 @@ read_done o bs i h =
     let t = take_all (length bs / 2) (samples_of bs) (omega (arith, samples-length bs)) in
     rw (h, z, t)
 
--- the calls' numbers
-module _ (bs : List ℕ) (out : List ℤ) where
-  pub read_short : length out < length bs / 2 → read_number bs out ≡ 20
-  unfolding read_number
-  read_short h = rw (lt-leb _ _ h)
-
-  pub read_odd : length bs / 2 ≤ length out → (length bs % 2 ≡ 0 → ⊥) → read_number bs out ≡ 90
-  unfolding read_number
-  read_odd h k = rw (le-leb _ _ h, ne_eqb _ _ k)
-
-  pub read_none : length bs / 2 ≤ length out → length bs % 2 ≡ 0 → read_number bs out ≡ 0
-  unfolding read_number
-  read_none h k = rw (le-leb _ _ h, eq-eqb _ _ k)
-
-module _ (xs : List ℤ) (out : List ℕ) where
-  pub write_short : length out / 2 < length xs → write_number xs out ≡ 20
-  unfolding write_number
-  write_short h = rw (lt-leb (2 * length xs) (length out) (omega arith))
-
-  pub write_outside : length xs ≤ length out / 2 → all_in_i16 xs ≡ false → write_number xs out ≡ 91
-  unfolding write_number
-  write_outside h k = rw (le-leb (2 * length xs) (length out) (omega arith), k)
-
-  pub write_none : length xs ≤ length out / 2 → all_in_i16 xs ≡ true → write_number xs out ≡ 0
-  unfolding write_number
-  write_none h k = rw (le-leb (2 * length xs) (length out) (omega arith), k)
+-- a count is within the slice that was lent, since that keeps its length
+pub count_within : {A : Type 0} (k n : ℕ) (front old new : List A) → length front ≡ n → new ≡ unless k old (front ++ drop n old)
+    → length new ≡ length old → result_unwrap_or (answer k n) 0 ≤ length new
+unfolding answer
+count_within zero n front old new f e l =
+    omega (arith, f, l, simp (length-append, length-drop) at (ap length e))
+count_within (suc k) n front old new f e l = omega arith

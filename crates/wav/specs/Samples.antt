@@ -1,11 +1,11 @@
 -- 02, A9, the samples: 16 bits each, in parts.
-use Rattle.std.specs.Prelude.{Bool, true, ◌&&◌, cond, List, [], ◌∷◌, ◌++◌, ℕ, ◌+◌, ◌*◌, ◌/◌, ◌%◌, leb, eqb, ℤ, pos, negsuc, length, drop}
+use Rattle.std.specs.Prelude.{Bool, true, ◌&&◌, cond, List, [], ◌∷◌, ◌++◌, ℕ, ◌+◌, ◌*◌, ◌/◌, ◌%◌, leb, eqb, ℤ, pos, negsuc, length, drop, Result}
 use Rattle.std.specs.Int.{w16}
 use Rattle.words.specs.Words.{word, wrap}
-use Rattle.blocks.specs.Verdicts.{verdict_of}
+use Rattle.blocks.specs.declared.refusal.Refusal.{Refusal}
+use Rattle.blocks.specs.Refusals.{answer}
 use Rattle.blocks.specs.Blocks.{unless}
 use Rattle.wav.specs.Bytes.{little}
-use Rattle.wav.specs.declared.samples.Part.{Part}
 
 -- the bytes of samples, two each
 abbrev pub data_of : List ℤ → List ℕ
@@ -38,14 +38,14 @@ read_number bs out = cond (leb (length bs / 2) (length out)) (cond (eqb (length 
 unfoldable pub write_number : List ℤ → List ℕ → ℕ
 write_number xs out = cond (leb (2 * length xs) (length out)) (cond (all_in_i16 xs) 0 91) 20
 
--- what a part answers: how many elements it gave, none where it was refused
-abbrev pub part_of : ℕ → ℕ → Part
-part_of refusal count = record { count = unless refusal 0 count; verdict = verdict_of refusal }
+-- what a part answers: how many elements it gave, unless it was refused
+abbrev pub part_of : ℕ → ℕ → Result ℕ Refusal
+part_of refusal count = answer refusal count
 
-abbrev pub read_part : List ℕ → List ℤ → Part
+abbrev pub read_part : List ℕ → List ℤ → Result ℕ Refusal
 read_part bs out = part_of (read_number bs out) (length bs / 2)
 
-abbrev pub write_part : List ℤ → List ℕ → Part
+abbrev pub write_part : List ℤ → List ℕ → Result ℕ Refusal
 write_part xs out = part_of (write_number xs out) (2 * length xs)
 
 -- what is in the lent slice afterwards: a refused part writes nothing

@@ -4,6 +4,5 @@
 
 #![tactic(auto)]
 
-mod bytes;
 pub mod header;
 pub mod samples;

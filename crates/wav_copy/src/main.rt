@@ -10,210 +10,89 @@
 
 #![tactic(auto)]
 
-ghost use Rattle.std.specs.Prelude.{◌≡◌, ◌<◌, ◌≤◌, length};
+ghost use Rattle.std.specs.Prelude.{◌≡◌, ◌≤◌, length};
 
+use blocks::Refusal;
 use std::io::Read;
 use std::{fs, io};
-use wav::header::{Head, read_header, said_length, write_header};
+use wav::header::{read_header, said_length, write_header};
 use wav::samples::{read_part, write_part};
-use words::casts::{i64_as_u64, u64_as_i64};
 
-// Where the reading stands: the bytes of the data that are still to come, how many of them, 0 or 1, are held at the buffer's
-// front, whether to read on, and the number of a refusal or 0.
-#[derive(Drop)]
-struct Intake {
-    left: u64,
-    held: usize,
-    more: bool,
-    refusal: u32,
-}
-
-fn refuse(rt: &impl Print, number: u32) -> io::Result<()> {
+fn refuse(rt: &impl Print, refusal: Refusal) -> io::Result<()> {
+    let number = refusal.number();
     println!(rt; "bad\t{number}")
 }
 
-// The samples of the first n bytes, read and written again: whether all were.
-fn give(
-    rt: &impl Print,
-    bytes: &[u8],
-    n: usize,
-    samples: &mut [i32],
-    out: &mut [u8],
-) -> io::Result<bool> {
-    if bytes.len() < n {
-        return Ok(false);
-    }
-    let part = read_part(&bytes[..n], samples);
-    let count = part.count;
-    if samples.len() < count {
-        return Ok(false);
-    }
-    let again = write_part(&samples[..count], out);
-    let wrote = again.count;
-    if out.len() < wrote {
-        return Ok(false);
-    }
-    rt.write_all(&out[..wrote])?;
-    Ok(true)
+// The samples of some bytes, read and written again.
+fn give(rt: &impl Print, bytes: &[u8], samples: &mut [i32], out: &mut [u8]) -> io::Result<()> {
+    let count = read_part(bytes, samples).unwrap_or(0);
+    let wrote = write_part(&samples[..count], out).unwrap_or(0);
+    rt.write_all(&out[..wrote])
 }
 
-// The input is over: refused with 90 where data is still to come.
-fn ended(left: u64) -> Intake {
-    Intake {
-        left,
-        held: 0,
-        more: false,
-        refusal: if 0 < left { 90 } else { 0 },
-    }
-}
-
-// The input goes on past the data.
-fn longer() -> Intake {
-    Intake {
-        left: 0,
-        held: 0,
-        more: false,
-        refusal: 90,
-    }
-}
-
-// No room for what was read.
-fn failed() -> Intake {
-    Intake {
-        left: 0,
-        held: 0,
-        more: false,
-        refusal: 0,
-    }
-}
-
-// The byte at a place, if there is one, comes to the front.
-fn hold(bytes: &mut [u8], from: usize) {
-    if bytes.len() <= from {
-        return;
-    }
-    let b = bytes[from];
-    bytes[0] = b;
-}
-
-// One read behind the byte that is held, and what it brings written again.
-fn pump(
-    rt: &impl Print,
-    input: &mut impl Read,
-    left: u64,
-    held: usize,
-    bytes: &mut [u8],
-    samples: &mut [i32],
-    out: &mut [u8],
-) -> io::Result<Intake> {
-    if bytes.len() <= held {
-        return Ok(failed());
-    }
-    let n = input.read(&mut bytes[held..])?;
-    if n == 0 {
-        return Ok(ended(left));
-    }
-    let all = held + n;
-    let data = within(all, left);
-    let even = data - data % 2;
-    if !give(rt, bytes, even, samples, out)? {
-        return Ok(failed());
-    }
-    if data < all {
-        return Ok(longer());
-    }
-    hold(bytes, even);
-    Ok(Intake {
-        left: left - even as u64,
-        held: data - even,
-        more: true,
-        refusal: 0,
-    })
-}
-
-// The lesser of a count and a number of bytes that are left.
-fn within(n: usize, left: u64) -> usize
-    ensures { (result ≤ n) × (result ≤ left) }
-{
-    if n as u64 <= left { n } else { left as usize }
-}
-
-// The turns that are left: none where there is no more to read.
-fn turns_left(turns: u64, more: bool) -> u64
-    requires { 0 < turns }
-    ensures { result < turns }
-{
-    if more { turns - 1 } else { 0 }
-}
-
-// The data, size bytes of it. A proved loop ends, and nothing says that the input does: the turns count down from a number that
-// no run uses up.
-fn run(
-    rt: &impl Print,
-    input: &mut impl Read,
-    size: u64,
-    bytes: &mut [u8],
-    samples: &mut [i32],
-    out: &mut [u8],
-) -> io::Result<()> {
-    let mut left = size;
+// The data, size bytes of it: what each read brings is written again before the next. A byte without its second is held at the
+// buffer's front.
+fn run(rt: &impl Print, input: &mut impl Read, size: u32) -> io::Result<()> {
+    let mut bytes = [0u8; 32768];
+    let mut samples = [0i32; 16384];
+    let mut out = [0u8; 32768];
+    let mut left = u64::from(size);
     let mut held: usize = 0;
-    let mut refusal: u32 = 0;
-    let mut turns = u64::MAX;
-    while 0 < turns {
-        let p = pump(rt, input, left, held, bytes, samples, out)?;
-        left = p.left;
-        held = p.held;
-        refusal = p.refusal;
-        turns = turns_left(turns, p.more);
+    for _ in 0..u64::MAX {
+        let n = input.read(&mut bytes[held..])?;
+        if n == 0 {
+            break;
+        }
+        let all = held + n;
+        let wanted = left.min(all as u64) as usize;
+        held = wanted % 2;
+        let even = wanted - held;
+        give(rt, &bytes[..even], &mut samples, &mut out)?;
+        if wanted < all {
+            // The input goes on past the data.
+            return refuse(rt, Refusal::FileForm);
+        }
+        if held == 1 {
+            bytes[0] = bytes[even];
+        }
+        left -= even as u64;
     }
-    if 0 < refusal {
-        return refuse(rt, refusal);
+    if 0 < left {
+        return refuse(rt, Refusal::FileForm);
     }
     Ok(())
 }
 
+// Kept: from here to `main` the same as in wav_in. Both read a file as the system gives it, of which no contract of a shared crate could tell.
+
 // How long a file on standard input is from where it stands; for a pipe what its header says.
-fn whole_length(from: i64, to: i64, head: &[u8]) -> u64 {
-    if from < 0 {
-        return said_length(head);
+fn whole_length(from: Option<i64>, to: Option<i64>, head: &[u8]) -> u64 {
+    match (from, to) {
+        (Some(from), Some(to)) if 0 <= from && from <= to => from.abs_diff(to),
+        _ => said_length(head),
     }
-    if to < from {
-        return said_length(head);
-    }
-    std::num::wrapping_sub_u64(i64_as_u64(to), i64_as_u64(from))
 }
 
-// Where a file on standard input stands: the system tells it behind `pos:` and a tab. A pipe stands at 0; -1 where nothing is told.
-fn input_place(rt: &HostRuntime) -> i64 {
-    let Ok(told) = fs::read_to_string(rt, "/proc/self/fdinfo/0") else {
-        return -1;
-    };
-    let Some(line) = told.lines().next() else {
-        return -1;
-    };
-    let Some(place) = line.strip_prefix("pos:\t") else {
-        return -1;
-    };
-    place.parse().unwrap_or(-1)
+// Where a file on standard input stands: the system tells it behind `pos:` and a tab. A pipe stands at 0.
+fn input_place(rt: &HostRuntime) -> Option<i64> {
+    let told = fs::read_to_string(rt, "/proc/self/fdinfo/0").ok()?;
+    told.lines().next()?.strip_prefix("pos:\t")?.parse().ok()
 }
 
-// Where a file on standard input ends; -1 where it is no file.
-fn input_end(rt: &HostRuntime) -> i64 {
-    match fs::metadata(rt, "/dev/stdin") {
-        Ok(about) => if about.is_file() {
-            u64_as_i64(about.len())
-        } else {
-            -1
-        },
-        Err(_) => -1,
+// Where a file on standard input ends, if it is a file.
+fn input_end(rt: &HostRuntime) -> Option<i64> {
+    let about = fs::metadata(rt, "/dev/stdin").ok()?;
+    if about.is_file() {
+        i64::try_from(about.len()).ok()
+    } else {
+        None
     }
 }
 
 // Reads until the header is full, the input ends or a read fails: how many bytes came, put at its front.
+// Kept: `read_exact` tells nothing of how many came, and tries again where the system says that it was interrupted.
 fn read_head(input: &mut impl Read, head: &mut [u8]) -> usize
-    ensures count { result ≤ length head.new }
-    ensures size { length head.new ≡ length head.old }
+    ensures { result ≤ length head.new }
 {
     let mut done: usize = 0;
     while done < head.len() {
@@ -234,21 +113,11 @@ fn main(rt: HostRuntime) -> io::Result<()> {
     let n = read_head(&mut input, &mut head);
     let length = whole_length(from, to, &head[..n]);
     match read_header(&head[..n], length) {
-        Head::Refused(number) => refuse(&rt, number),
-        Head::Of(told) => {
-            write_header(told.rate, told.size, &mut head);
+        Err(refusal) => refuse(&rt, refusal),
+        Ok(told) => {
+            let _ = write_header(told.rate, told.size, &mut head);
             rt.write_all(&head)?;
-            let mut bytes = [0u8; 32768];
-            let mut samples = [0i32; 16384];
-            let mut out = [0u8; 32768];
-            run(
-                &rt,
-                &mut input,
-                told.size as u64,
-                &mut bytes,
-                &mut samples,
-                &mut out,
-            )
+            run(&rt, &mut input, told.size)
         }
     }
 }

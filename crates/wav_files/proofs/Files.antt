@@ -18,7 +18,9 @@ use Rattle.wav.specs.Bytes.{little, little_in, Bytes, more}
 use Rattle.wav.specs.Header.{header_of, may_be, rate_in, size_in, is_header, tells, head_of}
 use Rattle.wav.specs.Samples.{data_of, sample_in, samples_of, in_i16, all_in_i16}
 use Rattle.wav_files.specs.Files.{SameBytes, SameHeader, SameSamples, EvenCuts, AnyCuts, no_part, part, again, SameParts}
-use Rattle.wav.specs.declared.header.Head.{Head}
+use Rattle.std.specs.Prelude.{Err}
+use Rattle.wav.specs.declared.header.Recording.{Recording}
+use Rattle.blocks.specs.declared.refusal.Refusal.{Refusal}
 use Rattle.wav.proofs.Headers.{ranges}
 
 -- the bytes of two bytes' sample are these
@@ -77,14 +79,6 @@ record Told (bs : List ℕ) (len rate size : ℕ) : Type 0 where
   length' : len ≡ 44 + size
   may : may_be rate size ≡ true
 
-abbrev rate-told : Head → ℕ
-rate-told (Head.Of t) = t.rate
-rate-told (Head.Refused k) = 0
-
-abbrev size-told : Head → ℕ
-size-told (Head.Of t) = t.size
-size-told (Head.Refused k) = 0
-
 told : (bs : List ℕ) (len rate size : ℕ) → head_of bs len ≡ tells rate size → Told bs len rate size
 unfolding is_header
 told bs len rate size e = by (may_be r n) refl (eqb len (44 + n)) refl (same (take 44 bs) (header_of r n)) refl e
@@ -96,18 +90,19 @@ told bs len rate size e = by (may_be r n) refl (eqb len (44 + n)) refl (same (ta
     n = size_in bs
 
     by : (t : Bool) → may_be r n ≡ t → (u : Bool) → eqb len (44 + n) ≡ u → (v : Bool) → same (take 44 bs) (header_of r n) ≡ v
-        → cond (t && (u && v)) (tells r n) (Head.Refused 90) ≡ tells rate size → Told bs len rate size
+        → cond (t && (u && v)) (tells r n) (Err Refusal.FileForm) ≡ tells rate size → Told bs len rate size
     by true a true l true s k =
-        let p : r ≡ rate = ap rate-told k in
-        let q : n ≡ size = ap size-told k in
+        let g : ◌≡◌ {A = Recording} (record { rate = r; size = n }) (record { rate = rate; size = size }) = cc in
+        let p = ap (λ (t : Recording). t.rate) g in
+        let q = ap (λ (t : Recording). t.size) g in
         record {
           header = same_eq _ _ s ∙ ap (λ (m : ℕ). header_of m n) p ∙ ap (header_of rate) q;
           length' = eqb-true _ _ l ∙ ap (λ (m : ℕ). 44 + m) q;
           may = rw (p, q) at a;
         }
-    by true a true l false s k = absurd (let z : ◌≡◌ {A = ℕ} 0 1 = cc in omega arith)
-    by true a false l v s k = absurd (let z : ◌≡◌ {A = ℕ} 0 1 = cc in omega arith)
-    by false a u l v s k = absurd (let z : ◌≡◌ {A = ℕ} 0 1 = cc in omega arith)
+    by true a true l false s k = cc
+    by true a false l v s k = cc
+    by false a u l v s k = cc
 
 pub same_bytes : SameBytes
 same_bytes file rate size y e =

@@ -1,18 +1,16 @@
 // A line of the replay program's answer, or the first line, which says how the answer becomes a recording. A line's fields are
 // parted by tabs, and past the last field there are only empty ones.
-ghost use Rattle.std.specs.Prelude.{◌≡◌, ◌≤◌, length};
-ghost use Rattle.wav_lines.specs.Answers.{field_from, next_from, number_from, natural_in, integer_in, kept_in};
-ghost use Rattle.wav_lines.specs.Answers.{given_natural, given_integer};
-ghost use Rattle.wav_lines.specs.Answers.{setting_of, output_with, bad_with, settings_in, output_in, end_in, bad_in};
-ghost use Rattle.wav_lines.specs.Answers.{name_in, shaped_by, line_in};
+ghost use Rattle.std.specs.Prelude.{◌≡◌, length, drop};
+ghost use Rattle.text.specs.Numbers.{number_of, capped};
+ghost use Rattle.wav_lines.specs.Answers.{field_from, next_from, natural_in, integer_in, kept_in};
+ghost use Rattle.wav_lines.specs.Answers.{settings_in, output_in, end_in, bad_in, name_in, shaped_by, filled_in, line_in};
 
 use text::comparing::same_bytes;
 use text::numbers::{Number, parsed};
 use text::parts::{part_end, separators};
-use words::casts::u64_as_i64;
 
 // Samples a second, the power of two that values are divided by, and the greatest told count of an output that is written.
-#[derive(Clone, Copy)]
+#[derive(Clone, Copy, Debug, PartialEq, Eq)]
 pub struct Setting {
     pub rate: u32,
     pub shift: u32,
@@ -20,295 +18,185 @@ pub struct Setting {
 }
 
 // An output's value, and how many outputs from this one on are not settled: 0 where it is.
-#[derive(Clone, Copy)]
+#[derive(Clone, Copy, Debug, PartialEq, Eq)]
 pub struct Output {
     pub value: i64,
     pub told: u64,
 }
 
 // The line that the replay refused, and its number.
-#[derive(Clone, Copy)]
+#[derive(Clone, Copy, Debug, PartialEq, Eq)]
 pub struct Refusal {
     pub line: u64,
     pub number: u64,
 }
 
 // What a line says.
-#[derive(Clone, Copy)]
+#[derive(Clone, Copy, Debug, PartialEq, Eq)]
 pub enum Line {
     Settings(Setting),
     Output(Output),
     End(u64),
     Bad(Refusal),
-    Other,
 }
 
 // The name in a line's first field.
-#[derive(Clone, Copy)]
+#[derive(Clone, Copy, Debug, PartialEq, Eq)]
 pub enum Name {
     Y,
     End,
     Bad,
     Wav,
-    Unknown,
 }
 
-// A number from 0 to 2^63, or that there is none.
-#[derive(Clone, Copy)]
-pub enum Natural {
-    Of(u64),
-    None,
-}
-
-// A number within i64, or that there is none.
-#[derive(Clone, Copy)]
-pub enum Integer {
-    Of(i64),
-    None,
-}
-
-fn natural_of(n: Number) -> Natural
-    ensures { result ≡ natural_in n }
+// The first field, and the fields behind it.
+fn cut(fields: &[u8]) -> (&[u8], &[u8])
+    ensures first { result.0.now ≡ field_from fields.now 0 }
+    ensures rest { result.1.now ≡ drop (next_from fields.now 0) fields.now }
 {
-    match n {
-        Number::Plus(v) => {
-            if v <= 9223372036854775808 {
-                Natural::Of(v)
-            } else {
-                Natural::None
-            }
-        }
-        Number::Minus(_) => Natural::None,
-        Number::Wrong => Natural::None,
+    let (first, rest) = fields.split_at(part_end(fields, 0, b'\t'));
+    match rest {
+        [_, rest @ ..] => (first, rest),
+        [] => (first, rest),
     }
 }
 
-fn integer_of(n: Number) -> Integer
-    ensures { result ≡ integer_in n }
+// A field's number, from 0 to 2^63.
+fn natural(field: &[u8]) -> Option<u64>
+    ensures { result ≡ natural_in (capped (number_of field.now)) }
 {
-    match n {
-        Number::Plus(v) => {
-            if v <= 9223372036854775807 {
-                Integer::Of(u64_as_i64(v))
-            } else {
-                Integer::None
-            }
-        }
-        Number::Minus(v) => {
-            if v == 0 {
-                return Integer::None;
-            }
-            if v <= 9223372036854775808 {
-                Integer::Of(u64_as_i64(18446744073709551615 - v + 1))
-            } else {
-                Integer::None
-            }
-        }
-        Number::Wrong => Integer::None,
+    match parsed(field) {
+        Some(Number::Plus(v)) if v <= 9223372036854775808 => Some(v),
+        _ => None,
     }
 }
 
-// The number in the field that starts at a place.
-fn number_at(line: &[u8], from: usize) -> Number
-    requires { from ≤ length line.now }
-    ensures { result ≡ number_from line.now from }
+// A field's number, within i64.
+fn integer(field: &[u8]) -> Option<i64>
+    ensures { result ≡ integer_in (capped (number_of field.now)) }
 {
-    let end = part_end(line, from, b'\t');
-    parsed(&line[from..end])
-}
-
-// Where the next field starts.
-fn after(line: &[u8], from: usize) -> usize
-    requires { from ≤ length line.now }
-    ensures { (result ≡ next_from line.now from) × (result ≤ length line.now) }
-{
-    let end = part_end(line, from, b'\t');
-    if end < line.len() {
-        return end + 1;
+    match parsed(field) {
+        Some(Number::Plus(v)) => i64::try_from(v).ok(),
+        Some(Number::Minus(v)) if v != 0 => 0i64.checked_sub_unsigned(v),
+        _ => None,
     }
-    line.len()
 }
 
-// Which outputs are written: `settled` or `all`.
-fn kept(field: &[u8]) -> Natural
+// Which outputs are written, by the greatest told count: `settled` or `all`.
+#[tactic(auto, unfolding(crate::specs::Answers::kept_in))]
+fn kept(field: &[u8]) -> Option<u64>
     ensures { result ≡ kept_in field.now }
 {
     if same_bytes(field, b"settled") {
-        return Natural::Of(0);
+        Some(0)
+    } else if same_bytes(field, b"all") {
+        Some(9223372036854775808)
+    } else {
+        None
     }
-    if same_bytes(field, b"all") {
-        return Natural::Of(9223372036854775808);
-    }
-    Natural::None
 }
 
-// The same of the field that starts at a place.
-fn kept_at(line: &[u8], from: usize) -> Natural
-    requires { from ≤ length line.now }
-    ensures { result ≡ kept_in (field_from line.now from) }
+fn settings_line(fields: &[u8]) -> Option<Line>
+    ensures { result ≡ settings_in fields.now 0 }
 {
-    let end = part_end(line, from, b'\t');
-    kept(&line[from..end])
-}
-
-// The settings of three fields.
-fn settings_of(a: Natural, b: Natural, c: Natural) -> Line
-    ensures { result ≡ given_natural a (λ rate. given_natural b (λ shift. given_natural c (λ most. setting_of rate shift most))) }
-{
-    let Natural::Of(rate) = a else {
-        return Line::Other;
-    };
-    let Natural::Of(shift) = b else {
-        return Line::Other;
-    };
-    let Natural::Of(most) = c else {
-        return Line::Other;
-    };
-    if 4294967295 < rate {
-        return Line::Other;
+    let (rate, fields) = cut(fields);
+    let (shift, fields) = cut(fields);
+    let (most, _) = cut(fields);
+    let rate = natural(rate)?;
+    let shift = natural(shift)?;
+    let most = kept(most)?;
+    if 4294967295 < rate || 63 < shift {
+        return None;
     }
-    if 63 < shift {
-        return Line::Other;
-    }
-    Line::Settings(Setting {
+    Some(Line::Settings(Setting {
         rate: rate as u32,
         shift: shift as u32,
         most,
-    })
+    }))
 }
 
-// The output of two fields.
-fn output_of(a: Integer, b: Natural) -> Line
-    ensures { result ≡ given_integer a (λ value. given_natural b (λ told. output_with value told)) }
+fn output_line(fields: &[u8]) -> Option<Line>
+    ensures { result ≡ output_in fields.now 0 }
 {
-    let Integer::Of(value) = a else {
-        return Line::Other;
-    };
-    let Natural::Of(told) = b else {
-        return Line::Other;
-    };
-    Line::Output(Output { value, told })
+    let (value, fields) = cut(fields);
+    let (told, _) = cut(fields);
+    let value = integer(value)?;
+    let told = natural(told)?;
+    Some(Line::Output(Output { value, told }))
 }
 
-// The end, of one field.
-fn end_of(a: Natural) -> Line
-    ensures { result ≡ given_natural a (λ count. Line.End count) }
+fn end_line(fields: &[u8]) -> Option<Line>
+    ensures { result ≡ end_in fields.now 0 }
 {
-    let Natural::Of(count) = a else {
-        return Line::Other;
-    };
-    Line::End(count)
+    let (count, _) = cut(fields);
+    let count = natural(count)?;
+    Some(Line::End(count))
 }
 
-// The replay's refusal, of two fields.
-fn bad_of(a: Natural, b: Natural) -> Line
-    ensures { result ≡ given_natural a (λ line. given_natural b (λ number. bad_with line number)) }
+fn bad_line(fields: &[u8]) -> Option<Line>
+    ensures { result ≡ bad_in fields.now 0 }
 {
-    let Natural::Of(line) = a else {
-        return Line::Other;
-    };
-    let Natural::Of(number) = b else {
-        return Line::Other;
-    };
+    let (line, fields) = cut(fields);
+    let (number, _) = cut(fields);
+    let line = natural(line)?;
+    let number = natural(number)?;
     if number == 0 {
-        return Line::Other;
+        return None;
     }
-    Line::Bad(Refusal { line, number })
-}
-
-fn settings_line(line: &[u8], from: usize) -> Line
-    requires { from ≤ length line.now }
-    ensures { result ≡ settings_in line.now from }
-{
-    let second = after(line, from);
-    let third = after(line, second);
-    let rate = natural_of(number_at(line, from));
-    let shift = natural_of(number_at(line, second));
-    let most = kept_at(line, third);
-    settings_of(rate, shift, most)
-}
-
-fn output_line(line: &[u8], from: usize) -> Line
-    requires { from ≤ length line.now }
-    ensures { result ≡ output_in line.now from }
-{
-    let second = after(line, from);
-    let value = integer_of(number_at(line, from));
-    let told = natural_of(number_at(line, second));
-    output_of(value, told)
-}
-
-fn end_line(line: &[u8], from: usize) -> Line
-    requires { from ≤ length line.now }
-    ensures { result ≡ end_in line.now from }
-{
-    end_of(natural_of(number_at(line, from)))
-}
-
-fn bad_line(line: &[u8], from: usize) -> Line
-    requires { from ≤ length line.now }
-    ensures { result ≡ bad_in line.now from }
-{
-    let second = after(line, from);
-    let place = natural_of(number_at(line, from));
-    let number = natural_of(number_at(line, second));
-    bad_of(place, number)
+    Some(Line::Bad(Refusal { line, number }))
 }
 
 // The name in a line's first field.
-fn named(field: &[u8]) -> Name
+// Kept: a `match` on the byte strings leaves a goal at each of their bytes, which no tactic closes.
+#[tactic(auto, unfolding(crate::specs::Answers::name_in))]
+fn named(field: &[u8]) -> Option<Name>
     ensures { result ≡ name_in field.now }
 {
     if same_bytes(field, b"y") {
-        return Name::Y;
+        Some(Name::Y)
+    } else if same_bytes(field, b"end") {
+        Some(Name::End)
+    } else if same_bytes(field, b"bad") {
+        Some(Name::Bad)
+    } else if same_bytes(field, b"wav") {
+        Some(Name::Wav)
+    } else {
+        None
     }
-    if same_bytes(field, b"end") {
-        return Name::End;
-    }
-    if same_bytes(field, b"bad") {
-        return Name::Bad;
-    }
-    if same_bytes(field, b"wav") {
-        return Name::Wav;
-    }
-    Name::Unknown
-}
-
-// The same of a line.
-fn name_at(line: &[u8]) -> Name
-    ensures { result ≡ name_in (field_from line.now 0) }
-{
-    let end = part_end(line, 0, b'\t');
-    named(&line[0..end])
 }
 
 // Whether a line of that name has so many tabs as its fields ask for.
 fn shaped(name: Name, tabs: usize) -> bool
-    ensures { result ≡ shaped_by name tabs }
+    ensures { result ≡ shaped_by (Some name) tabs }
 {
     match name {
         Name::Y => tabs == 2,
         Name::End => tabs == 1,
         Name::Bad => 2 <= tabs,
         Name::Wav => tabs == 3,
-        Name::Unknown => false,
     }
 }
 
-// What a line says, without its newline.
-pub fn read_line(line: &[u8]) -> Line
+// What the fields behind a name say.
+fn filled(name: Name, fields: &[u8]) -> Option<Line>
+    ensures { result ≡ filled_in (Some name) fields.now 0 }
+{
+    match name {
+        Name::Y => output_line(fields),
+        Name::End => end_line(fields),
+        Name::Bad => bad_line(fields),
+        Name::Wav => settings_line(fields),
+    }
+}
+
+// What a line says, without its newline; none where it is of no such form.
+pub fn read_line(line: &[u8]) -> Option<Line>
     ensures { result ≡ line_in line.now }
 {
-    let name = name_at(line);
+    let (first, fields) = cut(line);
+    let name = named(first)?;
     if !shaped(name, separators(line, b'\t')) {
-        return Line::Other;
+        return None;
     }
-    let from = after(line, 0);
-    match name {
-        Name::Y => output_line(line, from),
-        Name::End => end_line(line, from),
-        Name::Bad => bad_line(line, from),
-        Name::Wav => settings_line(line, from),
-        Name::Unknown => Line::Other,
-    }
+    filled(name, fields)
 }

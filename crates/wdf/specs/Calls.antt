@@ -27,6 +27,10 @@ number s = sections_number s.sections s.architecture
 abbrev pub filter : ℕ → ℕ → List ℤ → List ℤ → Wdf
 filter sections architecture a z = record { sections = sections; architecture = architecture; a = a; z = z }
 
+-- the filter of no sections and of zeros, `Wdf::EMPTY`, which callers put in a refused maker's place
+abbrev pub none : Wdf
+none = filter 0 0 (replicate 8 (pos 0)) (replicate 8 (pos 0))
+
 -- what the number of a filter's first failed test is told as
 abbrev pub told : ℕ → Result (Unit {0}) Refusal
 told k = refusals.answer k tt

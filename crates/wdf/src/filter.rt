@@ -126,6 +126,14 @@ fn pass(sections: usize, architecture: u32, a: &[i32; 8], z: &mut [i32; 8], x: i
 }
 
 impl Wdf {
+    // No sections, and all numbers zero: it gives each input back.
+    pub const EMPTY: Wdf = Wdf {
+        sections: 0,
+        architecture: 0,
+        a: [0; 8],
+        z: [0; 8],
+    };
+
     // A filter of these sections, with all eight coefficients as given and cells of zero.
     // `Sections` where there are more than 8, `Adapters` where a nibble beyond the last is not zero, `RetiredAdapter` where a section's
     // adapter is B1 or C1.

@@ -4,6 +4,8 @@ use Rattle.text.specs.Letters.{tab}
 use Rattle.text.specs.Numbers.{capped}
 use Rattle.text.specs.Parts.{behind}
 use Rattle.text.specs.declared.numbers.Number.{Number}
+use Rattle.std.specs.Prelude as std
+use Rattle.std.specs.Prelude.{Some, None}
 use Rattle.blocks.specs.Blocks.{unless}
 use Rattle.text.specs.Ranges.{unsigned}
 use Rattle.records.specs.Lines.{word_range, number_number, size_of, value_of, fault_at, field_at}
@@ -13,16 +15,16 @@ use Rattle.records.specs.declared.parse.Record.{Record}
 use Rattle.records.specs.declared.parse.Record.TheVariants.{Open, Rate, Sample, Bad}
 
 -- The first field after the tab at e holds the number v and ends at f.
-pub record Reads (l : List ℕ) (e : ℕ) (v : Number) (f : ℕ) : Type 0 where
+pub record Reads (l : List ℕ) (e : ℕ) (v : std.Option Number) (f : ℕ) : Type 0 where
   pub within : f ≤ length l
   pub value : v ≡ capped (field_at (behind tab (drop e l)) 0)
   pub rest : behind tab (drop f l) ≡ drop 1 (behind tab (drop e l))
 
 -- What is wrong with a number of u32 or of the word, and the number where nothing is.
-abbrev pub natural_of : Number → Natural
+abbrev pub natural_of : std.Option Number → Natural
 natural_of n = record { number = number_number unsigned n; value = unless (number_number unsigned n) 0 (size_of n) }
 
-abbrev pub integer_of : Bool → Number → Integer
+abbrev pub integer_of : Bool → std.Option Number → Integer
 integer_of wide n = record {
   number = number_number (word_range wide) n;
   value = unless (number_number (word_range wide) n) (pos 0) (value_of n);

@@ -1,5 +1,5 @@
--- The turns count down.
+use Rattle.std.proofs.Common.{◌≤◌}
 use Rattle.wav_in.proofs.run.Given as goal
 
-abbrev pub decreases-loop-turns : goal.decreases-loop-turns
-decreases-loop-turns g l = l.turns
+abbrev pub invariant-loop : goal.invariant-loop
+invariant-loop g l = l.held ≤ 1

@@ -2,6 +2,7 @@
 use Rattle.std.proofs.Common.{refl, ◌∙◌, ap, Float}
 use Rattle.std.proofs.lemmas.Result.{err_from_is_err_and}
 use Rattle.blocks.proofs.Refusals.{taken_number}
+use Rattle.blocks.proofs.Turns.{fed-ran}
 use Rattle.blocks.proofs.Ways.{unlike, own, taken}
 use Rattle.blocks.proofs.Carried.{carried_ends, carried_scan}
 use Rattle.biquad.specs.declared.form.Going.{Going}
@@ -26,7 +27,8 @@ returns g c =
     let gives : T → Float → Float = λ t x. f.gives t.c t.state x in
     let after : T → Float → T = λ t x. record { c = t.c; state = f.after t.c t.state x } in
     let beside : g.row.S.Denot → T = λ s. record { c = a.c; state = s } in
-    let whole = c.run.ensures.0 ∙ carried_ends (f.gives a.c) (f.after a.c) gives after beside (λ s x. refl) (λ s x. refl) a.state.now a.xs.now in
+    let ran = fed-ran gives after (beside a.state.now) a.xs.now a.ys.now c.run.new.filter c.run.new.ys c.if-xs-ys.false c.run.ensures in
+    let whole = ran.0 ∙ carried_ends (f.gives a.c) (f.after a.c) gives after beside (λ s x. refl) (λ s x. refl) a.state.now a.xs.now in
     taken k (f.gives a.c) (f.after a.c) a.state.now a.xs.now a.ys.now c.run.new.filter.state c.run.new.ys c.if-xs-ys.false
     (taken_number k tt _ c.in_ok-refusal.ensures) (ap (λ (t : T). t.state) whole)
-    (c.run.ensures.1 ∙ carried_scan (f.gives a.c) (f.after a.c) gives after beside (λ s x. refl) (λ s x. refl) a.state.now a.xs.now)
+    (ran.1 ∙ carried_scan (f.gives a.c) (f.after a.c) gives after beside (λ s x. refl) (λ s x. refl) a.state.now a.xs.now)

@@ -1,6 +1,7 @@
 -- The steps of the state beside its coefficients are the state's.
 use Rattle.std.proofs.Common.{refl, ◌∙◌, ℤ}
 use Rattle.biquad_fixed.specs.declared.form.Accepted.{Accepted}
+use Rattle.blocks.proofs.Turns.{fed-ran}
 use Rattle.blocks.proofs.Carried.{carried_ends, carried_scan}
 use Rattle.biquad_fixed.proofs.form.turns_of.Goals as goal
 
@@ -11,7 +12,8 @@ returns g c =
     let gives : T → ℤ → ℤ = λ t x. f.gives t.c t.state x in
     let after : T → ℤ → T = λ t x. record { c = t.c; state = f.after t.c t.state x; accepted = t.accepted } in
     let beside : g.row.S.Denot → T = λ s. record { c = a.c; state = s; accepted = c.going-2-1.given.0 } in
-    let whole = c.run.ensures.0 ∙ carried_ends (f.gives a.c) (f.after a.c) gives after beside (λ s x. refl) (λ s x. refl) a.state.now a.xs.now in (
+    let ran = fed-ran gives after (beside a.state.now) a.xs.now a.ys.now c.run.new.filter c.run.new.ys c.requires.alike c.run.ensures in
+    let whole = ran.0 ∙ carried_ends (f.gives a.c) (f.after a.c) gives after beside (λ s x. refl) (λ s x. refl) a.state.now a.xs.now in (
       (λ i. (whole i).state),
-      c.run.ensures.1 ∙ carried_scan (f.gives a.c) (f.after a.c) gives after beside (λ s x. refl) (λ s x. refl) a.state.now a.xs.now,
+      ran.1 ∙ carried_scan (f.gives a.c) (f.after a.c) gives after beside (λ s x. refl) (λ s x. refl) a.state.now a.xs.now,
     )

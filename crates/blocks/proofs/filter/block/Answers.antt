@@ -1,4 +1,5 @@
 use Rattle.std.proofs.Common.{refl}
+use Rattle.blocks.proofs.Turns.{fed-ran}
 use Rattle.blocks.proofs.Ways.{unlike, taken}
 use Rattle.blocks.proofs.filter.block.Goals as goal
 
@@ -9,5 +10,6 @@ returns-then-xs-ys g c =
 pub returns : goal.returns
 returns g c =
     let a = c.args in
+    let ran = fed-ran g.F.Filter.gives g.F.Filter.after a.filter.now a.xs.now a.ys.now c.run.new.filter c.run.new.ys c.if-xs-ys.false c.run.ensures in
     taken 0 g.F.Filter.gives g.F.Filter.after a.filter.now a.xs.now a.ys.now c.run.new.filter c.run.new.ys c.if-xs-ys.false refl
-    c.run.ensures.0 c.run.ensures.1
+    ran.0 ran.1

@@ -11,10 +11,6 @@ returns-in_err-order_fits c =
     let s = c.args.self.now in let e = c.in_err-order_fits.ensures in
     rw (p.1, p.2, order_first s (never (order_number s.order) tt _ e)) e
 
-pub cells_fit-requires : goal.cells_fit-requires
-cells_fit-requires c =
-    let n = c.args.self.now.order in order-none n (taken_number (order_number n) tt _ c.in_ok-order_fits.ensures)
-
 pub returns : goal.returns
 returns c =
     let s = c.args.self.now in

@@ -26,10 +26,6 @@ returns-then-xs-ys c =
     let e : ◌≡◌ {A = Result (Unit {0}) Refusal} (Err Refusal.Lengths) (answer 31 tt) = refl in
     block_refused 31 tt Refusal.Lengths e s c.args.xs.now c.args.ys.now (block_unlike s c.args.xs.now c.args.ys.now h c.if-xs-ys.true)
 
-pub cells_fit-requires : goal.cells_fit-requires
-cells_fit-requires c =
-    let s = c.args.self.now in order-none s.order (taken_number (order_number s.order) tt _ c.in_ok-order_fits.ensures)
-
 pub returns-in_err-cells_fit : goal.returns-in_err-cells_fit
 returns-in_err-cells_fit c =
     let p = err_from_is_err_and c.from_residual-in_err-cells_fit.result c.from_residual-in_err-cells_fit.ensures.1 in

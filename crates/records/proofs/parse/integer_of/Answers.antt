@@ -7,18 +7,18 @@ use Rattle.records.proofs.parse.integer_of.Goals as goal
 
 pub returns-then-v-least : goal.returns-then-v-least
 returns-then-v-least c =
-    let w = c.args.wide in let v = c.in-Plus.v in
+    let w = c.args.wide in let v = c.in-Some-Plus.v in
     let e = read w64 c.u64_as_i64.result c.u64_as_i64.type_inv in
     let l = c.least_size-least.ensures in
     let h = c.if-v-least.true in
     ap (of_word 0) (e ∙ c.u64_as_i64.ensures ∙ plus_in v (omega (arith, h, l, least-size-most w)))
-    ∙ plus-held w v c.least_size-least.result l h ∙ ap (integer_of w) (sym c.in-Plus.is)
+    ∙ plus-held w v c.least_size-least.result l h ∙ ap (integer_of w) (sym c.in-Some-Plus.is)
 
 pub returns-then-v-least-2 : goal.returns-then-v-least-2
 returns-then-v-least-2 c =
-    let w = c.args.wide in let v = c.in-Minus.v in
+    let w = c.args.wide in let v = c.in-Some-Minus.v in
     let e = read w64 c.u64_as_i64-then-v-least-2.result c.u64_as_i64-then-v-least-2.type_inv in
     let l = c.least_size-least.ensures in
     let h = c.if-v-least-2.true in
     ap (of_word 0) (e ∙ c.u64_as_i64-then-v-least-2.ensures ∙ minus_in v c.if-v-eq0.false (omega (arith, h, l, least-size-most w)))
-    ∙ minus-held w v c.least_size-least.result l c.if-v-eq0.false h ∙ ap (integer_of w) (sym c.in-Minus.is)
+    ∙ minus-held w v c.least_size-least.result l c.if-v-eq0.false h ∙ ap (integer_of w) (sym c.in-Some-Minus.is)

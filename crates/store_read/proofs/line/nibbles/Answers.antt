@@ -1,11 +1,10 @@
 -- No section is `-`; otherwise the nibbles are digits.
-use mathlib.Core.Path.{sym, ◌∙◌}
+use Rattle.std.proofs.Common.{sym, ◌∙◌}
 use Rattle.store_read.proofs.Counting.{dash, no_dash, some_nibbles}
 use Rattle.store_read.proofs.line.nibbles.Goals as goal
 
 pub returns-then-k-gt0 : goal.returns-then-k-gt0
-returns-then-k-gt0 c =
-    c.hexes.ensures ∙ some_nibbles c.args.k c.args.field.now c.if-k-gt0.true
+returns-then-k-gt0 c = c.hexes.ensures ∙ some_nibbles c.args.k c.args.field.now c.if-k-gt0.true
 
 pub returns-then-same_bytes : goal.returns-then-same_bytes
 returns-then-same_bytes c =

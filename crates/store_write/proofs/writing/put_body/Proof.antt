@@ -12,7 +12,7 @@ put-wdf-requires c κs =
     let begin : tie.Start = search in
     let s = begin.requires.1 in
     let e = ap sections c.in-Wdf.is in
-    (begin.requires.0, omega arith, begin.requires.2)
+    (begin.requires.0, omega arith)
 
 returns : tie.Need-returns-in-Cic
 returns c =
@@ -27,7 +27,7 @@ returns-2 c =
 put-dither-requires : tie.Need-put_dither-requires
 put-dither-requires c κs =
     let begin : tie.Start = search in
-    (begin.requires.0, begin.requires.2)
+    begin.requires.0
 
 returns-3 : tie.Need-returns-in-Dither
 returns-3 c =

@@ -17,15 +17,15 @@ put-integers-requires c κs =
     let begin : tie.Start = search in
     let h = at-put-natural.put_natural-x.ensures.high in
     let l = at-put-natural.put_natural-x.ensures.long in
-    let p = begin.requires.0 in
-    (omega arith, omega arith, begin.requires.1)
+    let p = begin.requires in
+    (omega arith, omega arith)
 
 returns : tie.Need-returns
 returns c =
     let begin : tie.Start = search in
     let at-put-natural : tie.After-put_natural-x = search in
     let at-put-integers : tie.After-put_integers = search in
-    let p = begin.requires.0 in
+    let p = begin.requires in
     let h = at-put-natural.put_natural-x.ensures.high in
     let l = at-put-natural.put_natural-x.ensures.long in
     let a = begin.args in

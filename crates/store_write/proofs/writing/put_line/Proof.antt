@@ -57,7 +57,7 @@ put-body-requires c κs =
     let a2 = at-put-kind.put_kind-x.ensures.long in
     let b1 = at-put-text.put_text-y.ensures.high in
     let b2 = at-put-text.put_text-y.ensures.long in
-    (omega arith, begin.requires.1, k)
+    (omega arith, begin.requires.1)
 
 returns : tie.Need-returns
 returns c =

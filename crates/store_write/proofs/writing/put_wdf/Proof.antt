@@ -32,7 +32,7 @@ put-integers-requires c κs =
     let m = at-put-nibbles.put_nibbles-y.ensures.long in
     let p = begin.requires.0 in
     let q = begin.requires.1 in
-    (omega arith, q, begin.requires.2)
+    (omega arith, q)
 
 returns : tie.Need-returns
 returns c =

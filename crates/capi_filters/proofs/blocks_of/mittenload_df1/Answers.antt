@@ -1,0 +1,8 @@
+use Rattle.biquad.specs.Forms.{sum1, next1}
+use Rattle.capi_filters.proofs.Handed.{no_number, handed_by}
+use Rattle.capi_filters.proofs.blocks_of.mittenload_df1.Goals as goal
+
+pub returns : goal.returns
+returns c =
+    handed_by (λ q. 0) sum1 next1 _ c.float_in-coeff.result _ c.df1_in-state.result _ c.block-done.new.self _ _ _ _ _ (λ q. no_number)
+    c.float_in-coeff.ensures c.df1_in-state.ensures c.block-done.ensures c.df1_out.ensures c.number.ensures

@@ -1,0 +1,9 @@
+use Rattle.biquad_fixed.specs.Forms.{dither_held, dither_onward}
+use Rattle.biquad_fixed.specs.Answers.{clamp_number}
+use Rattle.capi_filters.proofs.Handed.{clamp_told, handed_by}
+use Rattle.capi_filters.proofs.blocks_of.mittenload_dither_clamp.Goals as goal
+
+pub returns : goal.returns
+returns c =
+    handed_by (clamp_number 1) dither_held dither_onward _ c.word_clamp_in-coeff.result _ c.dither_in-state.result _ c.block_clamp-done.new.self _ _ _ _ _ (clamp_told 1)
+    c.word_clamp_in-coeff.ensures c.dither_in-state.ensures c.block_clamp-done.ensures c.dither_out.ensures c.number.ensures

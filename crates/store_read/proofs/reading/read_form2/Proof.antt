@@ -1,7 +1,0 @@
--- The form's own reading.
-use borrow.Author.Rules.{rules}
-use Rattle.store_read.proofs.reading.read_form2.Statement.{statement}
-use Rattle.store_read.proofs.reading.read_form2.Tie as tie
-
-pub read_form2_spec : {M : Type 1} → statement M
-read_form2_spec = tie.close (tie.spec (λ c κs. search rules) (λ c. search rules))

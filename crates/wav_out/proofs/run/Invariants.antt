@@ -1,5 +1,0 @@
--- The turns count down.
-use Rattle.wav_out.proofs.run.Given as goal
-
-abbrev pub decreases-loop-turns : goal.decreases-loop-turns
-decreases-loop-turns g l = l.turns
