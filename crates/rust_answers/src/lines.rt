@@ -9,21 +9,14 @@ use std::io;
 fn nibble(b: u8) -> u32
     ensures { result ≡ nibble_of b }
 {
-    if b < 48 {
-        return 0;
+    match b {
+        b'0'..=b'9' => u32::from(b) - 48,
+        b'a'..=b'f' => u32::from(b) - 87,
+        _ => 0,
     }
-    if b < 58 {
-        return b as u32 - 48;
-    }
-    if b < 97 {
-        return 0;
-    }
-    if b < 103 {
-        return b as u32 - 87;
-    }
-    0
 }
 
+#[tactic(auto, using(crate::proofs::Digits::nibble_small, crate::proofs::Digits::byte_small))]
 fn byte_at(text: &[u8], at: usize) -> u32
     requires { at + 2 ≤ length text.now }
     ensures { result ≡ byte_at text.now at }
@@ -31,7 +24,7 @@ fn byte_at(text: &[u8], at: usize) -> u32
     nibble(text[at]) * 16 + nibble(text[at + 1])
 }
 
-#[tactic(auto, using(crate::proofs::Digits::byte_small))]
+#[tactic(auto, using(crate::proofs::Digits::byte_small, crate::proofs::Digits::half_small))]
 fn half_at(text: &[u8], at: usize) -> u32
     requires { at + 4 ≤ length text.now }
     ensures { result ≡ half_at text.now at }
@@ -52,6 +45,7 @@ pub fn word(text: &[u8], i: usize) -> u32
 }
 
 // A line of the text: 40 words from word number first on, 0 past the text's end.
+#[tactic(auto, unfolding(crate::specs::Lines::words_at))]
 pub fn line(text: &[u8], first: u32) -> [u32; 40]
     ensures { result ≡ words_at text.now first 40 }
 {
@@ -73,24 +67,21 @@ pub fn size(word: u32) -> usize
 pub fn double(high: u32, low: u32) -> u64
     ensures { result ≡ high * 4294967296 + low }
 {
-    high as u64 * 4294967296 + low as u64
+    u64::from(high) * 4294967296 + u64::from(low)
 }
 
 // 0 where two numbers of two words are the same, else 1.
 pub fn unlike_double(a: u64, b: u64) -> u64
     ensures { (result ≡ cond (eqb a b) 0 1) × (result ≤ 1) }
 {
-    if a == b {
-        return 0;
-    }
-    1
+    u64::from(a != b)
 }
 
 // 0 where two words are the same, else 1.
 pub fn unlike(a: u32, b: u32) -> u64
     ensures { (result ≡ cond (eqb a b) 0 1) × (result ≤ 1) }
 {
-    unlike_double(a as u64, b as u64)
+    unlike_double(u64::from(a), u64::from(b))
 }
 
 // The count n, and one more where what was found is not what is said, modulo 2^64.
@@ -101,14 +92,15 @@ pub fn tally(n: u64, found: u32, said: u32) -> u64
 }
 
 // 0 where two slices have the same words, else 1.
+#[tactic(auto, unfolding(crate::specs::Lines::unlike_all))]
 pub fn unlike_words(a: &[u32], b: &[u32]) -> u64
     ensures { result ≡ unlike_all a.now b.now }
 {
     if a.len() != b.len() {
         return 1;
     }
-    for i in 0..a.len() {
-        if a[i] != b[i] {
+    for (i, &x) in a.iter().enumerate() {
+        if x != b[i] {
             return 1;
         }
     }

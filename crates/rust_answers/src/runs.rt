@@ -14,7 +14,7 @@ const EDGES: [u32; 8] = [
 ];
 
 // The generator's state after a word, and the word.
-#[derive(Clone, Copy)]
+#[derive(Clone, Copy, Debug, PartialEq, Eq)]
 pub struct Drawn {
     pub state: u64,
     pub value: u32,
@@ -46,15 +46,13 @@ pub fn spread(state: u64) -> Drawn
     ensures { result ≡ spread_of state }
 {
     let first = draw(state);
-    let u = first.value;
-    let after = first.state;
-    if u % 4 == 0 {
+    if first.value % 4 == 0 {
         return Drawn {
-            state: after,
-            value: edge(u),
+            state: first.state,
+            value: edge(first.value),
         };
     }
-    draw(after)
+    draw(first.state)
 }
 
 // The digest d grown by the word w.
@@ -71,11 +69,11 @@ pub fn digest(d: u64, w: u32) -> u64
 pub fn digest_double(d: u64, v: u64) -> u64
     ensures { result ≡ digest_two d v }
 {
-    let high = digest(d, (v / 4294967296) as u32);
-    digest(high, (v % 4294967296) as u32)
+    digest(digest(d, (v / 4294967296) as u32), (v % 4294967296) as u32)
 }
 
 // The digest d grown by each word of a slice.
+#[tactic(auto, unfolding(crate::specs::Runs::digest_all))]
 pub fn digest_words(d: u64, words: &[u32]) -> u64
     ensures { result ≡ digest_all d words.now }
 {
@@ -90,5 +88,8 @@ pub fn digest_words(d: u64, words: &[u32]) -> u64
 pub fn digest_first(d: u64, words: &[u32], n: usize) -> u64
     ensures { result ≡ digest_all d (take n words.now) }
 {
-    digest_words(d, &words[..n.min(words.len())])
+    if words.len() <= n {
+        return digest_words(d, words);
+    }
+    digest_words(d, &words[..n])
 }

@@ -1,5 +1,4 @@
--- The words written so far are the first of the line.
-use Rattle.std.proofs.Common.{◌≡◌, length, take}
+use Rattle.std.proofs.Common.{◌≡◌, take, length}
 use Rattle.rust_answers.specs.Lines.{words_at}
 use Rattle.rust_answers.proofs.lines.line.Given as goal
 

@@ -1,4 +1,3 @@
--- What is left of both slices is as unlike as the whole; each turn takes a word off both.
 use Rattle.std.proofs.Common.{◌≡◌, drop}
 use Rattle.rust_answers.specs.Lines.{unlike_all}
 use Rattle.rust_answers.proofs.lines.unlike_words.Given as goal

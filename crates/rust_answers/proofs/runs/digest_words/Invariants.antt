@@ -1,4 +1,3 @@
--- The digest so far, grown by what is left, is the whole's.
 use Rattle.std.proofs.Common.{◌≡◌, drop}
 use Rattle.rust_answers.specs.Runs.{digest_all}
 use Rattle.rust_answers.proofs.runs.digest_words.Given as goal
