@@ -1,6 +1,6 @@
 // Why a call is refused. docs/REFUSALS.md numbers the reasons, says when each is given and what to do about it.
 ghost use Rattle.std.specs.Prelude.{◌≡◌};
-ghost use Rattle.blocks.specs.Refusals.{number_of};
+ghost use Rattle.blocks.specs.Refusals.{number_of, number_in};
 
 #[derive(Clone, Copy, Debug, PartialEq, Eq)]
 pub enum Refusal {
@@ -142,5 +142,15 @@ impl Refusal {
             Refusal::FileForm => 90,
             Refusal::SampleRange => 91,
         }
+    }
+}
+
+// The number of an answer's refusal, 0 where the call was accepted.
+pub fn number<T: Drop>(answer: Result<T, Refusal>) -> u32
+    ensures { result ≡ number_in answer }
+{
+    match answer {
+        Ok(_) => 0,
+        Err(refusal) => refusal.number(),
     }
 }

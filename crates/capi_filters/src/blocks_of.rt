@@ -11,12 +11,12 @@ ghost use Rattle.capi_filters.specs.Answers.{Leaves, Modulates};
 ghost use Rattle.capi_filters.specs.States.{unwrapper_at, wdf_at, dsm_at, df1_at, df2t_at, wide_at, dither_at};
 ghost use Rattle.capi_filters.specs.States.{float_at, float_clamp_at, word_at, word_clamp_at};
 
-use crate::answers::number;
 use crate::states::{
     df1_in, df1_out, df2t_in, df2t_out, dither_in, dither_out, dsm_in, dsm_out, float_clamp_in,
     float_in, unwrapper_in, unwrapper_out, wdf_in, wdf_out, wide_in, wide_out, word_clamp_in,
     word_in,
 };
+use blocks::number;
 
 #[unsafe(no_mangle)]
 pub extern "C" fn mittenload_unwrapper(y: &mut i64, input: &[i32], out: &mut [i32]) -> u32

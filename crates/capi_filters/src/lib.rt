@@ -3,7 +3,6 @@
 
 #![tactic(auto)]
 
-mod answers;
 pub mod blocks_of;
 pub mod makers;
 mod states;

@@ -7,11 +7,11 @@ ghost use Rattle.biquad.specs.Coefficients.{zpk_of, forward_gain, with_offset};
 ghost use Rattle.capi_filters.specs.States.{dsm_at, wdf_at, float_at, float_clamp_at};
 ghost use Rattle.capi_filters.specs.Makers.{pair_at, MakesDsm, Ranges, MakesWdf, Quantizes, Offsets};
 
-use crate::answers::number;
 use crate::states::{dsm_in, dsm_out, float_clamp_in, wdf_out};
 use adapters::tpa::Tpa;
 use biquad::biquad::Biquad;
 use biquad::pair::Pair;
+use blocks::number;
 use dsm::{Dsm, OutputRange};
 use wdf::filter::{Wdf, current_architecture};
 

@@ -6,9 +6,8 @@ ghost use Rattle.rpll.specs.Blocks.{block_number, LoopBlocked};
 ghost use Rattle.capi_loops.specs.States.{fields_at, loop_at, config_at, rpll_at};
 ghost use Rattle.capi_loops.specs.Calls.{Clamps, Tracks, Locks, Scales};
 
-use crate::states::{
-    clamp_in, clamp_out, config_in, loop_in, number, pll_in, pll_out, rpll_in, rpll_out,
-};
+use crate::states::{clamp_in, clamp_out, config_in, loop_in, pll_in, pll_out, rpll_in, rpll_out};
+use blocks::number;
 use rpll::RPLLConfig;
 use unwrap::scale::saturating_scale;
 

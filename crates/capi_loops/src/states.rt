@@ -1,22 +1,11 @@
 // The states, gathered from lent fields and spread to them, and answers as numbers.
 ghost use Rattle.std.specs.Prelude.{◌≡◌};
 ghost use Rattle.capi_loops.specs.States.{wrap_at, wrap_number, clamp_at, fields_at, pll_in, fields_of, loop_at, config_at, rpll_at};
-ghost use Rattle.blocks.specs.Refusals.{number_in};
 
-use blocks::Refusal;
 use pll::{PLL, PLLState};
 use rpll::{RPLL, RPLLConfig};
 use unwrap::clamp_wrap::ClampWrap;
 use unwrap::wrapping::Wrap;
-
-pub(crate) fn number(answer: Result<(), Refusal>) -> u32
-    ensures { result ≡ number_in answer }
-{
-    match answer {
-        Ok(()) => 0,
-        Err(refusal) => refusal.number(),
-    }
-}
 
 #[tactic(auto, unfolding(crate::specs::States::wrap_at))]
 fn wrap_at(n: u32) -> Wrap

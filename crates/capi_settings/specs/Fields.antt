@@ -1,6 +1,7 @@
 -- A record as its caller keeps and lends it: its kind is a number, 0 for a decimator, 1 for a wave digital filter, any other for a dithered biquad,
 -- and it has a field for each number of each kind. A form is 2, and any other number is form 1.
 use Rattle.std.specs.Prelude.{cond, List, ℕ, eqb, ℤ}
+use Rattle.settings_text.specs.Lines.{version_number}
 use Rattle.settings_text.specs.declared.version.Version.{Version}
 use Rattle.settings_text.specs.declared.version.Version.TheVariants.{One, Two}
 use Rattle.entries.specs.declared.settings.Entry.{Entry}
@@ -11,9 +12,8 @@ use Rattle.capi_settings.specs.declared.parts.Numbers.{Numbers}
 unfoldable pub version_at : ℕ → Version
 version_at form = cond (eqb form 2) Two One
 
-unfoldable pub form_number : Version → ℕ
-form_number One = 1
-form_number Two = 2
+abbrev pub form_number : Version → ℕ
+form_number v = version_number v
 
 abbrev pub numbers_at : ℕ → ℕ → ℕ → ℕ → ℕ → ℕ → ℕ → Numbers
 numbers_at kind order delay rate sections architecture f = record {

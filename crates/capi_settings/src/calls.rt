@@ -4,12 +4,9 @@ ghost use Rattle.std.specs.Prelude.{◌≡◌};
 ghost use Rattle.settings_text.specs.Lines.{version_of};
 ghost use Rattle.settings_text.specs.Moves.{forth, back};
 ghost use Rattle.capi_settings.specs.Fields.{form_number, fields_at, entry_at};
-ghost use Rattle.capi_settings.specs.Calls.{read_in, Counts, Tells, Puts, Sends};
+ghost use Rattle.capi_settings.specs.Calls.{read_in, line_found, Counts, Tells, Puts, Sends};
 
-use crate::parts::{
-    entry_in, entry_out, form_number, move_number, move_or, put_at, record_at, version_at,
-    written_number, written_or,
-};
+use crate::parts::{entry_in, entry_out, put_at, record_at, version_at};
 use store::moving::{move_back, move_forth};
 use store_read::reading::{form_of, read_store};
 use store_write::saving::write_store;
@@ -19,17 +16,18 @@ use store_write::saving::write_store;
 pub extern "C" fn mittenload_settings_form(text: &[u8]) -> u32
     ensures { result ≡ form_number (version_of text.now) }
 {
-    form_number(form_of(text))
+    u32::from(form_of(text))
 }
 
 // The first bad line of a text, from 1; 0 where it is a store of the form.
 #[unsafe(no_mangle)]
 pub extern "C" fn mittenload_settings_line(form: u32, text: &[u8]) -> usize
-    ensures { result ≡ (read_in form text.now).line }
+    ensures { result ≡ line_found (read_in form text.now) }
 {
-    let version = version_at(form);
-    let read = read_store(version, text);
-    read.line
+    match read_store(version_at(form), text) {
+        Ok(_) => 0,
+        Err(bad) => bad.line,
+    }
 }
 
 // How many records a store holds.
@@ -37,15 +35,13 @@ pub extern "C" fn mittenload_settings_line(form: u32, text: &[u8]) -> usize
 pub extern "C" fn mittenload_settings_count(form: u32, text: &[u8], count: &mut usize) -> u32
     ensures { Counts form text.now count.old count.new result }
 {
-    let version = version_at(form);
-    let read = read_store(version, text);
-    let number = read.number;
-    if number != 0 {
-        return number;
+    match read_store(version_at(form), text) {
+        Ok(settings) => {
+            *count = settings.count;
+            0
+        }
+        Err(bad) => bad.refusal.number(),
     }
-    let settings = read.settings;
-    *count = settings.count;
-    0
 }
 
 // The record at a place, from 0, into lent fields; where there is none, the length of its name is 0.
@@ -67,13 +63,10 @@ pub extern "C" fn mittenload_settings_read(
 ) -> u32
     ensures { Tells form text.now place (fields_at name.old len.old kind.old order.old delay.old rate.old sections.old architecture.old f.old a.old) (fields_at name.new len.new kind.new order.new delay.new rate.new sections.new architecture.new f.new a.new) result }
 {
-    let version = version_at(form);
-    let read = read_store(version, text);
-    let number = read.number;
-    if number != 0 {
-        return number;
-    }
-    let settings = read.settings;
+    let settings = match read_store(version_at(form), text) {
+        Ok(settings) => settings,
+        Err(bad) => return bad.refusal.number(),
+    };
     let entry = record_at(settings, place);
     entry_out(
         entry,
@@ -114,11 +107,10 @@ pub extern "C" fn mittenload_settings_put(
     ensures { Puts form text.now place (entry_at (fields_at name.now len.now kind.now order.now delay.now rate.now sections.now architecture.now f.now a.now)) out.old count.old out.new count.new result }
 {
     let version = version_at(form);
-    let read = read_store(version, text);
-    let number = read.number;
-    if number != 0 {
-        return number;
-    }
+    let held = match read_store(version, text) {
+        Ok(settings) => settings,
+        Err(bad) => return bad.refusal.number(),
+    };
     let entry = entry_in(
         name,
         len,
@@ -131,12 +123,14 @@ pub extern "C" fn mittenload_settings_put(
         f,
         a,
     );
-    let held = read.settings;
     let settings = put_at(held, place, entry);
-    let wrote = write_store(version, settings, out);
-    let n = written_or(wrote, *count);
-    *count = n;
-    written_number(wrote)
+    match write_store(version, settings, out) {
+        Ok(n) => {
+            *count = n;
+            0
+        }
+        Err(refusal) => refusal.number(),
+    }
 }
 
 // A store of form 1 moved to form 2, to the front of out; how many bytes, to count.
@@ -144,10 +138,13 @@ pub extern "C" fn mittenload_settings_put(
 pub extern "C" fn mittenload_settings_forth(text: &[u8], out: &mut [u8], count: &mut usize) -> u32
     ensures { Sends (forth text.now) out.old count.old out.new count.new result }
 {
-    let moved = move_forth(text, out);
-    let n = move_or(moved, *count);
-    *count = n;
-    move_number(moved)
+    match move_forth(text, out) {
+        Ok(n) => {
+            *count = n;
+            0
+        }
+        Err(bad) => bad.refusal.number(),
+    }
 }
 
 // One of form 2 moved back.
@@ -155,8 +152,11 @@ pub extern "C" fn mittenload_settings_forth(text: &[u8], out: &mut [u8], count: 
 pub extern "C" fn mittenload_settings_back(text: &[u8], out: &mut [u8], count: &mut usize) -> u32
     ensures { Sends (back text.now) out.old count.old out.new count.new result }
 {
-    let moved = move_back(text, out);
-    let n = move_or(moved, *count);
-    *count = n;
-    move_number(moved)
+    match move_back(text, out) {
+        Ok(n) => {
+            *count = n;
+            0
+        }
+        Err(bad) => bad.refusal.number(),
+    }
 }

@@ -1,14 +1,13 @@
 // A record's fields, and answers as numbers.
 ghost use Rattle.std.specs.Prelude.{◌≡◌};
-ghost use Rattle.capi_settings.specs.Fields.{version_at, form_number, numbers_of, kind_at, fields_at, fields_of, entry_at};
-ghost use Rattle.capi_settings.specs.Calls.{written_number, written_or, move_number, move_or, record_at, placed};
+ghost use Rattle.capi_settings.specs.Fields.{version_at, numbers_of, kind_at, fields_at, fields_of, entry_at};
+ghost use Rattle.capi_settings.specs.Calls.{record_at, placed};
 
 use entries::settings::{Entry, Kind, Name, Settings, no_entry};
 use settings_text::version::Version;
-use store::moving::Move;
-use store_write::saving::Written;
 
 // A record's kind and all its numbers but its coefficients; those that its kind has not are 0.
+// Kept: the C interface has a number for the kind and a parameter for each field.
 #[derive(Clone, Copy)]
 pub(crate) struct Numbers {
     pub kind: u32,
@@ -28,16 +27,6 @@ pub(crate) fn version_at(form: u32) -> Version
         return Version::Two;
     }
     Version::One
-}
-
-#[tactic(auto, unfolding(crate::specs::Fields::form_number))]
-pub(crate) fn form_number(version: Version) -> u32
-    ensures { result ≡ form_number version }
-{
-    match version {
-        Version::One => 1,
-        Version::Two => 2,
-    }
 }
 
 #[tactic(auto, unfolding(crate::specs::Fields::numbers_of))]
@@ -191,45 +180,5 @@ pub(crate) fn put_at(settings: Settings, place: usize, entry: Entry) -> Settings
     Settings {
         count: place + 1,
         entries,
-    }
-}
-
-#[tactic(auto, unfolding(crate::specs::Calls::written_number))]
-pub(crate) fn written_number(w: Written) -> u32
-    ensures { result ≡ written_number w }
-{
-    match w {
-        Written::Bytes(_) => 0,
-        Written::Refused(k) => k,
-    }
-}
-
-#[tactic(auto, unfolding(crate::specs::Calls::written_or))]
-pub(crate) fn written_or(w: Written, old: usize) -> usize
-    ensures { result ≡ written_or w old }
-{
-    match w {
-        Written::Bytes(n) => n,
-        Written::Refused(_) => old,
-    }
-}
-
-#[tactic(auto, unfolding(crate::specs::Calls::move_number))]
-pub(crate) fn move_number(m: Move) -> u32
-    ensures { result ≡ move_number m }
-{
-    match m {
-        Move::Bytes(_) => 0,
-        Move::Refused(_, k) => k,
-    }
-}
-
-#[tactic(auto, unfolding(crate::specs::Calls::move_or))]
-pub(crate) fn move_or(m: Move, old: usize) -> usize
-    ensures { result ≡ move_or m old }
-{
-    match m {
-        Move::Bytes(n) => n,
-        Move::Refused(_, _) => old,
     }
 }

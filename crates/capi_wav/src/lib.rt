@@ -8,19 +8,9 @@ ghost use Rattle.std.specs.Result.{result_unwrap_or};
 ghost use Rattle.blocks.specs.Refusals.{number_in};
 ghost use Rattle.capi_wav.specs.Calls.{recording, ReadsHeader, WritesHeader, ReadsPart, WritesPart};
 
-use blocks::Refusal;
+use blocks::{Refusal, number};
 use wav::header::{Recording, read_header, write_header};
 use wav::samples::{read_part, write_part};
-
-// The number of an answer's refusal, or 0.
-fn number<T: Copy>(answer: Result<T, Refusal>) -> u32
-    ensures { result ≡ number_in answer }
-{
-    match answer {
-        Ok(_) => 0,
-        Err(refusal) => refusal.number(),
-    }
-}
 
 // A part's count to where it is asked for; at a refusal what stood there stays.
 fn counted(part: Result<usize, Refusal>, count: &mut usize) -> u32

@@ -9,7 +9,7 @@ use biquad::biquad::Biquad;
 use biquad::biquad_clamp::BiquadClamp;
 use biquad::direct_form1::DirectForm1;
 use biquad::direct_form2_transposed::DirectForm2Transposed;
-use blocks::Refusal;
+use blocks::{Refusal, number};
 use rust_answers::doubles::{from_bits, to_bits};
 use rust_answers::input::read_full;
 use rust_answers::lines::{double, line, report, tally, unlike_double};
@@ -265,36 +265,24 @@ fn limits(min: f64, max: f64) -> BiquadClamp {
     c
 }
 
-// The number of a refusal, 0 for none.
-fn number_of<T: Drop>(answer: Result<T, Refusal>) -> u32 {
-    match answer {
-        Ok(_) => 0,
-        Err(refusal) => refusal.number(),
-    }
-}
-
-// The count n, and one more for each of three calls with these limits that has another number than this one, or than 31
+// The count n, and one more for each of three calls with these limits that has another number than is said, or than 31
 // where the slices differ in length.
-fn form_refused<F: Form>(n: u64, c: BiquadClamp, number: u32) -> u64 {
+fn form_refused<F: Form>(n: u64, c: BiquadClamp, said: u32) -> u64 {
     let xs = [1.0; 4];
     let mut ys = [2.0; 4];
-    let step = tally(n, number_of(F::zeros().step_clamped(c, 1.0)), number);
-    let alike = tally(
-        step,
-        number_of(F::zeros().run_clamped(c, &xs, &mut ys)),
-        number,
-    );
+    let step = tally(n, number(F::zeros().step_clamped(c, 1.0)), said);
+    let alike = tally(step, number(F::zeros().run_clamped(c, &xs, &mut ys)), said);
     tally(
         alike,
-        number_of(F::zeros().run_clamped(c, &xs[..3], &mut ys)),
+        number(F::zeros().run_clamped(c, &xs[..3], &mut ys)),
         31,
     )
 }
 
 // The same of both forms.
-fn refused(n: u64, min: f64, max: f64, number: u32) -> u64 {
+fn refused(n: u64, min: f64, max: f64, said: u32) -> u64 {
     let c = limits(min, max);
-    form_refused::<DirectForm2Transposed>(form_refused::<DirectForm1>(n, c, number), c, number)
+    form_refused::<DirectForm2Transposed>(form_refused::<DirectForm1>(n, c, said), c, said)
 }
 
 // Limits in order, equal, two zeros, crossed, and a NaN on either side.

@@ -1,10 +1,10 @@
 // The word of this program, i32: how it is drawn, what its bits are, how it is digested. No other file names it.
-pub(crate) use cic::word::Word;
 use rust_answers::runs::{digest, spread};
-use words::casts::{i32_as_u32, u32_as_i32, u64_as_u32};
+
+pub(crate) type Word = i32;
 
 // The generator's state after a word, and the word.
-#[derive(Drop)]
+#[derive(Clone, Copy)]
 pub(crate) struct DrawnWord {
     pub state: u64,
     pub value: Word,
@@ -15,21 +15,21 @@ pub(crate) fn spread_word(state: u64) -> DrawnWord {
     let r = spread(state);
     DrawnWord {
         state: r.state,
-        value: u32_as_i32(r.value),
+        value: r.value.cast_signed(),
     }
 }
 
 // The word whose bits are the number's low ones.
 pub(crate) fn word_of(bits: u64) -> Word {
-    u32_as_i32(u64_as_u32(bits))
+    ((bits % 0x1_0000_0000) as u32).cast_signed()
 }
 
 // A word's bits as a number.
 pub(crate) fn bits_of(y: Word) -> u64 {
-    i32_as_u32(y) as u64
+    u64::from(y.cast_unsigned())
 }
 
 // The digest d grown by a word.
 pub(crate) fn digest_word(d: u64, y: Word) -> u64 {
-    digest(d, i32_as_u32(y))
+    digest(d, y.cast_unsigned())
 }

@@ -1,11 +1,11 @@
 // The word of this program, i64: how it is drawn, what its bits are, how it is digested. No other file names it.
-pub(crate) use cic64::word::Word;
 use rust_answers::lines::double;
 use rust_answers::runs::{digest_double, spread};
-use words::casts::{i64_as_u64, u64_as_i64};
+
+pub(crate) type Word = i64;
 
 // The generator's state after a word, and the word.
-#[derive(Drop)]
+#[derive(Clone, Copy)]
 pub(crate) struct DrawnWord {
     pub state: u64,
     pub value: Word,
@@ -17,21 +17,21 @@ pub(crate) fn spread_word(state: u64) -> DrawnWord {
     let low = spread(high.state);
     DrawnWord {
         state: low.state,
-        value: u64_as_i64(double(high.value, low.value)),
+        value: double(high.value, low.value).cast_signed(),
     }
 }
 
 // The word whose bits are the number's low ones.
 pub(crate) fn word_of(bits: u64) -> Word {
-    u64_as_i64(bits)
+    bits.cast_signed()
 }
 
 // A word's bits as a number.
 pub(crate) fn bits_of(y: Word) -> u64 {
-    i64_as_u64(y)
+    y.cast_unsigned()
 }
 
 // The digest d grown by a word.
 pub(crate) fn digest_word(d: u64, y: Word) -> u64 {
-    digest_double(d, i64_as_u64(y))
+    digest_double(d, y.cast_unsigned())
 }

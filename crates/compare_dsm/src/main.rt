@@ -4,7 +4,7 @@
 
 #![tactic(auto)]
 
-use blocks::Refusal;
+use blocks::number;
 use dsm::Dsm;
 use rust_answers::input::read_full;
 use rust_answers::lines::{double, line, report, size, tally, unlike, unlike_words};
@@ -241,14 +241,6 @@ fn compare(rt: &impl Print, text: &[u8], code: u32, name: &[u8]) -> io::Result<(
     tell(rt, narrow)
 }
 
-// The number of a refusal, 0 for none.
-fn number_of<T: Drop>(answer: Result<T, Refusal>) -> u32 {
-    match answer {
-        Ok(_) => 0,
-        Err(refusal) => refusal.number(),
-    }
-}
-
 // A state of zeros but for one retained cell.
 fn with_cell(order: usize, j: usize, cell: i16) -> Dsm {
     let mut retained = [0i16; 8];
@@ -264,7 +256,7 @@ fn with_cell(order: usize, j: usize, cell: i16) -> Dsm {
 
 // The number of a block of three inputs on such a state.
 fn block_number(order: usize, cell: i16, ys: &mut [i16]) -> u32 {
-    number_of(with_cell(order, 0, cell).block(&[0; 3], ys))
+    number(with_cell(order, 0, cell).block(&[0; 3], ys))
 }
 
 // Order, place and value of the cell, and the number of a step on that state, by document 01.
@@ -289,7 +281,7 @@ const STEPS: [(usize, usize, i16, u32); 14] = [
 fn step_refusals() -> u64 {
     let mut n: u64 = 0;
     for &(order, j, cell, said) in &STEPS {
-        n = tally(n, number_of(with_cell(order, j, cell).process(0)), said);
+        n = tally(n, number(with_cell(order, j, cell).process(0)), said);
     }
     n
 }
@@ -305,7 +297,7 @@ fn block_refusals() -> u64 {
 }
 
 fn maker_refusals() -> u64 {
-    unlike(number_of(Dsm::new(8)), 0) + unlike(number_of(Dsm::new(9)), 30)
+    unlike(number(Dsm::new(8)), 0) + unlike(number(Dsm::new(9)), 30)
 }
 
 fn main(rt: HostRuntime) -> io::Result<()> {

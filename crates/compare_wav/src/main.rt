@@ -23,6 +23,7 @@ fn print(rt: &impl Print, head: Result<Recording, Refusal>) -> io::Result<()> {
 }
 
 // Reads until buf is full or the input ends: how many bytes came, put at the start of buf.
+// Kept: an end within it is no error here, as it is one of `read_exact`.
 fn read_full(input: &mut impl Read, buf: &mut [u8]) -> io::Result<usize>
     ensures count { IfOk result (λ n. n ≤ length buf.new) }
     ensures size { length buf.new ≡ length buf.old }

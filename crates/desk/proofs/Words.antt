@@ -15,10 +15,12 @@ use Rattle.std.specs.Prelude as std
 use Rattle.std.specs.Prelude.{Some, None}
 use Rattle.sums.specs.Calls.{resume_number}
 use Rattle.sums.specs.Counted.{resume_counted}
-use Rattle.cic64.specs.Word.{word_ops}
-use Rattle.cic64.specs.Answers.{made_of}
-use Rattle.cic64.specs.declared.state.Made.{Made}
-use Rattle.recorder.specs.declared.recorder.Ready.{Ready}
+use Rattle.cic.specs.Answers.{made_of}
+use Rattle.std.specs.Prelude.{Result}
+use Rattle.blocks.specs.declared.refusal.Refusal.{Refusal}
+use Rattle.cic.specs.declared.state.Cic.{Cic}
+use Rattle.recorder.specs.Calls.{word_ops}
+use Rattle.recorder.specs.declared.recorder.Recorder.{Recorder}
 use borrow.Author.Tests.{le-ltb}
 use Rattle.desk.specs.Saved.{next_check, check_from, pattern_at, is_wrong, word_at, words_at, any_wrong, cells_at, resumed_by, state_loaded}
 
@@ -80,7 +82,7 @@ cells_done line first n xs ys i l h g =
     (done (cell_out line) cell_next first xs ys (i + first) i (omega arith) g).1 ∙ cells_are line first xs ∙ ap (cells_at line first) l
 
 -- the state that the words tell
-pub state_is : (line : List ℕ) (o d rate countdown n : ℕ) (hold y : ℤ) (is cs : List ℤ) (m : Made) (r : Ready)
+pub state_is : (line : List ℕ) (o d rate countdown n : ℕ) (hold y : ℤ) (is cs : List ℤ) (m : Result (Cic ℤ) Refusal) (r : Result Recorder Refusal)
     → o ≡ word_at line 0 → d ≡ word_at line 1 → rate ≡ word_at line 2 → countdown ≡ word_at line 3 → n ≡ word_at line 4
     → hold ≡ wrap w64 (pos (word_at line 5)) → y ≡ wrap w64 (pos (word_at line 6)) → is ≡ cells_at line 7 8 → cs ≡ cells_at line 15 64
     → rate ≤ 4294967295 → countdown ≤ 4294967295

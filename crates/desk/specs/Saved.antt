@@ -1,20 +1,19 @@
 -- A recorder's state as a line: `c`, 79 words and their check value, each as 16 hex digits, and the newline: 1282 bytes.
-use Rattle.std.specs.Prelude.{Bool, true, false, cond, ◌||◌, List, [], ◌∷◌, map, ℕ, zero, suc, ◌+◌, ◌*◌, eqb, ltb, ℤ, pos, ◌+ℤ◌, ◌*ℤ◌, length, get_or, take, drop}
+use Rattle.std.specs.Prelude.{Bool, true, false, cond, ◌||◌, List, [], ◌∷◌, map, ℕ, zero, suc, ◌+◌, ◌*◌, eqb, ltb, ℤ, pos, ◌+ℤ◌, ◌*ℤ◌, length, get_or, take, drop, Result, Ok, Err}
 use Rattle.std.specs.Int.{w64}
 use Rattle.words.specs.Words.{word, wrap}
-use Rattle.blocks.specs.declared.Verdict.TheVariants as Verdict
+use Rattle.blocks.specs.declared.refusal.Refusal.{Refusal}
 use Rattle.text.specs.Letters.{newline}
 use Rattle.text.specs.Hex.{pattern_of}
 use Rattle.std.specs.Prelude as std
 use Rattle.std.specs.Prelude.{Some, None}
 use Rattle.sums.specs.Calls.{resume_number}
 use Rattle.sums.specs.Counted.{resume_counted}
-use Rattle.cic64.specs.Word.{word_ops}
 use Rattle.unwrap.specs.declared.unwrapper.Unwrapper.{Unwrapper}
-use Rattle.cic64.specs.declared.state.Made.{Made}
-use Rattle.cic64.specs.Answers.{made_of}
-use Rattle.recorder.specs.Calls.{opened_of}
-use Rattle.recorder.specs.declared.recorder.Ready.{Ready}
+use Rattle.cic.specs.declared.state.Cic.{Cic}
+use Rattle.cic.specs.Answers.{made_of}
+use Rattle.recorder.specs.Calls.{word_ops}
+use Rattle.recorder.specs.declared.recorder.Recorder.{Recorder}
 
 -- The check value: from 1 on, times a fixed odd number plus the next word, modulo 2 ^ 64. Where one word alone is changed, it is another: odd
 -- numbers have an inverse modulo 2 ^ 64.
@@ -52,29 +51,26 @@ word_at line i = value_of (pattern_at line i)
 abbrev pub cells_at : List ℕ → ℕ → ℕ → List ℤ
 cells_at line i n = map (λ (v : ℕ). wrap w64 (pos v)) (words_at line i n)
 
--- a refused line
-abbrev pub unread : ℕ → Ready
-unread k = record { recorder = (opened_of 0 1 0).recorder; verdict = Verdict.Refused k }
-
 -- The state that the words tell: the decimator is resumed, the plug in. 76: rate or countdown is no u32; then the numbers of resume.
-abbrev pub resumed_by : Unwrapper → Made → Ready
-resumed_by turns m = record { recorder = record { plugged = true; turns = turns; filter = m.state }; verdict = m.verdict }
+abbrev pub resumed_by : Unwrapper → Result (Cic ℤ) Refusal → Result Recorder Refusal
+resumed_by turns (Ok f) = Ok (record { plugged = true; turns = turns; filter = f })
+resumed_by turns (Err k) = Err k
 
-unfoldable pub state_loaded : List ℕ → Ready
+unfoldable pub state_loaded : List ℕ → Result Recorder Refusal
 state_loaded line =
-    cond (ltb 4294967295 (word_at line 2)) (unread 76)
-    (cond (ltb 4294967295 (word_at line 3)) (unread 76)
+    cond (ltb 4294967295 (word_at line 2)) (Err Refusal.OutOfRange)
+    (cond (ltb 4294967295 (word_at line 3)) (Err Refusal.OutOfRange)
     (resumed_by (record { y = wrap w64 (pos (word_at line 6)) })
     (made_of (resume_number (word_at line 0) (word_at line 1) (word_at line 2) (word_at line 3))
     (resume_counted word_ops (word_at line 0) (word_at line 1) (word_at line 2) (cells_at line 7 8) (cells_at line 15 64)
     (wrap w64 (pos (word_at line 5))) (word_at line 3) (word_at line 4)))))
 
 -- 72: another length; 75: a digit is none; 86: another check value
-unfoldable pub load_of : List ℕ → Ready
+unfoldable pub load_of : List ℕ → Result Recorder Refusal
 load_of line =
     cond (eqb (length line) 1282)
     (cond (eqb (get_or line 1281 0) newline)
-    (cond (any_wrong line 0 80) (unread 75)
-    (cond (eqb (word_at line 79) (check_from 1 (words_at line 0 79))) (state_loaded line) (unread 86)))
-    (unread 72))
-    (unread 72)
+    (cond (any_wrong line 0 80) (Err Refusal.Malformed)
+    (cond (eqb (word_at line 79) (check_from 1 (words_at line 0 79))) (state_loaded line) (Err Refusal.CheckValue)))
+    (Err Refusal.LongLine))
+    (Err Refusal.LongLine)

@@ -4,22 +4,25 @@ ghost use Rattle.desk.specs.Desks.{
   start_desk,
   refuse,
   keep,
+  ready_taken,
   readied,
   so_far,
   open_taken,
   word_taken,
   words_taken,
-  event_number,
+  event_answer,
   kind_taken,
   taken_of,
 };
 
 use crate::lines::{Kind, Record, read_record};
 use crate::saved::load;
-use blocks::Verdict;
-use cic64::runs::Wrote;
-use cic64::steps::Output;
-use recorder::recorder::{Ready, Recorder, Took};
+use blocks::Refusal;
+use cic::runs::Written;
+use cic::state::Cic;
+use cic::steps::Output;
+use recorder::recorder::Recorder;
+use unwrap::unwrapper::Unwrapper;
 use words::casts::{u32_as_i32, u64_as_u32};
 use words::unsigned::add_u32;
 
@@ -35,9 +38,9 @@ pub struct Desk {
 #[derive(Clone, Copy)]
 pub enum Reply {
     Silent,
-    Output(Output),
+    Output(Output<i64>),
     Saved,
-    Bad(u32),
+    Bad(Refusal),
 }
 
 // The desk after a record, and its answer.
@@ -47,8 +50,8 @@ pub struct Taken {
     pub reply: Reply,
 }
 
-fn refused(d: Desk, number: u32) -> Taken
-    ensures { result ≡ refuse d number }
+fn refused(d: Desk, refusal: Refusal) -> Taken
+    ensures { result ≡ refuse d refusal }
 {
     let recorder = d.recorder;
     let desk = Desk {
@@ -58,7 +61,7 @@ fn refused(d: Desk, number: u32) -> Taken
     };
     Taken {
         desk,
-        reply: Reply::Bad(number),
+        reply: Reply::Bad(refusal),
     }
 }
 
@@ -73,17 +76,23 @@ fn with_recorder(recorder: Recorder, reply: Reply) -> Taken
     Taken { desk, reply }
 }
 
-// The call gave this recorder, or was refused.
-fn readied(d: Desk, made: Ready) -> Taken
+// The call left this recorder and gave this answer.
+fn answered(d: Desk, recorder: Recorder, answer: Result<(), Refusal>) -> Taken
+    ensures { result ≡ ready_taken d recorder answer }
+{
+    match answer {
+        Ok(()) => with_recorder(recorder, Reply::Silent),
+        Err(refusal) => refused(d, refusal),
+    }
+}
+
+// The call made this recorder, or was refused.
+fn readied(d: Desk, made: Result<Recorder, Refusal>) -> Taken
     ensures { result ≡ readied d made }
 {
-    let verdict = made.verdict;
-    match verdict {
-        Verdict::Done => {
-            let recorder = made.recorder;
-            with_recorder(recorder, Reply::Silent)
-        }
-        Verdict::Refused(number) => refused(d, number),
+    match made {
+        Ok(recorder) => with_recorder(recorder, Reply::Silent),
+        Err(refusal) => refused(d, refusal),
     }
 }
 
@@ -101,10 +110,10 @@ fn open(d: Desk, number: u32, argument: u32) -> Taken
     ensures { result ≡ open_taken d number argument }
 {
     if d.opened {
-        return refused(d, 71);
+        return refused(d, Refusal::Opening);
     }
     if number != 0 {
-        return refused(d, 85);
+        return refused(d, Refusal::RecordNumber);
     }
     let order = argument / 16777216;
     let delay = argument / 65536 % 256;
@@ -113,13 +122,11 @@ fn open(d: Desk, number: u32, argument: u32) -> Taken
 }
 
 // The recorder after a word, and the word's output, if any.
-fn word_taken(d: Desk, value: i64, t: Took) -> Taken
-    ensures { result ≡ word_taken d t.recorder (value ∷ []) t.wrote }
+fn word_taken(d: Desk, value: i64, recorder: Recorder, wrote: Result<Written, Refusal>) -> Taken
+    ensures { result ≡ word_taken d recorder (value ∷ []) wrote }
 {
-    let wrote = t.wrote;
     match wrote {
-        Wrote::Outputs(w) => {
-            let recorder = t.recorder;
+        Ok(w) => {
             if w.count == 0 {
                 return with_recorder(recorder, Reply::Silent);
             }
@@ -130,7 +137,7 @@ fn word_taken(d: Desk, value: i64, t: Took) -> Taken
             };
             with_recorder(recorder, Reply::Output(y))
         }
-        Wrote::Refused(k) => refused(d, k),
+        Err(refusal) => refused(d, refusal),
     }
 }
 
@@ -139,81 +146,75 @@ fn word(d: Desk, number: u32, x: i32) -> Taken
     ensures { result ≡ words_taken d number x }
 {
     if !d.opened {
-        return refused(d, 71);
+        return refused(d, Refusal::Opening);
     }
     if number != add_u32(so_far(d), 1) {
-        return refused(d, 85);
+        return refused(d, Refusal::RecordNumber);
     }
     let words = [x; 1];
     let mut turns = [0i64; 1];
     let mut out = [0i64; 1];
-    let r = d.recorder;
-    let t = r.take(&words, &mut turns, &mut out);
-    let y = out[0];
-    word_taken(d, y, t)
+    let mut recorder = d.recorder;
+    let wrote = recorder.take(&words, &mut turns, &mut out);
+    word_taken(d, out[0], recorder, wrote)
 }
 
-// The number of a record that isn't a word and has no argument, or 0: 76 where it has one, 71, 85.
-fn event_number(d: Desk, number: u32, argument: u32) -> u32
-    ensures { result ≡ event_number d number argument }
+// Whether a record that isn't a word stands at its place. Refused with 76 where it has an argument, 71, 85.
+fn event(d: Desk, number: u32, argument: u32) -> Result<(), Refusal>
+    ensures { result ≡ event_answer d number argument }
 {
     if argument != 0 {
-        return 76;
+        return Err(Refusal::OutOfRange);
     }
     if !d.opened {
-        return 71;
+        return Err(Refusal::Opening);
     }
     if number != so_far(d) {
-        return 85;
+        return Err(Refusal::RecordNumber);
     }
-    0
+    Ok(())
 }
 
 fn rate(d: Desk, number: u32, argument: u32) -> Taken
     ensures { result ≡ kind_taken d Kind.Rate number argument }
 {
-    let k = event_number(d, number, 0);
-    if k != 0 {
-        return refused(d, k);
+    if let Err(refusal) = event(d, number, 0) {
+        return refused(d, refusal);
     }
-    let r = d.recorder;
-    let made = r.set_rate(argument);
-    readied(d, made)
+    let mut recorder = d.recorder;
+    let answer = recorder.set_rate(argument);
+    answered(d, recorder, answer)
 }
 
 fn pull(d: Desk, number: u32, argument: u32) -> Taken
     ensures { result ≡ kind_taken d Kind.Pull number argument }
 {
-    let k = event_number(d, number, argument);
-    if k != 0 {
-        return refused(d, k);
+    if let Err(refusal) = event(d, number, argument) {
+        return refused(d, refusal);
     }
-    let r = d.recorder;
-    let pulled = r.pull();
-    with_recorder(pulled, Reply::Silent)
+    let mut recorder = d.recorder;
+    recorder.pull();
+    with_recorder(recorder, Reply::Silent)
 }
 
 fn push(d: Desk, number: u32, argument: u32) -> Taken
     ensures { result ≡ kind_taken d Kind.Push number argument }
 {
-    let k = event_number(d, number, argument);
-    if k != 0 {
-        return refused(d, k);
+    if let Err(refusal) = event(d, number, argument) {
+        return refused(d, refusal);
     }
-    let r = d.recorder;
-    let made = r.push();
-    readied(d, made)
+    let mut recorder = d.recorder;
+    let answer = recorder.push();
+    answered(d, recorder, answer)
 }
 
 fn save(d: Desk, number: u32, argument: u32) -> Taken
     ensures { result ≡ kind_taken d Kind.Save number argument }
 {
-    let k = event_number(d, number, argument);
-    if k != 0 {
-        return refused(d, k);
+    if let Err(refusal) = event(d, number, argument) {
+        return refused(d, refusal);
     }
-    let recorder = d.recorder;
-    with_recorder(recorder, Reply::Saved)
+    with_recorder(d.recorder, Reply::Saved)
 }
 
 // A record of a kind.
@@ -227,7 +228,7 @@ fn take_kind(d: Desk, kind: Kind, number: u32, argument: u32) -> Taken
         Kind::Pull => pull(d, number, argument),
         Kind::Push => push(d, number, argument),
         Kind::Save => save(d, number, argument),
-        Kind::Unknown => refused(d, 73),
+        Kind::Unknown => refused(d, Refusal::UnknownRecord),
     }
 }
 
@@ -242,7 +243,7 @@ pub fn take_record(d: Desk, bytes: &[u8]) -> Taken
     let r = read_record(bytes);
     match r {
         Record::Is(kind, number, argument) => take_kind(d, kind, number, argument),
-        Record::Bad(k) => refused(d, k),
+        Record::Bad(refusal) => refused(d, refusal),
     }
 }
 
@@ -251,8 +252,11 @@ impl Desk {
     pub fn start() -> Desk
         ensures { result ≡ start_desk }
     {
-        let r = Recorder::open(0, 1, 0);
-        let recorder = r.recorder;
+        let recorder = Recorder {
+            plugged: true,
+            turns: Unwrapper { y: 0 },
+            filter: Cic::blank(),
+        };
         Desk {
             opened: false,
             going: true,

@@ -3,6 +3,7 @@
 ghost use Rattle.std.specs.Prelude.{◌≡◌};
 ghost use Rattle.desk.specs.Lines.{kind_of, bits_record, record_of};
 
+use blocks::Refusal;
 use text::hex::hex_word;
 
 // What a record does: `w`, `o`, `r`, `p`, `q`, `s`.
@@ -17,11 +18,11 @@ pub enum Kind {
     Unknown,
 }
 
-// A record with its number and its argument, or the number of a refusal.
+// A record with its number and its argument, or its refusal.
 #[derive(Clone, Copy)]
 pub enum Record {
     Is(Kind, u32, u32),
-    Bad(u32),
+    Bad(Refusal),
 }
 
 fn kind_of(letter: u8) -> Kind
@@ -52,7 +53,7 @@ fn bits_record(kind: Kind, p: Option<u64>) -> Record
     ensures { result ≡ bits_record kind p }
 {
     let Some(v) = p else {
-        return Record::Bad(75);
+        return Record::Bad(Refusal::Malformed);
     };
     Record::Is(kind, (v / 4294967296) as u32, (v % 4294967296) as u32)
 }
@@ -62,10 +63,10 @@ pub fn read_record(line: &[u8]) -> Record
     ensures { result ≡ record_of line.now }
 {
     if line.len() != 18 {
-        return Record::Bad(72);
+        return Record::Bad(Refusal::LongLine);
     }
     if line[17] != b'\n' {
-        return Record::Bad(72);
+        return Record::Bad(Refusal::LongLine);
     }
     let kind = kind_of(line[0]);
     let p = hex_word(&line[1..17]);

@@ -2,11 +2,11 @@
 ghost use Rattle.std.specs.Prelude.{◌≡◌, ◌<◌, pos, length};
 ghost use Rattle.std.specs.Int.{w64};
 ghost use Rattle.words.specs.Words.{wrap};
-ghost use Rattle.desk.specs.Saved.{next_check, check_from, pattern_at, word_at, words_at, any_wrong, cells_at, unread, resumed_by, state_loaded, load_of};
+ghost use Rattle.desk.specs.Saved.{next_check, check_from, pattern_at, word_at, words_at, any_wrong, cells_at, state_loaded, load_of};
 
-use blocks::Verdict;
-use cic64::state::{Cic, Made};
-use recorder::recorder::{Ready, Recorder};
+use blocks::Refusal;
+use cic::state::Cic;
+use recorder::recorder::Recorder;
 use text::hex::hex_word;
 use unwrap::unwrapper::Unwrapper;
 use words::casts::u64_as_i64;
@@ -107,45 +107,18 @@ fn combs_of(line: &[u8]) -> [i64; 64]
     cells
 }
 
-// A refused line's answer.
-fn refused_line(number: u32) -> Ready
-    ensures { result ≡ unread number }
-{
-    let m = Recorder::open(0, 1, 0);
-    let recorder = m.recorder;
-    Ready {
-        recorder,
-        verdict: Verdict::Refused(number),
-    }
-}
-
-// A recorder with these turns and this filter, the plug in.
-fn resumed(y: i64, m: Made) -> Ready
-    ensures { result ≡ resumed_by (record { y = y }) m }
-{
-    let filter = m.state;
-    let verdict = m.verdict;
-    let turns = Unwrapper { y };
-    let recorder = Recorder {
-        plugged: true,
-        turns,
-        filter,
-    };
-    Ready { recorder, verdict }
-}
-
 // The state that a line tells whose check value is right.
-fn load_state(line: &[u8]) -> Ready
+fn load_state(line: &[u8]) -> Result<Recorder, Refusal>
     requires { length line.now ≡ 1282 }
     ensures { result ≡ state_loaded line.now }
 {
     let rate = word_at(line, 2);
     if 4294967295 < rate {
-        return refused_line(76);
+        return Err(Refusal::OutOfRange);
     }
     let countdown = word_at(line, 3);
     if 4294967295 < countdown {
-        return refused_line(76);
+        return Err(Refusal::OutOfRange);
     }
     let order = word_at(line, 0);
     let delay = word_at(line, 1);
@@ -154,7 +127,7 @@ fn load_state(line: &[u8]) -> Ready
     let y = signed_at(line, 6);
     let integrators = integrators_of(line);
     let combs = combs_of(line);
-    let m = Cic::resume(
+    let filter = Cic::resume(
         order as usize,
         delay as usize,
         rate as u32,
@@ -163,27 +136,31 @@ fn load_state(line: &[u8]) -> Ready
         hold,
         countdown as u32,
         inputs,
-    );
-    resumed(y, m)
+    )?;
+    Ok(Recorder {
+        plugged: true,
+        turns: Unwrapper { y },
+        filter,
+    })
 }
 
 // The recorder that a line of 1282 bytes tells, its decimator resumed and the plug in. Refused with 72 where the line is of
 // another length, 75 where a digit is none, 86 where the check value is another, 76 where
 // rate or countdown is no u32, then as `Cic::resume` is.
-pub fn load(line: &[u8]) -> Ready
+pub fn load(line: &[u8]) -> Result<Recorder, Refusal>
     ensures { result ≡ load_of line.now }
 {
     if line.len() != 1282 {
-        return refused_line(72);
+        return Err(Refusal::LongLine);
     }
     if line[1281] != b'\n' {
-        return refused_line(72);
+        return Err(Refusal::LongLine);
     }
     if any_wrong(line) {
-        return refused_line(75);
+        return Err(Refusal::Malformed);
     }
     if word_at(line, 79) != check_of(line) {
-        return refused_line(86);
+        return Err(Refusal::CheckValue);
     }
     load_state(line)
 }

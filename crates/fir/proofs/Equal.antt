@@ -13,8 +13,7 @@ use lib.Seq.{take-append_seam}
 use mir.Syntax.{w32}
 use borrow.Author.Tests.{ltb-true, ltb-false, lt-ltb, le-ltb, ne_eqb}
 use Rattle.words.specs.Words.{wrap}
-use Rattle.blocks.specs.declared.Verdict.TheVariants as Verdict
-use Rattle.blocks.specs.Verdicts.{verdict_of}
+use Rattle.blocks.specs.Refusals.{answer}
 use Rattle.blocks.specs.Blocks.{unless}
 use Rattle.sums.specs.Signed.{exact_ops}
 use Rattle.sums.specs.Moving.{moving}
@@ -22,14 +21,11 @@ use Rattle.sums.specs.Counted.{Numbered, plain}
 use Rattle.sums.specs.State.{refusal_of}
 use Rattle.sums.specs.Runs.{needed, values, over}
 use Rattle.sums.specs.Demands.{input, modulo, Decimates}
-use Rattle.cic.specs.declared.state.Made.{Made}
 use Rattle.demands.proofs.Demands.{after-new}
 use Rattle.fir.specs.Ways.{up_to, rest, ways}
 use Rattle.fir.specs.Weights.{taken, weights, weighed}
 use Rattle.fir.specs.declared.Fir.{Fir}
-use Rattle.fir.specs.declared.Stepped.{Stepped}
-use Rattle.fir.specs.declared.Decimated.{Decimated}
-use Rattle.fir.specs.Calls.{stepped_of, output_of, outputs, after, block_number, wrote_of, decimated_of, written_of}
+use Rattle.fir.specs.Calls.{Stepped, Decimated, stepped_of, output_of, outputs, after, block_number, wrote_of, decimated_of, written_of}
 use Rattle.fir.specs.Equal.{took_block, gave_block, Called, OneList, SameOutputs}
 use Rattle.fir.specs.Inner.{outputs_from}
 use Rattle.fir.proofs.Weighing.{weighs, moving_weighs}
@@ -63,6 +59,7 @@ gave_all s us lent =
 one_block : (s t : Fir) (us lent xs ys : List ℤ) (k : ℕ) → One (unless k s (after s us)) xs ys t
     → One s (took_block (wrote_of k (needed (length us) s.countdown 63)) us ++ xs)
     (gave_block (wrote_of k (needed (length us) s.countdown 63)) (unless k lent (over (outputs s us) lent)) ++ ys) t
+unfolding answer
 one_block s t us lent xs ys zero o =
     (ap₂ ◌++◌ (gave_all s us lent) o.0 ∙ sym (outputs-join s us xs), o.1 ∙ sym (after-join s us xs))
 one_block s t us lent xs ys (suc k) o =
@@ -247,15 +244,10 @@ follows : (xs : List ℤ) → Follows (input xs) 0 xs
 unfolding Follows
 follows xs i l = ap (input xs) (sym (zero-add i))
 
--- Cic::new(3, 1, 63) is accepted
-accepted : verdict_of (refusal_of 3 1 63 0 0) ≡ Verdict.Done
-unfolding refusal_of verdict_of
-accepted = refl
-
 pub same-outputs : SameOutputs
 unfolding cells_at
 same-outputs made m xs ys t c zs u run =
-    let d = ((after-new 3 1 63 made m (ap (λ (q : Made). q.verdict) m ∙ accepted)).0 xs zs u run).1 in
+    let d = ((after-new w32 3 1 63 made m).0 xs zs u run).1 in
     (one c).0
     ∙ outputs_from_law (replicate 190 (pos 0)) 0 xs
     ∙ same (outputs_from (replicate 190 (pos 0)) 0 xs) (values (plain zs))

@@ -129,44 +129,33 @@ due_small c zero h = h
 due_small zero (suc n) h = due_small 63 n (omega arith)
 due_small (suc c) (suc n) h = due_small c n (omega arith)
 
--- ---- the loop: k outputs are written and the next is after input number i, from 0
-pub record WeighsEach (h : List ℤ) (c : ℕ) (xs old : List ℤ) (i k : ℕ) (out : List ℤ) : Type 0 where
-  pub at : i ≡ c + k * 64
+-- ---- the loop: k outputs are written
+pub record WeighsEach (h : List ℤ) (c : ℕ) (xs old : List ℤ) (k : ℕ) (out : List ℤ) : Type 0 where
   pub few : k ≤ needed (length xs) c 63
   pub out_is : out ≡ paste old 0 (outputs_from h c xs) k
 
-module _ (h : List ℤ) (c : ℕ) (xs old : List ℤ) (room : needed (length xs) c 63 ≤ length old) where
-  pub weighs_start : WeighsEach h c xs old c 0 old
-  weighs_start = record { at = omega arith; few = omega arith; out_is = paste-zero old 0 (outputs_from h c xs) }
+module _ (h : List ℤ) (c : ℕ) (xs old : List ℤ) (need : ℕ) (n : need ≡ needed (length xs) c 63) (room : need ≤ length old) where
+  pub weighs_start : WeighsEach h c xs old 0 old
+  weighs_start = record { few = omega arith; out_is = paste-zero old 0 (outputs_from h c xs) }
 
   -- an output is due exactly where an input is
-  due : (k : ℕ) → c + k * 64 < length xs → k < needed (length xs) c 63
-  due k a = ltb-true k (needed (length xs) c 63) (needed-falls (length xs) c 63 k ∙ lt-ltb (c + k * 64) (length xs) a)
+  pub due : (k : ℕ) → k < need → c + k * 64 < length xs
+  due k a = ltb-true (c + k * 64) (length xs) (sym (needed-falls (length xs) c 63 k) ∙ lt-ltb k (needed (length xs) c 63) (omega arith))
 
-  over_due : (k : ℕ) → length xs ≤ c + k * 64 → needed (length xs) c 63 ≤ k
-  over_due k a = ltb-false k (needed (length xs) c 63) (needed-falls (length xs) c 63 k ∙ le-ltb (c + k * 64) (length xs) a)
-
-  pub weighs_room : (i k : ℕ) (out : List ℤ) → i < length xs → WeighsEach h c xs old i k out → (k < length old) × (length out ≡ length old)
-  weighs_room i k out a d =
-      let e = d.at in let b = due k (omega arith) in let l = outputs_from-length h c xs in
-      (omega arith, ap length d.out_is ∙ length-paste old 0 (outputs_from h c xs) k (omega arith) (omega arith))
-
-  pub weighs_long : (i k : ℕ) (out : List ℤ) → WeighsEach h c xs old i k out → length out ≡ length old
-  weighs_long i k out d =
+  pub weighs_long : (k : ℕ) (out : List ℤ) → WeighsEach h c xs old k out → length out ≡ length old
+  weighs_long k out d =
       let f = d.few in let l = outputs_from-length h c xs in
       ap length d.out_is ∙ length-paste old 0 (outputs_from h c xs) k (omega arith) (omega arith)
 
-  pub weighs_turn : (i k : ℕ) (out : List ℤ) (v : ℤ) → i < length xs → WeighsEach h c xs old i k out
-      → v ≡ weighed (kept h (take (i + 1) xs))
-      → WeighsEach h c xs old (i + 64) (k + 1) (set out k v)
-  weighs_turn i k out v a d e =
-      let at = d.at in let b = due k (omega arith) in let l = outputs_from-length h c xs in
-      let s : i + 1 ≡ suc (c + k * 64) = omega arith in
+  pub weighs_turn : (k : ℕ) (out : List ℤ) (v : ℤ) → k < need → WeighsEach h c xs old k out
+      → v ≡ weighed (kept h (take (c + k * 64 + 1) xs)) → WeighsEach h c xs old (k + 1) (set out k v)
+  weighs_turn k out v a d e =
+      let l = outputs_from-length h c xs in
+      let s : c + k * 64 + 1 ≡ suc (c + k * 64) = omega arith in
       let w : v ≡ get_or (outputs_from h c xs) k (pos 0) = e
       ∙ ap (λ (m : ℕ). weighed (kept h (take m xs))) s
       ∙ sym (outputs_from_at h c xs k (omega arith)) in
       record {
-        at = omega arith;
         few = omega arith;
         out_is = ap₂ (λ (o : List ℤ) y. set o k y) d.out_is w
             ∙ ap (λ (m : ℕ). set (paste old 0 (outputs_from h c xs) k) m (get_or (outputs_from h c xs) k (pos 0))) (sym (zero-add k))
@@ -174,16 +163,21 @@ module _ (h : List ℤ) (c : ℕ) (xs old : List ℤ) (room : needed (length xs)
             ∙ ap (paste old 0 (outputs_from h c xs)) (sym (add-one k));
       }
 
-  pub weighs_end : (i k : ℕ) (out : List ℤ) → length xs ≤ i → WeighsEach h c xs old i k out
-      → (i - length xs ≡ due_in c (length xs)) × (out ≡ over (outputs_from h c xs) old)
-  weighs_end i k out a d =
-      let at = d.at in let f = d.few in let b = over_due k (omega arith) in
+  pub weighs_end : (k : ℕ) (out : List ℤ) → need ≤ k → WeighsEach h c xs old k out → out ≡ over (outputs_from h c xs) old
+  weighs_end k out a d =
+      let f = d.few in
       let l = outputs_from-length h c xs in
       let e : k ≡ needed (length xs) c 63 = omega arith in
       let g : k ≡ length (outputs_from h c xs) = e ∙ sym l in
-      let r = due_in_law c (length xs) in (
-        rw r (ap (λ (m : ℕ). m - length xs) (at ∙ ap (λ (m : ℕ). c + m * 64) e)),
-        d.out_is
-            ∙ ap₂ (λ (m n : ℕ). [] ++ take m (outputs_from h c xs) ++ drop n old) g (zero-add k ∙ g)
-            ∙ ap (λ (t : List ℤ). t ++ drop (length (outputs_from h c xs)) old) (take-length (outputs_from h c xs)),
-      )
+      d.out_is
+      ∙ ap₂ (λ (m n : ℕ). [] ++ take m (outputs_from h c xs) ++ drop n old) g (zero-add k ∙ g)
+      ∙ ap (λ (t : List ℤ). t ++ drop (length (outputs_from h c xs)) old) (take-length (outputs_from h c xs))
+
+-- the next output after the block is due behind its end, and not far behind
+pub reaches : (c L : ℕ) → L ≤ c + needed L c 63 * 64
+reaches c L = ltb-false (c + needed L c 63 * 64) L (sym (needed-falls L c 63 (needed L c 63)) ∙ le-ltb (needed L c 63) (needed L c 63) (omega arith))
+
+pub reach : (c L need : ℕ) → need ≡ needed L c 63 → c + need * 64 < c + L + 64
+reach c L zero e = omega arith
+reach c L (suc k) e =
+    let d : c + k * 64 < L = ltb-true (c + k * 64) L (sym (needed-falls L c 63 k) ∙ lt-ltb k (needed L c 63) (omega arith)) in omega arith

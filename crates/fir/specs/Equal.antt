@@ -1,30 +1,27 @@
 -- 02, A6: the engine equals the decimator of order 3, M 1, rate 63, said of the answers that a caller of either holds: a few
 -- definitions, then the statements, nothing else. Each is proved in proofs/Equal.antt.
-use Rattle.std.specs.Prelude.{◌≡◌, List, [], ◌∷◌, ◌++◌, ℤ, take}
+use Rattle.std.specs.Prelude.{◌≡◌, List, [], ◌∷◌, ◌++◌, ℕ, ℤ, take, Result, Ok, Err}
+use Rattle.blocks.specs.declared.refusal.Refusal.{Refusal}
 use Rattle.sums.specs.Calls.{new_number}
 use Rattle.sums.specs.Runs.{values}
 use Rattle.sums.specs.Counted.{Numbered, plain, new_counted}
 use Rattle.cic.specs.declared.state.Cic.{Cic}
-use Rattle.cic.specs.declared.state.Made.{Made}
-use Rattle.cic.specs.Word.{word_ops}
+use Rattle.sums.specs.Signed.{signed_ops}
+use Rattle.std.specs.Int.{w32}
 use Rattle.cic.specs.Answers.{made_of}
 use Rattle.demands.specs.Demands.{Decimating}
 use Rattle.fir.specs.declared.Fir.{Fir}
-use Rattle.fir.specs.declared.Stepped.{Stepped}
-use Rattle.fir.specs.declared.Wrote.{Wrote}
-use Rattle.fir.specs.declared.Wrote.TheVariants.{Outputs, Refused}
-use Rattle.fir.specs.declared.Decimated.{Decimated}
-use Rattle.fir.specs.Calls.{fresh, stepped_of, output_of, outputs, after, decimated_of, written_of}
+use Rattle.fir.specs.Calls.{Stepped, Decimated, fresh, stepped_of, output_of, outputs, after, decimated_of, written_of}
 
 -- What a block took in and gave, by its answer: a refused one nothing. It gave the first of the slice that it leaves, as many as it
 -- answers.
-abbrev pub took_block : Wrote → List ℤ → List ℤ
-took_block (Outputs n) us = us
-took_block (Refused k) us = []
+abbrev pub took_block : Result ℕ Refusal → List ℤ → List ℤ
+took_block (Ok n) us = us
+took_block (Err r) us = []
 
-abbrev pub gave_block : Wrote → List ℤ → List ℤ
-gave_block (Outputs n) left = take n left
-gave_block (Refused k) left = []
+abbrev pub gave_block : Result ℕ Refusal → List ℤ → List ℤ
+gave_block (Ok n) left = take n left
+gave_block (Err r) left = []
 
 -- The engine's `decimate` and `decimate_block` in any mixture, each answered as its promise says: from the state s they took in xs, gave ys
 -- and left t. What the decimator's took in and gave is `Decimating` (demands, specs/Demands).
@@ -43,7 +40,7 @@ OneList = (s : Fir) (xs ys : List ℤ) (t : Fir) → Called s xs ys t → (ys �
 -- From `Fir::new` and `Cic::new(3, 1, 63)`, by whatever calls both took in xs: their outputs are the same, wrapping included.
 abbrev pub SameOutputs : Type 0
 SameOutputs =
-    (made : Made) → made ≡ made_of (new_number 3 1 63) (new_counted word_ops 3 1 63)
+    (made : Cic ℤ) → made_of (new_number 3 1 63) (new_counted (signed_ops w32) 3 1 63) ≡ Ok made
     → (xs ys : List ℤ) (t : Fir) → Called fresh xs ys t
-    → (zs : List (Numbered ℤ)) (u : Cic) → Decimating made.state xs zs u
+    → (zs : List (Numbered ℤ)) (u : Cic ℤ) → Decimating w32 made xs zs u
     → ys ≡ values (plain zs)

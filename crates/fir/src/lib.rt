@@ -5,16 +5,15 @@
 
 #![tactic(auto)]
 
-ghost use Rattle.std.specs.Prelude.{◌≡◌, ◌<◌, ◌≤◌, ◌^◌, pos, length, get_or, take};
+ghost use Rattle.std.specs.Prelude.{◌≡◌, ◌<◌, ◌≤◌, pos, length, get_or, take};
 ghost use Rattle.sums.specs.Runs.{needed, over};
 ghost use Rattle.fir.specs.Ways.{Table};
 ghost use Rattle.fir.specs.Weights.{weighed};
 ghost use Rattle.fir.specs.Calls.{fresh, stepped_of, decimated_of, written_of};
-ghost use Rattle.fir.specs.Inner.{kept, due_in, outputs_from};
+ghost use Rattle.fir.specs.Inner.{kept, outputs_from};
 
+use blocks::Refusal;
 use shape::runs::low_rate;
-use words::casts::u32_as_i32;
-use words::signed::{add_i32, mul_i32};
 
 // Entry n, in row n / 10 at place n % 10, is the number of ways to write n as a sum of three numbers from 0 to 63.
 // The entries total 262,144.
@@ -42,38 +41,10 @@ const TAPS: [[u32; 10]; 19] = [
 
 // The engine: the last 190 inputs, the newest first, and how many inputs come before the one that gives the next
 // output. Whatever these hold, it is a state.
-#[derive(Clone, Copy)]
+#[derive(Clone, Copy, Debug, PartialEq, Eq)]
 pub struct Fir {
     pub cells: [i32; 190],
     pub countdown: u32,
-}
-
-// What a step gives: an output, or nothing.
-#[derive(Clone, Copy)]
-pub enum Out {
-    Given(i32),
-    Nothing,
-}
-
-// The state after a step, and what the step gave.
-#[derive(Clone, Copy)]
-pub struct Stepped {
-    pub state: Fir,
-    pub out: Out,
-}
-
-// How many outputs a block wrote, or the number of a refusal.
-#[derive(Clone, Copy)]
-pub enum Wrote {
-    Outputs(usize),
-    Refused(u32),
-}
-
-// The state after a block, and what it wrote.
-#[derive(Clone, Copy)]
-pub struct Decimated {
-    pub state: Fir,
-    pub wrote: Wrote,
 }
 
 // The whole table, which `weigh` takes once for an output.
@@ -85,71 +56,52 @@ fn table() -> [[u32; 10]; 19]
 
 // The input n places back when the first `taken` of input have come: one of them, or one that was kept before.
 fn input_back(cells: &[i32; 190], input: &[i32], taken: usize, n: usize) -> i32
-    requires { (length cells.now ≡ 190) × (taken ≤ length input.now) × (n < 190) }
+    requires { (taken ≤ length input.now) × (n < 190) }
     ensures { result ≡ get_or (kept cells.now (take taken input.now)) n (pos 0) }
 {
     if n < taken {
-        let at = taken - 1 - n;
-        return input[at];
+        return input[taken - 1 - n];
     }
-    let at = n - taken;
-    cells[at]
+    cells[n - taken]
 }
 
 // The output when the first `taken` of input have come: the last 190 inputs, each times its entry of the table, added
-// up. n counts the places back, row by row of the table.
+// up, row by row of the table.
 fn weigh(cells: &[i32; 190], input: &[i32], taken: usize) -> i32
-    requires { (length cells.now ≡ 190) × (taken ≤ length input.now) }
+    requires { taken ≤ length input.now }
     ensures { result ≡ weighed (kept cells.now (take taken input.now)) }
 {
     let taps = table();
     let mut sum: i32 = 0;
-    let mut n: usize = 0;
-    let mut row: usize = 0;
-    while row < 19 {
-        let mut place: usize = 0;
-        while place < 10 {
-            let tap = taps[row][place];
-            let x = input_back(cells, input, taken, n);
-            sum = add_i32(sum, mul_i32(u32_as_i32(tap), x));
-            n += 1;
-            place += 1;
+    for row in 0..19 {
+        for place in 0..10 {
+            let tap = taps[row][place].cast_signed();
+            let x = input_back(cells, input, taken, row * 10 + place);
+            sum = sum.wrapping_add(tap.wrapping_mul(x));
         }
-        row += 1;
     }
     sum
 }
 
 // The last 190 inputs when all of input has come.
 fn keep(cells: &[i32; 190], input: &[i32]) -> [i32; 190]
-    requires { length cells.now ≡ 190 }
     ensures { result ≡ kept cells.now input.now }
 {
     let mut last = [0i32; 190];
-    let mut n: usize = 0;
-    while n < 190 {
+    for n in 0..190 {
         last[n] = input_back(cells, input, input.len(), n);
-        n += 1;
     }
     last
 }
 
-// The outputs of a block to the front of out; the rest of out stays. Gives the countdown after it.
-fn weigh_each(cells: &[i32; 190], countdown: usize, input: &[i32], out: &mut [i32]) -> usize
-    requires { (length cells.now ≡ 190) × (countdown < 2 ^ 32) × (needed (length input.now) countdown 63 ≤ length out.old) }
-    ensures { (result ≡ due_in countdown (length input.now))
-        × (out.new ≡ over (outputs_from cells.now countdown input.now) out.old) }
+// The outputs of a block, `need` of them, to the front of out; the rest of out stays.
+fn weigh_each(cells: &[i32; 190], countdown: usize, input: &[i32], out: &mut [i32], need: usize)
+    requires { (need ≡ needed (length input.now) countdown 63) × (need ≤ length out.old) }
+    ensures { out.new ≡ over (outputs_from cells.now countdown input.now) out.old }
 {
-    let mut due = countdown;
-    let mut k: usize = 0;
-    while due < input.len() {
-        let taken = due + 1;
-        let y = weigh(cells, input, taken);
-        out[k] = y;
-        k += 1;
-        due += 64;
+    for k in 0..need {
+        out[k] = weigh(cells, input, countdown + k * 64 + 1);
     }
-    due - input.len()
 }
 
 impl Fir {
@@ -164,53 +116,37 @@ impl Fir {
     }
 
     // Takes the input x. Gives an output where the countdown is 0, and then the next at the 64th input after it.
-    pub fn decimate(self, x: i32) -> Stepped
-        ensures { result ≡ stepped_of self x }
+    pub fn decimate(&mut self, x: i32) -> Option<i32>
+        ensures { (result ≡ (stepped_of self.old x).out) × (self.new ≡ (stepped_of self.old x).state) }
     {
         let before = self.cells;
-        let countdown = self.countdown;
         let input = [x];
-        let cells = keep(&before, &input);
-        if countdown != 0 {
-            let left = countdown - 1;
-            return Stepped {
-                state: Fir {
-                    cells,
-                    countdown: left,
-                },
-                out: Out::Nothing,
-            };
+        self.cells = keep(&before, &input);
+        if self.countdown != 0 {
+            self.countdown -= 1;
+            return None;
         }
         let y = weigh(&before, &input, 1);
-        Stepped {
-            state: Fir {
-                cells,
-                countdown: 63,
-            },
-            out: Out::Given(y),
-        }
+        self.countdown = 63;
+        Some(y)
     }
 
     // Takes the inputs in turn and writes their outputs to the front of out; the rest of out stays. It answers how
     // many are written. Refused with 20 where out is shorter than the block needs; a refused block changes nothing.
-    pub fn decimate_block(self, input: &[i32], out: &mut [i32]) -> Decimated
-        ensures { (result ≡ decimated_of self input.now out.old)
-            × (out.new ≡ written_of self input.now out.old) }
+    pub fn decimate_block(&mut self, input: &[i32], out: &mut [i32]) -> Result<usize, Refusal>
+        ensures { (result ≡ (decimated_of self.old input.now out.old).wrote)
+            × (self.new ≡ (decimated_of self.old input.now out.old).state)
+            × (out.new ≡ written_of self.old input.now out.old) }
     {
         let before = self.cells;
+        let countdown = self.countdown as usize;
         let need = low_rate(input.len(), self.countdown, 63);
         if out.len() < need {
-            return Decimated {
-                state: self,
-                wrote: Wrote::Refused(20),
-            };
+            return Err(Refusal::ShortOutput);
         }
-        let left = weigh_each(&before, self.countdown as usize, input, out);
-        let cells = keep(&before, input);
-        let countdown = left as u32;
-        Decimated {
-            state: Fir { cells, countdown },
-            wrote: Wrote::Outputs(need),
-        }
+        weigh_each(&before, countdown, input, out, need);
+        self.cells = keep(&before, input);
+        self.countdown = (countdown + need * 64 - input.len()) as u32;
+        Ok(need)
     }
 }

@@ -63,16 +63,11 @@ fn main(rt: HostRuntime) -> io::Result<()> {
     let read = read_form1(
         b"set\t1\ncic\tcrankshaft\t3\t1\t63\nwdf\thalfband\t2\ta1\t-1073741824\t536870912\nwdf\told\t1\te\t-1073741824\n",
     );
-    let settings = read.settings;
-    let count = settings.count;
-    let entries = settings.entries;
-    let mut i: usize = 0;
-    while i < count {
-        if 64 <= i {
-            return Ok(());
-        }
-        run(&rt, entries[i])?;
-        i += 1;
+    let Ok(settings) = read else {
+        return Ok(());
+    };
+    for entry in &settings.entries[..settings.count.min(64)] {
+        run(&rt, *entry)?;
     }
     Ok(())
 }

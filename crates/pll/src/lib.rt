@@ -73,6 +73,7 @@ fn scaled(a1: i32, f0: i64) -> i64
 
 impl PLL {
     // The wide state f0 after the lead lag, from the last two values y0 and y1 after the Nyquist zero.
+    #[tactic(auto, using(words::proofs::Std::signed, crate::proofs::Sums::lead))]
     fn lead_lag(self, f0: i64, y0: i32, y1: i32) -> i64
         ensures { result ≡ lead_lag self f0 y0 y1 }
     {

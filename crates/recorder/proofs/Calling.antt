@@ -1,57 +1,39 @@
--- What a call on the filter makes of a recorder, by its answer.
-use mathlib.Core.Path.{◌≡◌, refl, sym, ap, ap₂, ◌∙◌}
-use mathlib.Core.Bool.{Bool, true, false}
-use mathlib.Core.List.{List, [], ◌∷◌, ◌++◌}
-use Prim.Native.Nat.{ℕ, suc, ◌≤◌, ◌<◌}
-use lib.IntN.{ℤ}
-use lib.ListN.{length, take, drop}
+-- What `take` makes of a recorder: words are refused, or their turns go through the filter.
+use Rattle.std.proofs.Common.{◌≡◌, ℕ, suc, ◌≤◌, ◌<◌, Bool, true, false, ℤ, List, [], ◌∷◌, ◌++◌, length, take, drop, refl, sym, ap, ◌∙◌, lt-ltb, le-ltb, ne_eqb, eq-eqb}
+use Rattle.std.specs.Prelude.{Result, Ok, Err}
 use lib.Seq.{take-append_seam}
-use borrow.Author.Tests.{lt-ltb, le-ltb}
+use Rattle.blocks.specs.declared.refusal.Refusal.{Refusal}
+use Rattle.blocks.specs.Refusals.{answer}
+use Rattle.blocks.proofs.Refusals.{taken_number}
 use Rattle.blocks.specs.Scan.{ends}
-use Rattle.blocks.specs.declared.Verdict.{Verdict}
-use Rattle.shape.specs.declared.runs.Wrote.{Wrote}
 use Rattle.unwrap.specs.declared.unwrapper.Unwrapper.{Unwrapper}
 use Rattle.unwrap.specs.Phases.{grown}
-use Rattle.sums.specs.Counted.{Counted, block_out}
-use Rattle.cic64.specs.Word.{word_ops}
-use Rattle.cic64.specs.Reading.{counted_of}
-use Rattle.cic64.specs.Answers.{made_of, decimated_of}
-use Rattle.cic64.specs.declared.state.Cic.{Cic}
-use Rattle.cic64.specs.declared.state.Made.{Made}
-use Rattle.cic64.specs.declared.runs.Decimated.{Decimated}
-use Rattle.recorder.specs.Calls.{ready_by, made_ready, ready_of, turn_out, turns_from, refused_take, onward, block_took, took_of, turns_left, out_left}
+use Rattle.sums.specs.Counted.{Counted, block_number, block_state, block_out}
+use Rattle.shape.specs.declared.runs.Written.{Written}
+use Rattle.shape.specs.Answers.{block_wrote}
+use Rattle.shape.proofs.Ways.{never}
+use Rattle.cic.specs.Reading.{counted_of, cic_of}
+use Rattle.cic.specs.declared.state.Cic.{Cic}
+use Rattle.recorder.specs.Calls.{word_ops, turn_out, turns_from, block_took, took_of, took_answer, turns_left, out_left}
 use Rattle.recorder.specs.declared.recorder.Recorder.{Recorder}
-use Rattle.recorder.specs.declared.recorder.Ready.{Ready}
-use Rattle.recorder.specs.declared.recorder.Took.{Took}
 
-pub ready_as : (kept : Recorder) (plugged : Bool) (turns : Unwrapper) (f : Cic) (v w : Verdict) → v ≡ w
-    → ready_by kept plugged turns f w ≡ ready_by kept plugged turns f v
-ready_as kept plugged turns f v w e = ap (ready_by kept plugged turns f) (sym e)
-
-pub ready_is : (kept : Recorder) (plugged : Bool) (turns : Unwrapper) (number : ℕ) (c : Counted ℤ) (m : Made) (r : Ready)
-    → m ≡ made_of number c → r ≡ made_ready kept plugged turns m → r ≡ ready_of kept number plugged turns c
-ready_is kept plugged turns number c m r e w = w ∙ ap (made_ready kept plugged turns) e
-
-abbrev took_by : Unwrapper → Unwrapper → Cic → Wrote → Took
-took_by before after f w = record { recorder = record { plugged = true; turns = onward w before after; filter = f }; wrote = w }
-
-pub took_as : (before after : Unwrapper) (f : Cic) (v w : Wrote) → v ≡ w → took_by before after f w ≡ took_by before after f v
-took_as before after f v w e = ap (took_by before after f) (sym e)
-
--- words are refused, or their turns go through the filter
 scan-length : (u : Unwrapper) (ws : List ℤ) → length (turns_from u ws) ≡ length ws
 scan-length u [] = refl
 scan-length u (w ∷ ws) = ap suc (scan-length (grown u w) ws)
 
-pub take_short : (s : Recorder) (ws turns out : List ℤ) → length turns < length ws
-    → (refused_take s 20 ≡ took_of s ws turns out) × (turns ≡ turns_left s ws turns) × (out ≡ out_left s ws turns out)
-unfolding took_of turns_left out_left
-take_short s ws turns out h = let e = lt-ltb (length turns) (length ws) h in (rw e, rw e, rw e)
+-- what a call leaves and answers
+abbrev pub Takes : Recorder → List ℤ → List ℤ → List ℤ → Recorder → Result Written Refusal → List ℤ → List ℤ → Type 0
+Takes s ws turns out t r ts left =
+    (t ≡ took_of s ws turns out) × (r ≡ took_answer s ws turns out) × (ts ≡ turns_left s ws turns) × (left ≡ out_left s ws turns out)
+
+pub take_short : (s : Recorder) (ws turns out : List ℤ) → length turns < length ws → Takes s ws turns out s (Err Refusal.ShortOutput) turns out
+unfolding took_of took_answer turns_left out_left
+take_short s ws turns out h = let e = lt-ltb (length turns) (length ws) h in (rw e, rw e, rw e, rw e)
 
 pub take_out : (s : Recorder) (ws turns out : List ℤ) → length ws ≤ length turns → s.plugged ≡ false
-    → (refused_take s 87 ≡ took_of s ws turns out) × (turns ≡ turns_left s ws turns) × (out ≡ out_left s ws turns out)
-unfolding took_of turns_left out_left
-take_out s ws turns out h p = let e = le-ltb (length turns) (length ws) h in (rw (e, p), rw (e, p), rw (e, p))
+    → Takes s ws turns out s (Err Refusal.PlugOut) turns out
+unfolding took_of took_answer turns_left out_left
+take_out s ws turns out h p = let e = le-ltb (length turns) (length ws) h in (rw (e, p), rw (e, p), rw (e, p), rw (e, p))
 
 module _ (s : Recorder) (ws turns out : List ℤ) (h : length ws ≤ length turns) (p : s.plugged ≡ true) where
   pub front : (ts : List ℤ) → ts ≡ turns_from s.turns ws → take (length ws) (ts ++ drop (length ws) turns) ≡ ts
@@ -62,17 +44,41 @@ module _ (s : Recorder) (ws turns out : List ℤ) (h : length ws ≤ length turn
   pub front_length : (ts : List ℤ) → ts ≡ turns_from s.turns ws → length ws ≡ length (take (length ws) (ts ++ drop (length ws) turns))
   front_length ts t = sym (ap length (front ts t) ∙ ap length t ∙ scan-length s.turns ws)
 
-  pub take-through : (u : Unwrapper) (ts : List ℤ) (d : Decimated) (left : List ℤ) (r : Took)
-      → u ≡ ends turn_out grown s.turns ws → ts ≡ turns_from s.turns ws
-      → d ≡ decimated_of s.filter (take (length ws) (ts ++ drop (length ws) turns)) out
-      → left ≡ block_out word_ops (counted_of s.filter) (take (length ws) (ts ++ drop (length ws) turns)) out
-      → r ≡ block_took s.turns u d
-      → (r ≡ took_of s ws turns out) × (ts ++ drop (length ws) turns ≡ turns_left s ws turns) × (left ≡ out_left s ws turns out)
-  unfolding took_of turns_left out_left
-  take-through u ts d left r a t b c g =
-      let e = le-ltb (length turns) (length ws) h in
-      let x : take (length ws) (ts ++ drop (length ws) turns) ≡ turns_from s.turns ws = front ts t ∙ t in (
-        g ∙ rw (e, p) (ap₂ (block_took s.turns) a (b ∙ ap (λ l. decimated_of s.filter l out) x)),
-        rw (e, p) (ap (λ l. l ++ drop (length ws) turns) t),
-        rw (e, p) (c ∙ ap (λ l. block_out word_ops (counted_of s.filter) l out) x),
-      )
+  -- the filter's block of the turns left f, answered r and left `left`
+  module _ (ts : List ℤ) (et : ts ≡ turns_from s.turns ws) (f : Cic ℤ) (r : Result Written Refusal) (left : List ℤ)
+      (a : counted_of f ≡ block_state word_ops (counted_of s.filter) (take (length ws) (ts ++ drop (length ws) turns)) out)
+      (b : r ≡ block_wrote word_ops (counted_of s.filter) (take (length ws) (ts ++ drop (length ws) turns)) out)
+      (c : left ≡ block_out word_ops (counted_of s.filter) (take (length ws) (ts ++ drop (length ws) turns)) out) where
+    x : take (length ws) (ts ++ drop (length ws) turns) ≡ turns_from s.turns ws
+    x = front ts et ∙ et
+
+    number : ℕ
+    number = block_number (counted_of s.filter) (turns_from s.turns ws) out
+
+    answered : r ≡ block_wrote word_ops (counted_of s.filter) (turns_from s.turns ws) out
+    answered = b ∙ ap (λ (l : List ℤ). block_wrote word_ops (counted_of s.filter) l out) x
+
+    filter_is : f ≡ cic_of (block_state word_ops (counted_of s.filter) (turns_from s.turns ws) out)
+    filter_is = ap cic_of a ∙ ap (λ (l : List ℤ). cic_of (block_state word_ops (counted_of s.filter) l out)) x
+
+    through : (u : Unwrapper) → ◌≡◌ {A = Recorder} (record { plugged = s.plugged; turns = u; filter = f }) (block_took s ws out)
+        → Takes s ws turns out (record { plugged = s.plugged; turns = u; filter = f }) r (ts ++ drop (length ws) turns) left
+    unfolding took_of took_answer turns_left out_left
+    through u g =
+        let e = le-ltb (length turns) (length ws) h in (
+          g ∙ rw (e, p),
+          answered ∙ rw (e, p),
+          rw (e, p) (ap (λ (l : List ℤ). l ++ drop (length ws) turns) et),
+          rw (e, p) (c ∙ ap (λ (l : List ℤ). block_out word_ops (counted_of s.filter) l out) x),
+        )
+
+    pub take-through : (w : Written) → r ≡ Ok w → (u : Unwrapper) → u ≡ ends turn_out grown s.turns ws
+        → Takes s ws turns out (record { plugged = s.plugged; turns = u; filter = f }) r (ts ++ drop (length ws) turns) left
+    unfolding number
+    take-through w o u eu =
+        through u (rw (filter_is, eu, eq-eqb number 0 (taken_number number _ w (sym o ∙ answered))))
+
+    pub take-refused : (k : Refusal) → r ≡ Err k
+        → Takes s ws turns out (record { plugged = s.plugged; turns = s.turns; filter = f }) r (ts ++ drop (length ws) turns) left
+    unfolding number
+    take-refused k o = through s.turns (rw (filter_is, ne_eqb number 0 (never number _ k (sym o ∙ answered))))

@@ -1,6 +1,8 @@
 // Lines of the table.
-use blocks::Refusal;
 use std::io;
+
+// The number of a call's refusal, 0 for none.
+pub(crate) use blocks::number as refused;
 
 pub(crate) fn text(rt: &impl Print, s: &[u8]) -> io::Result<()> {
     rt.write_all(s)
@@ -12,14 +14,6 @@ pub(crate) fn number(rt: &impl Print, n: u64) -> io::Result<()> {
 
 pub(crate) fn signed(rt: &impl Print, v: i32) -> io::Result<()> {
     rt.print(v)
-}
-
-// The number of a call's refusal, 0 for none.
-pub(crate) fn refused<T: Drop>(answer: Result<T, Refusal>) -> u32 {
-    match answer {
-        Ok(_) => 0,
-        Err(refusal) => refusal.number(),
-    }
 }
 
 fn outcome(rt: &impl Print, call: &[u8], refused: u32) -> io::Result<()> {

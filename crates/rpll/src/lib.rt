@@ -67,7 +67,6 @@ fn phase_error(f: u32, x: i32, y: i32, dt2: u32, shift: u32) -> i32
 
 impl RPLL {
     // Advances the phase by a step at the current frequency; all else stays.
-    #[tactic(auto, using(words::proofs::Std::signed, words::proofs::Std::casts, crate::proofs::Coasting::added))]
     fn advance(&mut self)
         ensures { self.new ≡ advanced_of self.old }
     {

@@ -7,6 +7,10 @@ use Prim.Native.Nat.{ℕ, ◌+◌, ◌≤◌, ◌<◌, ◌^◌}
 use lib.ListN.{length, length-append}
 use lib.Dec.{leb}
 use borrow.Author.Tests.{le-leb, leb-true, eq-eqb}
+use Rattle.std.specs.Prelude.{Result, Ok, Err}
+use Rattle.std.proofs.Math.Option.{some}
+use Rattle.blocks.specs.declared.refusal.Refusal.{Refusal}
+use Rattle.blocks.specs.Refusals.{number_of, refusal_at}
 use Rattle.text.specs.Letters.{bytes, tab, newline}
 use Rattle.text.specs.Numbers.{decimal_of}
 use Rattle.text.specs.Writing.{Wrote, Puts, overlaid}
@@ -18,16 +22,12 @@ use Rattle.settings_text.specs.Moves.{Moved}
 use Rattle.settings_text.specs.Moves as asked
 use Rattle.settings_text.specs.declared.version.Version.{Version}
 use Rattle.settings_text.specs.declared.version.Version.TheVariants.{One, Two}
-use Rattle.settings_text.proofs.Stores.{numbered}
+use Rattle.settings_text.proofs.Refusals.{read_row, move_row}
 use Rattle.store.specs.Moving.{Moves}
-use Rattle.store.specs.declared.moving.Move.{Move}
-use Rattle.store.specs.declared.moving.Move.TheVariants as moves
-use Rattle.store_read.specs.Reading.{found}
+use Rattle.store_read.specs.Reading.{found, settings_of}
 use Rattle.store_write.specs.Saving.{SavesAs, text_as}
 use Rattle.entries.specs.Entries.{number_as}
-use Rattle.store_read.specs.declared.reading.Read.{Read}
-use Rattle.store_write.specs.declared.saving.Written.{Written}
-use Rattle.store_write.specs.declared.saving.Written.TheVariants.{Bytes, Refused}
+use Rattle.store_read.specs.declared.reading.BadLine.{BadLine}
 use Rattle.entries.specs.declared.settings.Settings.{Settings}
 use Rattle.store_laws.proofs.Copied.{copy_same}
 use Rattle.settings.specs.Answers.{ok_form, ok_answer, bad_answer, checked, copied, move_answer, Gave}
@@ -76,106 +76,113 @@ module _ (o : List ℕ) (room : 36 ≤ length o) where
 pub gave_same : {o xs ys : List ℕ} {r : ℕ} {o' : List ℕ} → xs ≡ ys → Gave o xs r o' → Gave o ys r o'
 gave_same e g = record { wrote = wrote-same e g.wrote; inside = g.inside }
 
--- a number above 0 is a refusal's, and 0 is that of settings
-module _ (v : Version) (text : List ℕ) (r : Read) (e : r ≡ found (read_of (form_of v) text)) where
-  pub bad_checked : (r.number ≡ 0 → ⊥) → bad_answer r.line r.number ≡ checked v (read_of (form_of v) text)
-  bad_checked h = by (read_of (form_of v) text) e
-    where
-      by : (f : Found Setting) → r ≡ found f → bad_answer r.line r.number ≡ checked v f
-      by (Good ss) q = absurd (h (ap (λ (x : Read). x.number) q))
-      by (Bad line n) q = rw q
+-- what was found tells the answer
+module _ (v : Version) (text : List ℕ) where
+  told : (line n : ℕ) (b : BadLine) → read_of (form_of v) text ≡ Bad line n → Err b ≡ found (Bad line n)
+      → bad_answer b.line (number_of b.refusal) ≡ bad_answer line n
+  told line n b f e =
+      let q : b ≡ record { line = line; refusal = refusal_at n } = cc in
+      rw (q, read_row v text line n f)
 
-  pub bad_copied : (r.number ≡ 0 → ⊥) → bad_answer r.line r.number ≡ copied text (read_of (form_of v) text)
-  bad_copied h = by (read_of (form_of v) text) e
-    where
-      by : (f : Found Setting) → r ≡ found f → bad_answer r.line r.number ≡ copied text f
-      by (Good ss) q = absurd (h (ap (λ (x : Read). x.number) q))
-      by (Bad line n) q = rw q
+  module _ (b : BadLine) (e : Err b ≡ found (read_of (form_of v) text)) where
+    pub bad_checked : bad_answer b.line (number_of b.refusal) ≡ checked v (read_of (form_of v) text)
+    bad_checked = by (read_of (form_of v) text) refl e
+      where
+        by : (f : Found Setting) → read_of (form_of v) text ≡ f → Err b ≡ found f → bad_answer b.line (number_of b.refusal) ≡ checked v f
+        by (Good ss) p q = cc
+        by (Bad line n) p q = told line n b p q
+
+    pub bad_copied : bad_answer b.line (number_of b.refusal) ≡ copied text (read_of (form_of v) text)
+    bad_copied = by (read_of (form_of v) text) refl e
+      where
+        by : (f : Found Setting) → read_of (form_of v) text ≡ f → Err b ≡ found f → bad_answer b.line (number_of b.refusal) ≡ copied text f
+        by (Good ss) p q = cc
+        by (Bad line n) p q = told line n b p q
 
   -- the settings that were found
-  record Held : Type 0 where
+  record Held (s : Settings) : Type 0 where
     pub ss : List Setting
     pub are : read_of (form_of v) text ≡ Good ss
-    pub by_value : r.settings ≡ (found (Good ss)).settings
+    pub by_value : s ≡ settings_of ss
 
-  held : r.number ≡ 0 → Held
-  held h = by (read_of (form_of v) text) refl e
-    where
-      by : (f : Found Setting) → read_of (form_of v) text ≡ f → r ≡ found f → Held
-      by (Good ss) p q = record { ss = ss; are = p; by_value = ap (λ (x : Read). x.settings) q }
-      by (Bad line n) p q =
-          let z : n ≡ 0 = sym (ap (λ (x : Read). x.number) q) ∙ h in
-          absurd (numbered (form_of v) text line (p ∙ ap (Bad line) z))
+  module _ (s : Settings) (e : Ok s ≡ found (read_of (form_of v) text)) where
+    held : Held s
+    held = by (read_of (form_of v) text) refl e
+      where
+        by : (f : Found Setting) → read_of (form_of v) text ≡ f → Ok s ≡ found f → Held s
+        by (Good ss) p q = let i : s ≡ settings_of ss = cc in record { ss = ss; are = p; by_value = i }
+        by (Bad line n) p q = cc
 
-  pub ok_checked : r.number ≡ 0 → ok_answer v r.settings.count ≡ checked v (read_of (form_of v) text)
-  ok_checked h =
-      let g = held h in
-      ap (λ (x : Settings). ok_answer v x.count) g.by_value ∙ sym (ap (checked v) g.are)
+    pub ok_checked : ok_answer v s.count ≡ checked v (read_of (form_of v) text)
+    ok_checked =
+        let g = held in
+        ap (λ (x : Settings). ok_answer v x.count) g.by_value ∙ sym (ap (checked v) g.are)
 
-  module _ (h : r.number ≡ 0) (o : List ℕ) (room : length text ≤ length o) (w : Written) (o' : List ℕ)
-      (s : SavesAs v r.settings o w o') where
-    none : number_as v r.settings ≡ 0
-    none = let g = held h in ap (number_as v) g.by_value ∙ (copy_same v text g.ss g.are).0
+    none : number_as v s ≡ 0
+    none = let g = held in ap (number_as v) g.by_value ∙ (copy_same v text g.ss g.are).0
 
-    same_text : text_as v r.settings ≡ text
-    same_text = let g = held h in ap (text_as v) g.by_value ∙ (copy_same v text g.ss g.are).1
+    same_text : text_as v s ≡ text
+    same_text = let g = held in ap (text_as v) g.by_value ∙ (copy_same v text g.ss g.are).1
 
-    fits : length (text_as v r.settings) ≤ length o
-    fits = let e = ap length same_text in omega arith
+    module _ (o : List ℕ) (room : length text ≤ length o) (o' : List ℕ) where
+      fits : length (text_as v s) ≤ length o
+      fits = let e = ap length same_text in omega arith
 
-    pub copies : (n : ℕ) → w ≡ Bytes n → Gave o (copied text (read_of (form_of v) text)) n o'
-    copies n p =
-        let g = held h in
-        let a : w ≡ Bytes (length (text_as v r.settings)) = s.answer ∙ rw (eq-eqb _ _ none, le-leb _ _ fits) in
-        let q : Bytes n ≡ Bytes (length (text_as v r.settings)) = sym p ∙ a in
-        let m : n ≡ length (text_as v r.settings) = cc in
-        let c : text ≡ copied text (read_of (form_of v) text) = sym (ap (copied text) g.are) in
-        let k : n ≡ 0 + length (text_as v r.settings) = m ∙ omega arith in
-        let t : Wrote o 0 (text_as v r.settings) n o' =
-        record { next = k; text = s.written ∙ rw (eq-eqb _ _ none, le-leb _ _ fits) } in
-        let l = wrote-length (omega (arith, fits)) t in
-        gave_same (same_text ∙ c) (record { wrote = t; inside = omega (arith, fits) })
+      pub copies : (n : ℕ) → SavesAs v s o (Ok n) o' → Gave o (copied text (read_of (form_of v) text)) n o'
+      copies n w =
+          let g = held in
+          let q : ◌≡◌ {A = Result ℕ Refusal} (Ok n) (Ok (length (text_as v s))) = w.answer ∙ rw (eq-eqb _ _ none, le-leb _ _ fits) in
+          let m : n ≡ length (text_as v s) = cc in
+          let c : text ≡ copied text (read_of (form_of v) text) = sym (ap (copied text) g.are) in
+          let k : n ≡ 0 + length (text_as v s) = m ∙ omega arith in
+          let t : Wrote o 0 (text_as v s) n o' = record { next = k; text = w.written ∙ rw (eq-eqb _ _ none, le-leb _ _ fits) } in
+          let l = wrote-length (omega (arith, fits)) t in
+          gave_same (same_text ∙ c) (record { wrote = t; inside = omega (arith, fits) })
 
-    pub never : (n : ℕ) → w ≡ Refused n → ⊥
-    never n p =
-        let a : w ≡ Bytes (length (text_as v r.settings)) = s.answer ∙ rw (eq-eqb _ _ none, le-leb _ _ fits) in
-        let q : Refused n ≡ Bytes (length (text_as v r.settings)) = sym p ∙ a in
-        let z : ◌≡◌ {A = ℕ} 0 1 = cc in
-        omega arith
+      pub never : (r : Refusal) → SavesAs v s o (Err r) o' → ⊥
+      never r w =
+          let q : ◌≡◌ {A = Result ℕ Refusal} (Err r) (Ok (length (text_as v s))) = w.answer ∙ rw (eq-eqb _ _ none, le-leb _ _ fits) in
+          cc
 
 -- a move's text stands at the buffer's start; a refusal leaves the buffer as it was
-pub moved-bytes : (m : Moved) (o : List ℕ) (r : Move) (o' : List ℕ) (n : ℕ) → Moves m o r o' → r ≡ moves.Bytes n → Gave o (move_answer m o) n o'
-moved-bytes (asked.Refused line k) o r o' n w e = absurd
-    (let q : moves.Bytes n ≡ moves.Refused line k = sym e ∙ w.answer in let z : ◌≡◌ {A = ℕ} 0 1 = cc in omega arith)
-moved-bytes (asked.Text t) o r o' n w e = by (leb (length t) (length o)) refl w.answer w.written
+pub moved-bytes : (m : Moved) (o o' : List ℕ) (n : ℕ) → Moves m o (Ok n) o' → Gave o (move_answer m o) n o'
+moved-bytes (asked.Refused line k) o o' n w = let q = w.answer in cc
+moved-bytes (asked.Text t) o o' n w = by (leb (length t) (length o)) refl w.answer w.written
   where
-    by : (b : Bool) → leb (length t) (length o) ≡ b → r ≡ cond b (moves.Bytes (length t)) (moves.Refused 0 20)
+    by : (b : Bool) → leb (length t) (length o) ≡ b
+        → ◌≡◌ {A = Result ℕ BadLine} (Ok n) (cond b (Ok (length t)) (Err (record { line = 0; refusal = refusal_at 20 })))
         → o' ≡ cond b (overlaid o 0 t) o → Gave o (cond b t (bad_answer 0 20)) n o'
     by true f a c =
-        let q : moves.Bytes n ≡ moves.Bytes (length t) = sym e ∙ a in
         let m : n ≡ length t = cc in
         let k : n ≡ 0 + length t = m ∙ omega arith in
         let h = leb-true (length t) (length o) f in
         let x : Wrote o 0 t n o' = record { next = k; text = c } in
         let l = wrote-length (omega arith) x in
         record { wrote = x; inside = omega arith }
-    by false f a c = absurd
-        (let q : moves.Bytes n ≡ moves.Refused 0 20 = sym e ∙ a in let z : ◌≡◌ {A = ℕ} 0 1 = cc in omega arith)
+    by false f a c = cc
 
-pub moved_bad : (m : Moved) (o : List ℕ) (r : Move) (o' : List ℕ) (line n : ℕ) → Moves m o r o' → r ≡ moves.Refused line n
-    → (o' ≡ o) × (bad_answer line n ≡ move_answer m o)
-moved_bad (asked.Refused k j) o r o' line n w e =
-    let q : moves.Refused line n ≡ moves.Refused k j = sym e ∙ w.answer in
-    let x : line ≡ k = cc in
-    let y : n ≡ j = cc in
-    (w.written, rw (x, y))
-moved_bad (asked.Text t) o r o' line n w e = by (leb (length t) (length o)) w.answer w.written
+short_row : number_of (refusal_at 20) ≡ 20
+unfolding refusal_at
+short_row = refl
+
+pub moved_bad : (m : Moved) (o o' : List ℕ) (b : BadLine) → ((line k : ℕ) → m ≡ asked.Refused line k → number_of (refusal_at k) ≡ k)
+    → Moves m o (Err b) o' → (o' ≡ o) × (bad_answer b.line (number_of b.refusal) ≡ move_answer m o)
+moved_bad (asked.Refused k j) o o' b row w =
+    let a = w.answer in
+    let q : b ≡ record { line = k; refusal = refusal_at j } = cc in
+    (w.written, rw (q, row k j refl))
+moved_bad (asked.Text t) o o' b row w = by (leb (length t) (length o)) w.answer w.written
   where
-    by : (b : Bool) → r ≡ cond b (moves.Bytes (length t)) (moves.Refused 0 20) → o' ≡ cond b (overlaid o 0 t) o
-        → (o' ≡ o) × (bad_answer line n ≡ cond b t (bad_answer 0 20))
-    by true a c = absurd (let q : moves.Refused line n ≡ moves.Bytes (length t) = sym e ∙ a in let z : ◌≡◌ {A = ℕ} 0 1 = cc in omega arith)
+    by : (x : Bool) → ◌≡◌ {A = Result ℕ BadLine} (Err b) (cond x (Ok (length t)) (Err (record { line = 0; refusal = refusal_at 20 })))
+        → o' ≡ cond x (overlaid o 0 t) o → (o' ≡ o) × (bad_answer b.line (number_of b.refusal) ≡ cond x t (bad_answer 0 20))
+    by true a c = cc
     by false a c =
-        let q : moves.Refused line n ≡ moves.Refused 0 20 = sym e ∙ a in
-        let x : line ≡ 0 = cc in
-        let y : n ≡ 20 = cc in
-        (c, rw (x, y))
+        let q : b ≡ record { line = 0; refusal = refusal_at 20 } = cc in
+        (c, rw (q, short_row))
+
+module _ (text o o' : List ℕ) (b : BadLine) where
+  pub forth_bad : Moves (asked.forth text) o (Err b) o' → (o' ≡ o) × (bad_answer b.line (number_of b.refusal) ≡ move_answer (asked.forth text) o)
+  forth_bad w = moved_bad (asked.forth text) o o' b (λ line k e. move_row One Two (λ s. some (asked.raised s)) text line k e) w
+
+  pub back_bad : Moves (asked.back text) o (Err b) o' → (o' ≡ o) × (bad_answer b.line (number_of b.refusal) ≡ move_answer (asked.back text) o)
+  back_bad w = moved_bad (asked.back text) o o' b (λ line k e. move_row Two One asked.lowered text line k e) w

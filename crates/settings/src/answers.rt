@@ -1,14 +1,15 @@
 // What is answered to a store: bytes put at the start of a lent buffer that has room.
 ghost use Rattle.std.specs.Prelude.{◌≤◌, length};
+ghost use Rattle.blocks.specs.Refusals.{number_of};
 ghost use Rattle.text.specs.Writing.{Puts};
 ghost use Rattle.settings_text.specs.Lines.{version_of};
 ghost use Rattle.settings_text.specs.Moves.{forth, back};
 ghost use Rattle.settings.specs.Answers.{Gave, ok_form, ok_answer, bad_answer, checked, copied, found_in, move_answer};
 
 use settings_text::version::Version;
-use store::moving::{Move, move_back, move_forth};
-use store_read::reading::{form_of, read_store};
-use store_write::saving::{Written, write_store};
+use store::moving::{move_back, move_forth};
+use store_read::reading::{BadLine, form_of, read_store};
+use store_write::saving::write_store;
 use text::writing::{put_byte, put_bytes, put_decimal};
 
 // `ok` and the form.
@@ -33,12 +34,13 @@ fn put_ok(version: Version, count: usize, out: &mut [u8]) -> usize
 }
 
 // `bad`, line number from 1, refusal number.
-fn put_bad(line: usize, number: u32, out: &mut [u8]) -> usize
+fn put_bad(bad: BadLine, out: &mut [u8]) -> usize
     requires { 36 ≤ length out.old }
-    ensures { Gave out.old (bad_answer line number) result out.new }
+    ensures { Gave out.old (bad_answer bad.line (number_of bad.refusal)) result out.new }
 {
+    let number = bad.refusal.number();
     let a = put_bytes(out, 0, b"bad\t");
-    let b = put_decimal(out, a, line as u64);
+    let b = put_decimal(out, a, bad.line as u64);
     let c = put_byte(out, b, b'\t');
     let d = put_decimal(out, c, number as u64);
     put_byte(out, d, b'\n')
@@ -50,13 +52,10 @@ pub(crate) fn put_checked(text: &[u8], out: &mut [u8]) -> usize
     ensures { Gave out.old (checked (version_of text.now) (found_in text.now)) result out.new }
 {
     let version = form_of(text);
-    let read = read_store(version, text);
-    let number = read.number;
-    if number != 0 {
-        return put_bad(read.line, number, out);
+    match read_store(version, text) {
+        Ok(settings) => put_ok(version, settings.count, out),
+        Err(bad) => put_bad(bad, out),
     }
-    let settings = read.settings;
-    put_ok(version, settings.count, out)
 }
 
 // The answer of `copy`.
@@ -65,15 +64,12 @@ pub(crate) fn put_copied(text: &[u8], out: &mut [u8]) -> usize
     ensures { Gave out.old (copied text.now (found_in text.now)) result out.new }
 {
     let version = form_of(text);
-    let read = read_store(version, text);
-    let number = read.number;
-    if number != 0 {
-        return put_bad(read.line, number, out);
-    }
-    let settings = read.settings;
-    match write_store(version, settings, out) {
-        Written::Bytes(n) => n,
-        Written::Refused(n) => put_bad(0, n, out),
+    match read_store(version, text) {
+        Ok(settings) => match write_store(version, settings, out) {
+            Ok(n) => n,
+            Err(refusal) => put_bad(BadLine { line: 0, refusal }, out),
+        },
+        Err(bad) => put_bad(bad, out),
     }
 }
 
@@ -83,8 +79,8 @@ pub(crate) fn put_forth(text: &[u8], out: &mut [u8]) -> usize
     ensures { Gave out.old (move_answer (forth text.now) out.old) result out.new }
 {
     match move_forth(text, out) {
-        Move::Bytes(n) => n,
-        Move::Refused(line, number) => put_bad(line, number, out),
+        Ok(n) => n,
+        Err(bad) => put_bad(bad, out),
     }
 }
 
@@ -94,7 +90,7 @@ pub(crate) fn put_back(text: &[u8], out: &mut [u8]) -> usize
     ensures { Gave out.old (move_answer (back text.now) out.old) result out.new }
 {
     match move_back(text, out) {
-        Move::Bytes(n) => n,
-        Move::Refused(line, number) => put_bad(line, number, out),
+        Ok(n) => n,
+        Err(bad) => put_bad(bad, out),
     }
 }

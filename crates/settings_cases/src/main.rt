@@ -8,13 +8,14 @@
 
 ghost use Rattle.std.specs.Prelude.{◌≡◌, ◌≤◌, ◌<◌, length, IfOk};
 
+use blocks::Refusal;
 use entries::settings::{Entry, Kind, Name, Settings};
 use settings_text::version::Version;
 use std::io;
 use std::io::Read;
-use store::moving::{Move, move_back, move_forth};
-use store_read::reading::{form_of, read_store};
-use store_write::saving::{Written, write_store};
+use store::moving::{move_back, move_forth};
+use store_read::reading::{BadLine, form_of, read_store};
+use store_write::saving::write_store;
 use text::comparing::same_bytes;
 use text::parts::part_end;
 
@@ -26,11 +27,11 @@ fn print_number(rt: &impl Print, n: u64) -> io::Result<()> {
     rt.print(n)
 }
 
-fn print_bad(rt: &impl Print, line: usize, number: u32) -> io::Result<()> {
+fn print_bad(rt: &impl Print, bad: BadLine) -> io::Result<()> {
     print(rt, b"\tbad\t")?;
-    print_number(rt, line as u64)?;
+    print_number(rt, bad.line as u64)?;
     print(rt, b"\t")?;
-    print_number(rt, number as u64)?;
+    print_number(rt, bad.refusal.number() as u64)?;
     print(rt, b"\n")
 }
 
@@ -41,12 +42,12 @@ fn print_bytes(rt: &impl Print, n: usize) -> io::Result<()> {
 }
 
 // What writing answers.
-fn print_written(rt: &impl Print, w: Written) -> io::Result<()> {
-    match w {
-        Written::Bytes(n) => print_bytes(rt, n)?,
-        Written::Refused(n) => {
+fn print_written(rt: &impl Print, wrote: Result<usize, Refusal>) -> io::Result<()> {
+    match wrote {
+        Ok(n) => print_bytes(rt, n)?,
+        Err(refusal) => {
             print(rt, b"\tbad\t")?;
-            print_number(rt, n as u64)?;
+            print_number(rt, refusal.number() as u64)?;
             print(rt, b"\n")?;
         }
     }
@@ -54,10 +55,10 @@ fn print_written(rt: &impl Print, w: Written) -> io::Result<()> {
 }
 
 // What a move answers.
-fn print_moved(rt: &impl Print, m: Move) -> io::Result<()> {
-    match m {
-        Move::Bytes(n) => print_bytes(rt, n)?,
-        Move::Refused(line, number) => print_bad(rt, line, number)?,
+fn print_moved(rt: &impl Print, moved: Result<usize, BadLine>) -> io::Result<()> {
+    match moved {
+        Ok(n) => print_bytes(rt, n)?,
+        Err(bad) => print_bad(rt, bad)?,
     }
     Ok(())
 }
@@ -65,39 +66,39 @@ fn print_moved(rt: &impl Print, m: Move) -> io::Result<()> {
 // Whether the settings are written as the bytes that they were read from.
 fn comes_back(version: Version, settings: Settings, text: &[u8], out: &mut [u8]) -> bool {
     match write_store(version, settings, out) {
-        Written::Bytes(n) => {
+        Ok(n) => {
             if out.len() < n {
                 return false;
             }
             same_bytes(&out[..n], text)
         }
-        Written::Refused(_) => false,
+        Err(_) => false,
     }
 }
 
 // Whether a text of form 2 is moved back to these bytes.
 fn is_back(there: &[u8], text: &[u8], out: &mut [u8]) -> bool {
     match move_back(there, out) {
-        Move::Bytes(n) => {
+        Ok(n) => {
             if out.len() < n {
                 return false;
             }
             same_bytes(&out[..n], text)
         }
-        Move::Refused(_, _) => false,
+        Err(_) => false,
     }
 }
 
 // Whether a text of form 1 is the same forth and back.
 fn returns(text: &[u8], there: &mut [u8], out: &mut [u8]) -> bool {
     match move_forth(text, there) {
-        Move::Bytes(n) => {
+        Ok(n) => {
             if there.len() < n {
                 return false;
             }
             is_back(&there[..n], text, out)
         }
-        Move::Refused(_, _) => false,
+        Err(_) => false,
     }
 }
 
@@ -112,13 +113,13 @@ fn print_form(rt: &impl Print, version: Version) -> io::Result<()> {
 // Whether the text could be read in the form.
 fn show_read(rt: &impl Print, version: Version, name: &[u8], text: &[u8]) -> io::Result<bool> {
     print(rt, name)?;
-    let read = read_store(version, text);
-    let number = read.number;
-    if number != 0 {
-        print_bad(rt, read.line, number)?;
-        return Ok(false);
-    }
-    let settings = read.settings;
+    let settings = match read_store(version, text) {
+        Ok(settings) => settings,
+        Err(bad) => {
+            print_bad(rt, bad)?;
+            return Ok(false);
+        }
+    };
     print_form(rt, version)?;
     print_number(rt, settings.count as u64)?;
     print(rt, b"\n")?;

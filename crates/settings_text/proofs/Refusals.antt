@@ -25,7 +25,7 @@ use Rattle.settings_text.specs.declared.version.Version.TheVariants.{One, Two}
 pub record Known (k : ℕ) : Type 0 where
   pub back : number_in {A = Unit {0}} (answer k tt) ≡ k
 
-none_known : Known 0
+pub none_known : Known 0
 unfolding answer
 none_known = record { back = refl }
 

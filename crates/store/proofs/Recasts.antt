@@ -22,7 +22,7 @@ use Rattle.settings_text.specs.declared.version.Version.TheVariants.{One, Two}
 use Rattle.settings_text.proofs.Forms.{only-text}
 use Rattle.settings_text.proofs.Lines.{wdf_small, below}
 use Rattle.settings_text.proofs.Moves.{Keeps, list_kept, all_placed, missing, dither_missing, number_parts}
-use Rattle.settings_text.proofs.Stores.{both_zero, write_zero, no_parameter, numbered}
+use Rattle.settings_text.proofs.Stores.{both_zero, write_zero, no_parameter}
 use Rattle.entries.specs.Entries.{empty_entry, entry_of, number_as}
 use Rattle.store.specs.Moving.{Moves, unblamed, third_in, architecture_in, recast_entry, recast_in, dither_kind, any_dither_in}
 use Rattle.store_read.specs.Reading.{found, settings_of}

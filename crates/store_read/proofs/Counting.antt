@@ -2,16 +2,15 @@
 use native.Mathlib.Omega.{arith}
 use native.Mathlib.Numerals.{add-one}
 use mathlib.Core.Path.{◌≡◌, refl, sym, ap, subst, ◌∙◌}
-use mathlib.Core.Bool.{Bool, true, false, cond}
+use mathlib.Core.Bool.{true, false}
 use mathlib.Core.List.{List, [], ◌∷◌, ◌++◌, map, map-append, append_assoc, append-nil}
 use mathlib.Core.Option.{Option as Maybe, none, some}
 use Prim.Native.Nat.{ℕ, zero, suc, ◌+◌, ◌-◌, ◌*◌, ◌%◌, ◌^◌, ◌≤◌, ◌<◌, min}
-use lib.Dec.{leb}
 use lib.IntN.{ℤ, pos, negsuc}
-use lib.ListN.{length, take, drop, set, get_or, length-append, drop_of_length-le}
+use lib.ListN.{length, drop, set, get_or, length-append, drop_of_length-le}
 use lib.Seq.{drop-cons}
 use mir.Syntax.{w32}
-use borrow.Author.Tests.{lt-ltb, le-ltb, le-leb, lt-leb, leb-true, leb-false}
+use borrow.Author.Tests.{lt-ltb, le-ltb, le-leb, lt-leb}
 use Rattle.words.proofs.Reading.{word_is, wrap-word}
 use Rattle.words.specs.Words.{word, wrap}
 use Rattle.text.specs.Hex.{hex_digit}
@@ -25,8 +24,7 @@ use Rattle.text.proofs.OneSpelling.{minus_one_law}
 use Rattle.settings_text.specs.Fields.{hex_in, hexes_in, nibbles_in}
 use Rattle.entries.specs.Entries.{eight, pad_to}
 use Rattle.store_read.specs.Reading.{arch_by, numbers_read, word_by}
-use Rattle.std.specs.Prelude.{Option, Some, None}
-use Rattle.store_read.specs.declared.line.Numbers.{Numbers}
+use Rattle.std.specs.Prelude.{Some, None}
 
 -- a field's word
 module _ (field : List ℕ) (least most : ℕ) (low : least ≤ 2147483648) (high : most ≤ 4294967295) (n : Option Number)

@@ -4,15 +4,15 @@ use mathlib.Core.Path.{◌≡◌, refl, sym, ap, subst, ◌∙◌}
 use mathlib.Core.Bool.{Bool, true, false, cond}
 use mathlib.Core.List.{List, [], ◌∷◌, map}
 use mathlib.Core.Option.{Option as Maybe, none, some}
-use Prim.Native.Nat.{ℕ, zero, suc, ◌+◌, ◌%◌, ◌^◌, ◌≤◌, ◌<◌}
+use Prim.Native.Nat.{ℕ, zero, suc, ◌%◌, ◌^◌}
 use lib.Dec.{eqb}
 use lib.IntN.{ℤ, pos, negsuc, nat_abs}
 use lib.ListN.{length, get_or}
 use mir.Syntax.{w32}
 use mir.Val.{SFits, to_z, of_z}
 use mir.ValLaws.{to_z-of_z}
-use borrow.Author.Tests.{leb-true, eq-eqb, ne_eqb, eqb-true}
-use Rattle.std.specs.Prelude.{Option, Some, None}
+use borrow.Author.Tests.{leb-true, eq-eqb, ne_eqb}
+use Rattle.std.specs.Prelude.{Some, None}
 use Rattle.words.proofs.Reading.{word_is, word-wrap, wrap-fits}
 use Rattle.words.specs.Words.{word, wrap}
 use Rattle.text.specs.Letters.{bytes}

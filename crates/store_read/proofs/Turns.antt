@@ -11,7 +11,7 @@ use lib.ListN.{length, set, replicate, length-append}
 use lib.Seq.{set_at}
 use mir.Syntax.{w32}
 use borrow.Author.Tests.{eq-eqb, eqb-true, ne_eqb, leb-false}
-use Rattle.std.specs.Prelude.{Option, Some, None, Result, Ok, Err}
+use Rattle.std.specs.Prelude.{Some, None, Result, Ok, Err}
 use Rattle.blocks.specs.declared.refusal.Refusal.{Refusal}
 use Rattle.blocks.specs.Refusals.{refusal_at, answer}
 use Rattle.blocks.proofs.Refusals.{accepted, refused_too, taken_number, taken_value}
@@ -22,7 +22,7 @@ use Rattle.text.specs.Same.{same}
 use Rattle.text.proofs.Joining.{joined-parted}
 use Rattle.text.proofs.Parting.{parted-length}
 use Rattle.settings_text.specs.Lines.{Setting, form_of, heading, record_in, record_name, version_in, version_of}
-use Rattle.settings_text.specs.Stores.{Bad, Found, Good, with_first, judged, line_then, lines_in, opened_by, read_of, record_number}
+use Rattle.settings_text.specs.Stores.{Bad, Found, Good, with_first, line_then, lines_in, opened_by, read_of, record_number}
 use Rattle.settings_text.proofs.Lines.{line-fits, line-only}
 use Rattle.settings_text.specs.declared.version.Version.{Version}
 use Rattle.settings_text.specs.declared.version.Version.TheVariants.{One, Two}

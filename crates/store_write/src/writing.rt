@@ -1,4 +1,5 @@
 // A record's line, put into a lent buffer that has room for it.
+// Kept: places in the buffer, since the calls of text::writing take a place and give the next.
 ghost use Rattle.std.specs.Prelude.{◌≡◌, [], ◌∷◌, ◌++◌, map, ◌+◌, ◌*◌, ◌≤◌, ◌<◌, length, take};
 ghost use Rattle.std.specs.Int.{w32};
 ghost use Rattle.words.specs.Words.{wrap};

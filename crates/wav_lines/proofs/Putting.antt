@@ -9,7 +9,7 @@ use lib.ListN.{length, take, drop, get_or, length-append}
 use lib.Seq.{take-suc, take_all}
 use mir.Syntax.{w32}
 use mir.Val.{SFits}
-use borrow.Author.Tests.{le-leb, lt-leb}
+use borrow.Author.Tests.{le-leb}
 use Rattle.text.specs.Numbers.{signed_of}
 use Rattle.text.specs.Writing.{Wrote, Puts}
 use Rattle.text.proofs.Putting.{written, then, then_puts, wrote-same}
@@ -46,10 +46,6 @@ lines_done o o₁ xs i at h w = wrote-same (ap input_lines (take_all i xs h)) w
 
 -- the call's number, and what stands in the slice
 module _ (xs : List ℤ) (out : List ℕ) where
-  pub lines-short : length out / 14 < length xs → lines_number xs out ≡ 20
-  unfolding lines_number
-  lines-short h = rw (lt-leb (14 * length xs) (length out) (omega arith))
-
   pub lines_none : length xs ≤ length out / 14 → lines_number xs out ≡ 0
   unfolding lines_number
   lines_none h = rw (le-leb (14 * length xs) (length out) (omega arith))

@@ -147,6 +147,7 @@ fn bad_line(fields: &[u8]) -> Option<Line>
 }
 
 // The name in a line's first field.
+// Kept: a `match` on the byte strings leaves a goal at each of their bytes, which no tactic closes.
 #[tactic(auto, unfolding(crate::specs::Answers::name_in))]
 fn named(field: &[u8]) -> Option<Name>
     ensures { result ≡ name_in field.now }

@@ -169,7 +169,11 @@ impl Taking {
 }
 
 // The whole input, its samples written part by part. Gives their header, or what refuses them.
-fn run(input: &mut impl Read, to: &mut impl Write, taking: &mut Taking) -> io::Result<Result<[u8; 44], Bad>> {
+fn run(
+    input: &mut impl Read,
+    to: &mut impl Write,
+    taking: &mut Taking,
+) -> io::Result<Result<[u8; 44], Bad>> {
     let mut buffer = [0u8; 65536];
     let mut out = [0u8; 32768];
     let mut kept: usize = 0;

@@ -26,11 +26,14 @@ fn eight_digits(digits: &[u8]) -> Found
     ensures { result ≡ eight_of (hex_from 0 digits.now) }
 {
     let mut v: u64 = 0;
-    for &digit in digits {
-        let Some(d) = hex_digit(digit) else {
+    let mut i: usize = 0;
+    while i < 8 {
+        let d = hex_digit(digits[i]);
+        if 15 < d {
             return Found::Other;
-        };
+        }
         v = v * 16 + d;
+        i += 1;
     }
     Found::Word(u32_as_i32(v as u32))
 }

@@ -1,4 +1,4 @@
-use Rattle.std.proofs.Common.{◌≡◌, ℕ, ◌/◌, length, ap, ◌∙◌}
+use Rattle.std.proofs.Common.{ℕ, ◌/◌, length, ap, ◌∙◌}
 use Rattle.std.specs.Prelude.{Result}
 use Rattle.std.specs.Result.{result_unwrap_or}
 use Rattle.blocks.specs.declared.refusal.Refusal.{Refusal}

@@ -1,4 +1,4 @@
-use Rattle.std.proofs.Common.{◌≡◌, ap, ◌∙◌}
+use Rattle.std.proofs.Common.{ap, ◌∙◌}
 use Rattle.blocks.specs.Refusals.{number_in}
 use Rattle.capi_wav.proofs.Handed.{head_told}
 use Rattle.capi_wav.proofs.mittenload_wav_write_header.Goals as goal

@@ -1,5 +1,5 @@
 -- Neither count is beyond the slice that it is of (count_within).
-use Rattle.std.proofs.Common.{◌≡◌, ◌≤◌, sym}
+use Rattle.std.proofs.Common.{sym}
 use lib.Seq.{length-take-le}
 use Rattle.wav.specs.Samples.{samples_of}
 use Rattle.wav.proofs.Parts.{samples-length, bytes-length, count_within}

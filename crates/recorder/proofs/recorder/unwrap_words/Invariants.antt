@@ -4,4 +4,4 @@ use Rattle.recorder.specs.Calls.{turn_out}
 use Rattle.recorder.proofs.recorder.unwrap_words.Given as goal
 
 abbrev pub invariant-loop-i : goal.invariant-loop-i
-invariant-loop-i l = Going turn_out grown l.initial.turns l.words l.out l.turns l.i
+invariant-loop-i l = Going turn_out grown l.initial.unwrapper l.words l.turns l.unwrapper l.i

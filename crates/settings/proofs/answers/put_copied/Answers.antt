@@ -2,20 +2,16 @@
 use Rattle.settings.proofs.Answering.{gave_same, bad_copied, copies, never}
 use Rattle.settings.proofs.answers.put_copied.Goals as goal
 
-pub returns-then-number-ne0 : goal.returns-then-number-ne0
-returns-then-number-ne0 c =
+pub returns-in-Ok-write_store : goal.returns-in-Ok-write_store
+returns-in-Ok-write_store c =
     rw (← c.form_of-version.ensures)
-    (gave_same (bad_copied _ c.args.text.now c.read_store-read.result c.read_store-read.ensures c.if-number-ne0.true)
-    c.put_bad.ensures)
+    (copies _ c.args.text.now c.in-Ok.settings c.in-Ok.ensures c.args.out.now c.requires.1 _ c.in-Ok-write_store.n c.in-Ok-write_store.ensures)
 
-pub returns-in-Bytes : goal.returns-in-Bytes
-returns-in-Bytes c =
-    rw (← c.form_of-version.ensures)
-    (copies _ c.args.text.now c.read_store-read.result c.read_store-read.ensures c.if-number-ne0.false
-    c.args.out.now c.requires.1 _ _ c.write_store.ensures _ c.in-Bytes.is)
+pub returns-in-Err-write_store : goal.returns-in-Err-write_store
+returns-in-Err-write_store c =
+    absurd (never _ c.args.text.now c.in-Ok.settings c.in-Ok.ensures c.args.out.now c.requires.1 _ c.in-Err-write_store.refusal
+    c.in-Err-write_store.ensures)
 
-pub returns-in-Refused : goal.returns-in-Refused
-returns-in-Refused c =
-    absurd (never _ c.args.text.now c.read_store-read.result c.read_store-read.ensures c.if-number-ne0.false
-    c.args.out.now c.requires.1 _ _ c.write_store.ensures _
-    c.in-Refused.is)
+pub returns-in-Err : goal.returns-in-Err
+returns-in-Err c =
+    rw (← c.form_of-version.ensures) (gave_same (bad_copied _ c.args.text.now c.in-Err.bad c.in-Err.ensures) c.put_bad-in-Err.ensures)

@@ -1,5 +1,5 @@
 -- An entry a turn.
-use Rattle.std.proofs.Common.{◌≡◌, length, arith, sym, ◌∙◌}
+use Rattle.std.proofs.Common.{arith, sym, ◌∙◌}
 use Rattle.store.proofs.Recasts.{looking_on, looking_all, dither_here}
 use Rattle.store.proofs.moving.has_dither.Goals as goal
 

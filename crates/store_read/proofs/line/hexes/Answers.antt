@@ -1,5 +1,5 @@
 -- From the last nibble to the first.
-use Rattle.std.proofs.Common.{◌<◌, ◌≤◌, ◌-◌, length, sym, ap, arith}
+use Rattle.std.proofs.Common.{◌<◌, ◌-◌, length, sym, ap, arith}
 use Rattle.store_read.specs.Reading.{arch_by}
 use Rattle.store_read.proofs.Counting.{hex_wrong, other_length, sofar_down, sofar_none}
 use Rattle.store_read.proofs.line.hexes.Goals as goal

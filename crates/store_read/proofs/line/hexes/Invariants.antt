@@ -1,5 +1,4 @@
 -- What the nibbles from i on give, modulo 2^32.
-use Rattle.std.proofs.Common.{◌≡◌, length}
 use Rattle.store_read.proofs.Counting.{Sofar}
 use Rattle.store_read.proofs.line.hexes.Given as goal
 

@@ -1,5 +1,5 @@
 -- A field more, or a field that is no such number.
-use Rattle.std.proofs.Common.{◌≡◌, ◌∷◌, [], arith}
+use Rattle.std.proofs.Common.{◌∷◌, [], arith}
 use Rattle.std.specs.Option.{option_copied}
 use Rattle.text.specs.Parts.{parted}
 use Rattle.text.specs.Ranges.{range}

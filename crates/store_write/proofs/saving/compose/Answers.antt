@@ -1,13 +1,12 @@
 -- A record is judged, and its line is put behind the others.
-use Rattle.std.proofs.Common.{◌≡◌, ◌+◌, ◌*◌, ◌≤◌, ℕ, List, length, arith, rules, refl, sym, ap, subst, ◌∙◌}
-use Rattle.std.specs.Prelude.{Result, Ok}
+use Rattle.std.proofs.Common.{◌≡◌, ℕ, length, arith, rules, refl, sym, ap, subst, ◌∙◌}
+use Rattle.std.specs.Prelude.{Ok}
 use Rattle.std.proofs.lemmas.Result.{err_from_is_err_and}
-use Rattle.blocks.specs.declared.refusal.Refusal.{Refusal}
 use Rattle.blocks.specs.Refusals.{answer, refusal_at}
 use Rattle.blocks.proofs.Refusals.{accepted, refused_too, taken_number}
 use Rattle.settings_text.specs.Lines.{form_of}
 use Rattle.settings_text.specs.Stores.{text_of}
-use Rattle.entries.specs.Entries.{name_bytes, number_as, records_in}
+use Rattle.entries.specs.Entries.{name_bytes, records_in}
 use Rattle.entries.proofs.Arrays.{unmapped}
 use Rattle.store_write.specs.Writing.{Ended}
 use Rattle.store_write.proofs.Judging.{judged_all, judged_bad, judged_many, judged_on, judging_none, lines_all}

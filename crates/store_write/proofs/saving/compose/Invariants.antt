@@ -1,5 +1,5 @@
 -- Before each record: what is left to judge, and the lines so far.
-use Rattle.std.proofs.Common.{◌*◌, length}
+use Rattle.std.proofs.Common.{◌*◌}
 use Rattle.store_write.specs.Writing.{Ended}
 use Rattle.store_write.proofs.Judging.{Judging, lines_to}
 use Rattle.store_write.proofs.saving.compose.Given as goal

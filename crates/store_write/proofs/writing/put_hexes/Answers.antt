@@ -1,5 +1,5 @@
 -- A digit a turn.
-use Rattle.store_write.proofs.Putting.{hexing_done, hexing_long, hexing_none, hexing_on}
+use Rattle.store_write.proofs.Putting.{hexing_done, hexing_none, hexing_on}
 use Rattle.store_write.proofs.writing.put_hexes.Goals as goal
 
 pub loop-i-init : goal.loop-i-init

@@ -1,5 +1,5 @@
 -- A coefficient a turn.
-use Rattle.std.proofs.Common.{◌≡◌, ◌+◌, ◌*◌, ◌<◌, ◌≤◌, ◌^◌, map, length, pos, arith, rules}
+use Rattle.std.proofs.Common.{◌≡◌, ◌<◌, ◌^◌, map, length, pos, arith, rules}
 use lib.Signed.{mag}
 use lib.ListN.{get_or}
 use mir.Syntax.{w32}

@@ -1,5 +1,5 @@
 -- The count is not beyond the slice that it is of (count_within).
-use Rattle.std.proofs.Common.{◌≡◌, ◌≤◌, sym}
+use Rattle.std.proofs.Common.{sym}
 use lib.Seq.{length-take-le}
 use Rattle.wav.proofs.Parts.{bytes-length, count_within}
 use Rattle.wav_out.proofs.Taking.give.Goals as goal

@@ -1,0 +1,15 @@
+-- Refused by its number, or done (Taking).
+use Rattle.std.proofs.Common.{ap, ap₂, ◌∙◌}
+use Rattle.recorder.specs.declared.recorder.Recorder.{Recorder}
+use Rattle.desk.specs.declared.desk.Reply.TheVariants as Reply
+use Rattle.desk.specs.Desks.{keep, kind_taken}
+use Rattle.desk.proofs.Taking.{event-refused, event_done}
+use Rattle.desk.proofs.desk.pull.Goals as goal
+
+pub returns-in-Err : goal.returns-in-Err
+unfolding kind_taken
+returns-in-Err c = c.refused.ensures ∙ event-refused c.args.d c.in-Err.refusal _ _ c.in-Err.ensures
+
+pub returns : goal.returns
+unfolding kind_taken
+returns c = c.with_recorder.ensures ∙ ap (λ (r : Recorder). keep r Reply.Silent) c.pull.ensures ∙ event_done c.args.d c.in_default.field-0 _ _ c.in_default.ensures
