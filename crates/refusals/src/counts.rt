@@ -1,44 +1,32 @@
 // Numbers 20 to 23: slices that a block finds too short, and samples that come at the wrong time.
-use crate::print::row;
-use cic::questions::Interpolated;
-use cic::runs::{Read, Wrote, settled_number};
+use crate::print::{refused, row};
+use cic::runs::settled;
 use cic::state::Cic;
-use cic::steps::Sample;
 use std::io;
 
-fn decimate_block(input: &[i32], out: &mut [i32]) -> u32 {
-    let made = Cic::new(1, 1, 1);
-    let filter = made.state;
-    let done = filter.decimate_block(input, out);
-    let wrote = done.wrote;
-    match wrote {
-        Wrote::Outputs(_) => 0,
-        Wrote::Refused(n) => n,
+// A filter of order 1, delay 1 and rate 1.
+fn made() -> Cic<i32> {
+    match Cic::new(1, 1, 1) {
+        Ok(filter) => filter,
+        Err(_) => Cic::blank(),
     }
+}
+
+fn decimate_block(input: &[i32], out: &mut [i32]) -> u32 {
+    let mut filter = made();
+    refused(filter.decimate_block(input, out))
 }
 
 // A step of the interpolator at this countdown.
-fn interpolate(countdown: u32, sample: Sample) -> u32 {
-    let made = Cic::new(1, 1, 1);
-    let mut filter = made.state;
+fn interpolate(countdown: u32, sample: Option<i32>) -> u32 {
+    let mut filter = made();
     filter.countdown = countdown;
-    let risen = filter.interpolate(sample);
-    let out = risen.out;
-    match out {
-        Interpolated::Value(_) => 0,
-        Interpolated::Refused(n) => n,
-    }
+    refused(filter.interpolate(sample))
 }
 
 fn interpolate_block(input: &[i32], out: &mut [i32]) -> u32 {
-    let made = Cic::new(1, 1, 1);
-    let filter = made.state;
-    let done = filter.interpolate_block(input, out);
-    let read = done.read;
-    match read {
-        Read::Inputs(_) => 0,
-        Read::Refused(n) => n,
-    }
+    let mut filter = made();
+    refused(filter.interpolate_block(input, out))
 }
 
 fn print_outputs(rt: &impl Print) -> io::Result<()> {
@@ -56,9 +44,9 @@ fn print_outputs(rt: &impl Print) -> io::Result<()> {
     row(
         rt,
         b"3 written of 2",
-        settled_number(&short, 3),
+        refused(settled(&short, 3, 0)),
         b"2 of 2",
-        settled_number(&short, 2),
+        refused(settled(&short, 2, 0)),
     )
 }
 
@@ -66,16 +54,16 @@ fn print_samples(rt: &impl Print) -> io::Result<()> {
     row(
         rt,
         b"a sample at countdown 1",
-        interpolate(1, Sample::Given(5)),
+        interpolate(1, Some(5)),
         b"none",
-        interpolate(1, Sample::Missing),
+        interpolate(1, None),
     )?;
     row(
         rt,
         b"no sample at countdown 0",
-        interpolate(0, Sample::Missing),
+        interpolate(0, None),
         b"one",
-        interpolate(0, Sample::Given(5)),
+        interpolate(0, Some(5)),
     )
 }
 

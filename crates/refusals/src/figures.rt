@@ -3,7 +3,7 @@
 use crate::print::{number, signed, text};
 use biquad::biquad::Biquad;
 use biquad::pair::Pair;
-use cic::questions::{Fitting, Told};
+use blocks::Refusal;
 use cic::state::Cic;
 use std::io;
 use unwrap::scale::saturating_scale;
@@ -42,12 +42,12 @@ fn coefficients(rt: &impl Print) -> io::Result<()> {
     double(rt, c.a2, -0.5, b"-0.5\n")
 }
 
-fn told(rt: &impl Print, t: Told) -> io::Result<()> {
-    match t {
-        Told::Number(n) => number(rt, n)?,
-        Told::Refused(n) => {
+fn told(rt: &impl Print, told: Result<u64, Refusal>) -> io::Result<()> {
+    match told {
+        Ok(n) => number(rt, n)?,
+        Err(refusal) => {
             text(rt, b"refusal ")?;
-            number(rt, n as u64)?;
+            number(rt, u64::from(refusal.number()))?;
         }
     }
     Ok(())
@@ -61,16 +61,17 @@ fn answer(rt: &impl Print, yes: bool) -> io::Result<()> {
 }
 
 fn fit(rt: &impl Print) -> io::Result<()> {
-    let made = Cic::new(3, 1, 4);
-    let filter = made.state;
+    let Ok(filter) = Cic::<i32>::new(3, 1, 4) else {
+        return text(rt, b"refused\n");
+    };
     text(rt, b"b 25, N 3, M 1, rate 4: gain ")?;
     told(rt, filter.gain())?;
     text(rt, b", gain_log2 ")?;
     told(rt, filter.gain_log2())?;
     text(rt, b", fit ")?;
     match filter.fit(32, 25) {
-        Fitting::Fits(yes) => answer(rt, yes)?,
-        Fitting::Refused(_) => text(rt, b"refused")?,
+        Ok(yes) => answer(rt, yes)?,
+        Err(_) => text(rt, b"refused")?,
     }
     text(rt, b"\n")
 }

@@ -1,97 +1,69 @@
 // Numbers 10 to 17: what a decimator's or interpolator's state may be, and what may be asked of it.
-use crate::print::{refusal, row};
-use cic::questions::{Fitting, Told};
-use cic::runs::Wrote;
+use crate::print::{refused, row};
 use cic::state::Cic;
-use cic::steps::Out;
 use std::io;
 
 fn new(order: usize, delay: usize, rate: u32) -> u32 {
-    let made = Cic::new(order, delay, rate);
-    let verdict = made.verdict;
-    refusal(verdict)
+    refused(Cic::<i32>::new(order, delay, rate))
 }
 
 fn resume(countdown: u32) -> u32 {
-    let made = Cic::resume(3, 1, 3, [7; 8], [5; 64], 1, countdown, 0);
-    let verdict = made.verdict;
-    refusal(verdict)
+    refused(Cic::<i32>::resume(3, 1, 3, [7; 8], [5; 64], 1, countdown, 0))
+}
+
+// A filter that is accepted, as every one that is asked of here.
+fn made(order: usize, delay: usize, rate: u32) -> Cic<i32> {
+    match Cic::new(order, delay, rate) {
+        Ok(filter) => filter,
+        Err(_) => Cic::blank(),
+    }
 }
 
 fn gain(order: usize) -> u32 {
-    let made = Cic::new(order, 8, 65535);
-    let filter = made.state;
-    match filter.gain() {
-        Told::Number(_) => 0,
-        Told::Refused(n) => n,
-    }
+    refused(made(order, 8, 65535).gain())
 }
 
 // A step of a filter of order 3 and delay 1 whose unsettled count was written by hand.
 fn step(unsettled: usize) -> u32 {
-    let made = Cic::new(3, 1, 3);
-    let mut filter = made.state;
+    let mut filter = made(3, 1, 3);
     filter.unsettled = unsettled;
-    let stepped = filter.decimate(1);
-    let out = stepped.out;
-    match out {
-        Out::Given(_) => 0,
-        Out::Nothing => 0,
-        Out::Refused(n) => n,
-    }
+    refused(filter.decimate(1))
 }
 
 // The filter after so many inputs, at a countdown: no output falls on its next input.
-fn after(inputs: u64) -> Cic {
-    let made = Cic::resume(3, 1, 3, [7; 8], [5; 64], 1, 2, inputs);
-    made.state
+fn after(inputs: u64) -> Cic<i32> {
+    match Cic::resume(3, 1, 3, [7; 8], [5; 64], 1, 2, inputs) {
+        Ok(filter) => filter,
+        Err(_) => Cic::blank(),
+    }
 }
 
 fn step_after(inputs: u64) -> u32 {
-    let stepped = after(inputs).decimate(1);
-    let out = stepped.out;
-    match out {
-        Out::Given(_) => 0,
-        Out::Nothing => 0,
-        Out::Refused(n) => n,
-    }
+    let mut filter = after(inputs);
+    refused(filter.decimate(1))
 }
 
 fn block_after(inputs: u64, input: &[i32], out: &mut [i32]) -> u32 {
-    let done = after(inputs).decimate_block(input, out);
-    let wrote = done.wrote;
-    match wrote {
-        Wrote::Outputs(_) => 0,
-        Wrote::Refused(n) => n,
-    }
+    let mut filter = after(inputs);
+    refused(filter.decimate_block(input, out))
 }
 
 // What the same filter answers to the question for its number.
 fn asked(unsettled: usize) -> u32 {
-    let made = Cic::new(3, 1, 3);
-    let mut filter = made.state;
+    let mut filter = made(3, 1, 3);
     filter.unsettled = unsettled;
-    filter.refusal()
+    refused(filter.check())
 }
 
 // The question for the outputs of 28 inputs, at a rate that was written by hand.
 fn length(rate: u32) -> u32 {
-    let made = Cic::new(3, 1, 3);
-    let mut filter = made.state;
+    let mut filter = made(3, 1, 3);
     filter.rate = rate;
-    match filter.low_rate_length(28) {
-        Told::Number(_) => 0,
-        Told::Refused(n) => n,
-    }
+    refused(filter.low_rate_length(28))
 }
 
 fn fit(width: u32, b: u32) -> u32 {
-    let made = Cic::new(0, 1, 0);
-    let filter = made.state;
-    match filter.fit(width, b) {
-        Fitting::Fits(_) => 0,
-        Fitting::Refused(n) => n,
-    }
+    refused(made(0, 1, 0).fit(width, b))
 }
 
 // Input number 2^64 - 1 is the last.

@@ -1,26 +1,20 @@
 // Numbers 14 and 17 of a filter on i64, where a word's width could show.
-use crate::print::row;
-use cic64::questions::{Fitting, Told};
-use cic64::state::Cic;
-use cic64::word::BITS;
+use crate::print::{refused, row};
+use cic::state::Cic;
+use cic::word::Word;
 use std::io;
 
+const BITS: u32 = <i64 as Word>::BITS;
+
 fn gain(rate: u32) -> u32 {
-    let made = Cic::new(7, 1, rate);
-    let filter = made.state;
-    match filter.gain() {
-        Told::Number(_) => 0,
-        Told::Refused(n) => n,
+    match Cic::<i64>::new(7, 1, rate) {
+        Ok(filter) => refused(filter.gain()),
+        Err(refusal) => refusal.number(),
     }
 }
 
 fn fit(width: u32, b: u32) -> u32 {
-    let made = Cic::new(0, 1, 0);
-    let filter = made.state;
-    match filter.fit(width, b) {
-        Fitting::Fits(_) => 0,
-        Fitting::Refused(n) => n,
-    }
+    refused(Cic::<i64>::blank().fit(width, b))
 }
 
 pub(crate) fn print_all(rt: &impl Print) -> io::Result<()> {
