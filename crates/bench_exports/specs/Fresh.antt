@@ -4,7 +4,7 @@ use Rattle.std.specs.Int.{w32}
 use Rattle.blocks.specs.Scan.{scan}
 use Rattle.blocks.specs.Blocks.{lengths_number, unless}
 use Rattle.sums.specs.Ops.{Ops}
-use Rattle.sums.specs.Counted.{new_counted, blank_counted, take_state}
+use Rattle.sums.specs.Counted.{new_counted, take_state}
 use Rattle.sums.specs.Signed.{signed_ops}
 use Rattle.cic.specs.Reading.{cic_of, counted_of}
 use Rattle.cic.specs.declared.state.Cic.{Cic}
@@ -42,9 +42,6 @@ abbrev pub block_left_by : {C S A B : Type 0} → (C → ℕ) → (C → S → A
 block_left_by k out next c s xs ys = block_left (k c) (out c) (next c) s xs ys
 
 -- Decimator and interpolator, of the words that o sums.
-abbrev pub blank_cic : {A : Type 0} → Ops A → Cic A
-blank_cic o = cic_of (blank_counted o)
-
 abbrev pub fresh_cic : {A : Type 0} → Ops A → ℕ → ℕ → ℕ → Cic A
 fresh_cic o order delay rate = cic_of (new_counted o order delay rate)
 

@@ -1,13 +1,15 @@
 // Decimator and interpolator on words of 32 and of 64 bits, the plain engine, and the decimator's steps one by one.
-ghost use Rattle.std.specs.Prelude.{◌≡◌};
+ghost use Rattle.std.specs.Prelude.{◌≡◌, length};
+ghost use Rattle.blocks.specs.Scan.{scan};
 ghost use Rattle.std.specs.Int.{w32, w64};
 ghost use Rattle.sums.specs.Runs.{fill_out};
 ghost use Rattle.sums.specs.Counted.{block_out};
 ghost use Rattle.sums.specs.Signed.{signed_ops};
-ghost use Rattle.cic.specs.Reading.{state_of, counted_of};
+ghost use Rattle.lent.specs.Reading.{counted};
+ghost use Rattle.cic.specs.Reading.{state_of, counted_of, cic_of, numbers_of};
 ghost use Rattle.fir.specs.Calls.{fresh, written_of};
-ghost use Rattle.bench_exports.specs.Fresh.{block_left, blank_cic, fresh_cic, given_in, step_out, step_next};
-ghost use Rattle.bench_exports.specs.Steps.{step_of, after_step, lent_step_of, after_lent_step, lent_of};
+ghost use Rattle.bench_exports.specs.Fresh.{block_left, fresh_cic, given_in, step_out, step_next};
+ghost use Rattle.bench_exports.specs.Steps.{step_of, after_step};
 
 use blocks::{Filter, Refusal};
 use cic::state::Cic;
@@ -16,42 +18,11 @@ use cic::word::Word;
 use fir::Fir;
 use lent::state::LentCic;
 
-// What a filter runs as whose numbers are refused: order 0, each input an output.
-fn blank<W: Word>() -> Cic<W>
-    ensures { result ≡ blank_cic W.ops }
-{
-    Cic {
-        order: 0,
-        delay: 1,
-        rate: 0,
-        countdown: 0,
-        unsettled: 0,
-        inputs: 0,
-        hold: W::zero(),
-        integrators: [W::zero(); 8],
-        combs: [W::zero(); 64],
-    }
-}
-
-// A filter before its first input.
-fn fresh<W: Word>(order: usize, delay: usize, rate: u32) -> Cic<W>
+// A filter before its first input; where its numbers are refused, one that gives back its inputs.
+fn started<W: Word>(order: usize, delay: usize, rate: u32) -> Cic<W>
     ensures { result ≡ fresh_cic W.ops order delay rate }
 {
-    Cic::new(order, delay, rate).unwrap_or(blank())
-}
-
-fn decimate<W: Word>(order: usize, delay: usize, rate: u32, xs: &[W], ys: &mut [W])
-    ensures { ys.new ≡ block_out W.ops (counted_of (fresh_cic W.ops order delay rate)) xs.now ys.old }
-{
-    let mut filter = fresh::<W>(order, delay, rate);
-    let _wrote = filter.decimate_block(xs, ys);
-}
-
-fn interpolate<W: Word>(order: usize, delay: usize, rate: u32, xs: &[W], ys: &mut [W])
-    ensures { ys.new ≡ fill_out W.ops (state_of (fresh_cic W.ops order delay rate)) xs.now ys.old }
-{
-    let mut filter = fresh::<W>(order, delay, rate);
-    let _read = filter.interpolate_block(xs, ys);
+    Cic::new(order, delay, rate).unwrap_or(Cic::blank())
 }
 
 // A decimator's block.
@@ -59,7 +30,8 @@ fn interpolate<W: Word>(order: usize, delay: usize, rate: u32, xs: &[W], ys: &mu
 pub extern "C" fn bench_decimate(order: usize, delay: usize, rate: u32, xs: &[i32], ys: &mut [i32])
     ensures { ys.new ≡ block_out (signed_ops w32) (counted_of (fresh_cic (signed_ops w32) order delay rate)) xs.now ys.old }
 {
-    decimate(order, delay, rate, xs, ys);
+    let mut filter = started::<i32>(order, delay, rate);
+    let _wrote = filter.decimate_block(xs, ys);
 }
 
 #[unsafe(no_mangle)]
@@ -72,7 +44,8 @@ pub extern "C" fn bench_decimate64(
 )
     ensures { ys.new ≡ block_out (signed_ops w64) (counted_of (fresh_cic (signed_ops w64) order delay rate)) xs.now ys.old }
 {
-    decimate(order, delay, rate, xs, ys);
+    let mut filter = started::<i64>(order, delay, rate);
+    let _wrote = filter.decimate_block(xs, ys);
 }
 
 // An interpolator's block.
@@ -86,7 +59,8 @@ pub extern "C" fn bench_interpolate(
 )
     ensures { ys.new ≡ fill_out (signed_ops w32) (state_of (fresh_cic (signed_ops w32) order delay rate)) xs.now ys.old }
 {
-    interpolate(order, delay, rate, xs, ys);
+    let mut filter = started::<i32>(order, delay, rate);
+    let _read = filter.interpolate_block(xs, ys);
 }
 
 #[unsafe(no_mangle)]
@@ -99,7 +73,8 @@ pub extern "C" fn bench_interpolate64(
 )
     ensures { ys.new ≡ fill_out (signed_ops w64) (state_of (fresh_cic (signed_ops w64) order delay rate)) xs.now ys.old }
 {
-    interpolate(order, delay, rate, xs, ys);
+    let mut filter = started::<i64>(order, delay, rate);
+    let _read = filter.interpolate_block(xs, ys);
 }
 
 // The plain engine's block.
@@ -142,44 +117,37 @@ impl Filter for Steps {
     }
 }
 
-// The same on arrays that stand beside its numbers.
-#[derive(Clone, Copy)]
-struct LentSteps {
-    numbers: LentCic<i32>,
-    integrators: [i32; 8],
-    combs: [i32; 64],
-}
-
-impl Filter for LentSteps {
-    type Input = i32;
-
-    type Output = i32;
-
-    ghost gives = { lent_step_of };
-
-    ghost after = { after_lent_step };
-
-    fn process(&mut self, x: i32) -> i32 {
-        let out = self.numbers.decimate(&mut self.integrators, &mut self.combs, x);
-        given(out)
+// All of a filter but its arrays.
+fn numbers(s: Cic<i32>) -> LentCic<i32>
+    ensures { result ≡ numbers_of s }
+{
+    LentCic {
+        order: s.order,
+        delay: s.delay,
+        rate: s.rate,
+        countdown: s.countdown,
+        unsettled: s.unsettled,
+        inputs: s.inputs,
+        hold: s.hold,
     }
 }
 
-fn lent(s: Cic<i32>) -> LentSteps
-    ensures { result ≡ lent_of s }
+// The steps on lent arrays.
+// Kept: a loop of its own. With the arrays beside the numbers in a Filter a step costs 45 instructions and not 38.
+fn lent_all(
+    mut numbers: LentCic<i32>,
+    integrators: &mut [i32; 8],
+    combs: &mut [i32; 64],
+    xs: &[i32],
+    ys: &mut [i32],
+)
+    requires { length xs.now ≡ length ys.old }
+    ensures { ys.new
+        ≡ scan step_out step_next (cic_of (counted numbers integrators.old combs.old)) xs.now }
 {
-    LentSteps {
-        numbers: LentCic {
-            order: s.order,
-            delay: s.delay,
-            rate: s.rate,
-            countdown: s.countdown,
-            unsettled: s.unsettled,
-            inputs: s.inputs,
-            hold: s.hold,
-        },
-        integrators: s.integrators,
-        combs: s.combs,
+    for (i, &x) in xs.iter().enumerate() {
+        let out = numbers.decimate(integrators, combs, x);
+        ys[i] = given(out);
     }
 }
 
@@ -189,12 +157,12 @@ pub extern "C" fn bench_steps(order: usize, delay: usize, rate: u32, xs: &[i32],
     ensures { ys.new ≡ block_left 0 step_out step_next (fresh_cic (signed_ops w32) order delay rate) xs.now ys.old }
 {
     let mut steps = Steps {
-        filter: fresh(order, delay, rate),
+        filter: started(order, delay, rate),
     };
     let _ran = blocks::block(&mut steps, xs, ys);
 }
 
-// The steps on lent arrays.
+// The same on lent arrays.
 #[unsafe(no_mangle)]
 pub extern "C" fn bench_lent_steps(
     order: usize,
@@ -205,6 +173,11 @@ pub extern "C" fn bench_lent_steps(
 )
     ensures { ys.new ≡ block_left 0 step_out step_next (fresh_cic (signed_ops w32) order delay rate) xs.now ys.old }
 {
-    let mut steps = lent(fresh(order, delay, rate));
-    let _ran = blocks::block(&mut steps, xs, ys);
+    if xs.len() != ys.len() {
+        return;
+    }
+    let filter = started::<i32>(order, delay, rate);
+    let mut integrators = filter.integrators;
+    let mut combs = filter.combs;
+    lent_all(numbers(filter), &mut integrators, &mut combs, xs, ys);
 }

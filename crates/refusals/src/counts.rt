@@ -4,29 +4,24 @@ use cic::runs::settled;
 use cic::state::Cic;
 use std::io;
 
-// A filter of order 1, delay 1 and rate 1.
-fn made() -> Cic<i32> {
-    match Cic::new(1, 1, 1) {
-        Ok(filter) => filter,
-        Err(_) => Cic::blank(),
-    }
+// Order, delay and rate 1.
+fn ones() -> Cic<i32> {
+    Cic::new(1, 1, 1).unwrap_or(Cic::blank())
 }
 
 fn decimate_block(input: &[i32], out: &mut [i32]) -> u32 {
-    let mut filter = made();
-    refused(filter.decimate_block(input, out))
+    refused(ones().decimate_block(input, out))
 }
 
 // A step of the interpolator at this countdown.
 fn interpolate(countdown: u32, sample: Option<i32>) -> u32 {
-    let mut filter = made();
+    let mut filter = ones();
     filter.countdown = countdown;
     refused(filter.interpolate(sample))
 }
 
 fn interpolate_block(input: &[i32], out: &mut [i32]) -> u32 {
-    let mut filter = made();
-    refused(filter.interpolate_block(input, out))
+    refused(ones().interpolate_block(input, out))
 }
 
 fn print_outputs(rt: &impl Print) -> io::Result<()> {

@@ -42,15 +42,14 @@ fn coefficients(rt: &impl Print) -> io::Result<()> {
     double(rt, c.a2, -0.5, b"-0.5\n")
 }
 
-fn told(rt: &impl Print, told: Result<u64, Refusal>) -> io::Result<()> {
-    match told {
-        Ok(n) => number(rt, n)?,
+fn told(rt: &impl Print, t: Result<u64, Refusal>) -> io::Result<()> {
+    match t {
+        Ok(n) => number(rt, n),
         Err(refusal) => {
             text(rt, b"refusal ")?;
-            number(rt, u64::from(refusal.number()))?;
+            number(rt, u64::from(refusal.number()))
         }
     }
-    Ok(())
 }
 
 fn answer(rt: &impl Print, yes: bool) -> io::Result<()> {
@@ -61,9 +60,7 @@ fn answer(rt: &impl Print, yes: bool) -> io::Result<()> {
 }
 
 fn fit(rt: &impl Print) -> io::Result<()> {
-    let Ok(filter) = Cic::<i32>::new(3, 1, 4) else {
-        return text(rt, b"refused\n");
-    };
+    let filter = Cic::<i32>::new(3, 1, 4).unwrap_or(Cic::blank());
     text(rt, b"b 25, N 3, M 1, rate 4: gain ")?;
     told(rt, filter.gain())?;
     text(rt, b", gain_log2 ")?;

@@ -8,14 +8,10 @@ use text::comparing::same_bytes;
 
 // A line's refusal where `cic 1 1 1` came first, or didn't.
 fn line(opened: bool, line: &[u8]) -> u32 {
-    let filter = match Cic::new(1, 1, 1) {
-        Ok(filter) => filter,
-        Err(_) => Cic::blank(),
-    };
     let session = Session {
         opened,
         wide: false,
-        filter,
+        filter: Cic::new(1, 1, 1).unwrap_or(Cic::blank()),
     };
     let taken = take_line(session, line);
     let reply = taken.reply;

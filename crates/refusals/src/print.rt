@@ -1,7 +1,5 @@
 // Lines of the table.
-use blocks::Verdict;
 use std::io;
-use words::casts::i32_as_u32;
 
 // The number of a call's refusal, 0 for none.
 pub(crate) use blocks::number as refused;
@@ -15,20 +13,7 @@ pub(crate) fn number(rt: &impl Print, n: u64) -> io::Result<()> {
 }
 
 pub(crate) fn signed(rt: &impl Print, v: i32) -> io::Result<()> {
-    let bits = i32_as_u32(v) as u64;
-    if bits < 2147483648 {
-        return number(rt, bits);
-    }
-    text(rt, b"-")?;
-    number(rt, 4294967296 - bits)
-}
-
-// The number of a verdict, 0 for none.
-pub(crate) fn refusal(v: Verdict) -> u32 {
-    match v {
-        Verdict::Done => 0,
-        Verdict::Refused(n) => n,
-    }
+    rt.print(v)
 }
 
 fn outcome(rt: &impl Print, call: &[u8], refused: u32) -> io::Result<()> {

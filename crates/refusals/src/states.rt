@@ -7,52 +7,45 @@ fn new(order: usize, delay: usize, rate: u32) -> u32 {
     refused(Cic::<i32>::new(order, delay, rate))
 }
 
-fn resume(countdown: u32) -> u32 {
-    refused(Cic::<i32>::resume(3, 1, 3, [7; 8], [5; 64], 1, countdown, 0))
+fn made(order: usize, delay: usize, rate: u32) -> Cic<i32> {
+    Cic::new(order, delay, rate).unwrap_or(Cic::blank())
 }
 
-// A filter that is accepted, as every one that is asked of here.
-fn made(order: usize, delay: usize, rate: u32) -> Cic<i32> {
-    match Cic::new(order, delay, rate) {
-        Ok(filter) => filter,
-        Err(_) => Cic::blank(),
-    }
+fn resume(countdown: u32) -> u32 {
+    refused(Cic::<i32>::resume(3, 1, 3, [7; 8], [5; 64], 1, countdown, 0))
 }
 
 fn gain(order: usize) -> u32 {
     refused(made(order, 8, 65535).gain())
 }
 
-// A step of a filter of order 3 and delay 1 whose unsettled count was written by hand.
-fn step(unsettled: usize) -> u32 {
+// A filter of order 3 and delay 1 whose unsettled count was written by hand.
+fn unsettled(count: usize) -> Cic<i32> {
     let mut filter = made(3, 1, 3);
-    filter.unsettled = unsettled;
-    refused(filter.decimate(1))
+    filter.unsettled = count;
+    filter
+}
+
+fn step(count: usize) -> u32 {
+    refused(unsettled(count).decimate(1))
+}
+
+// What the same filter answers to the question for its number.
+fn asked(count: usize) -> u32 {
+    refused(unsettled(count).check())
 }
 
 // The filter after so many inputs, at a countdown: no output falls on its next input.
 fn after(inputs: u64) -> Cic<i32> {
-    match Cic::resume(3, 1, 3, [7; 8], [5; 64], 1, 2, inputs) {
-        Ok(filter) => filter,
-        Err(_) => Cic::blank(),
-    }
+    Cic::resume(3, 1, 3, [7; 8], [5; 64], 1, 2, inputs).unwrap_or(Cic::blank())
 }
 
 fn step_after(inputs: u64) -> u32 {
-    let mut filter = after(inputs);
-    refused(filter.decimate(1))
+    refused(after(inputs).decimate(1))
 }
 
 fn block_after(inputs: u64, input: &[i32], out: &mut [i32]) -> u32 {
-    let mut filter = after(inputs);
-    refused(filter.decimate_block(input, out))
-}
-
-// What the same filter answers to the question for its number.
-fn asked(unsettled: usize) -> u32 {
-    let mut filter = made(3, 1, 3);
-    filter.unsettled = unsettled;
-    refused(filter.check())
+    refused(after(inputs).decimate_block(input, out))
 }
 
 // The question for the outputs of 28 inputs, at a rate that was written by hand.
@@ -68,7 +61,7 @@ fn fit(width: u32, b: u32) -> u32 {
 
 // Input number 2^64 - 1 is the last.
 fn print_inputs(rt: &impl Print) -> io::Result<()> {
-    let most: u64 = 18446744073709551615;
+    let most = u64::MAX;
     let three = [1i32; 3];
     let mut none = [0i32; 0];
     let mut one = [0i32; 1];

@@ -6,15 +6,16 @@ use std::io;
 
 const BITS: u32 = <i64 as Word>::BITS;
 
+fn made(order: usize, rate: u32) -> Cic<i64> {
+    Cic::new(order, 1, rate).unwrap_or(Cic::blank())
+}
+
 fn gain(rate: u32) -> u32 {
-    match Cic::<i64>::new(7, 1, rate) {
-        Ok(filter) => refused(filter.gain()),
-        Err(refusal) => refusal.number(),
-    }
+    refused(made(7, rate).gain())
 }
 
 fn fit(width: u32, b: u32) -> u32 {
-    refused(Cic::<i64>::blank().fit(width, b))
+    refused(made(0, 0).fit(width, b))
 }
 
 pub(crate) fn print_all(rt: &impl Print) -> io::Result<()> {
