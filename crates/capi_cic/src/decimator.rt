@@ -5,7 +5,6 @@ ghost use Rattle.sums.specs.Signed.{signed_ops};
 ghost use Rattle.cic_calls.specs.Lent.{lent, written};
 ghost use Rattle.cic_calls.specs.Calls.{New, Resume, SetRate, Clear, Decimate, DecimateBlock, Settles};
 
-use blocks::number;
 use cic_calls::parts::{gathered, given_out, numbers_in, numbers_out, numbers_with, resumed, spread};
 use cic::runs::{Written, settled_part};
 use cic::state::Cic;
@@ -134,7 +133,7 @@ pub extern "C" fn mittenload_cic_set_rate(
         integrators,
         combs,
     );
-    number(set)
+    blocks::number(set)
 }
 
 // Zeros, settled, at the same order, delay and rate.
@@ -176,7 +175,7 @@ pub extern "C" fn mittenload_cic_clear(
         integrators,
         combs,
     );
-    number(cleared)
+    blocks::number(cleared)
 }
 
 // One input in; an output, where there is one, stands in the filter's own fields: its value is the hold, its number the inputs. Answers 1 where it
@@ -248,7 +247,7 @@ pub extern "C" fn mittenload_cic_decimate_block(
     *count = told_of.count;
     *told = told_of.told;
     *number = told_of.number;
-    number(wrote)
+    blocks::number(wrote)
 }
 
 // Where the settled part of what a block wrote into out begins, to first, and how many outputs it has, to count.
