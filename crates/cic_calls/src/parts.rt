@@ -2,32 +2,29 @@
 ghost use Rattle.std.specs.Prelude.{◌≡◌};
 ghost use Rattle.sums.specs.Calls.{resume_number};
 ghost use Rattle.sums.specs.Counted.{resume_counted};
-ghost use Rattle.cic.specs.Word.{word_ops};
 ghost use Rattle.cic.specs.Answers.{made_of};
-ghost use Rattle.capi_cic.specs.Lent.{lent, numbers};
+ghost use Rattle.cic_calls.specs.Lent.{lent, numbers};
 
-use cic::state::{Cic, Made};
+use blocks::Refusal;
+use cic::state::Cic;
 use lent::state::LentCic;
-use lent::word::Word;
+use cic::word::Word;
 
 // The filter that stands in these parts.
-pub(crate) fn gathered(
+pub fn gathered<W: Word>(
     order: &usize,
     delay: &usize,
     rate: &u32,
     countdown: &u32,
     unsettled: &usize,
     inputs: &u64,
-    hold: &Word,
-    integrators: &[Word; 8],
-    combs: &[Word; 64],
-) -> Cic
+    hold: &W,
+    integrators: &[W; 8],
+    combs: &[W; 64],
+) -> Cic<W>
     ensures { result ≡ lent order.now delay.now rate.now countdown.now unsettled.now
         inputs.now hold.now integrators.now combs.now }
 {
-    let held = *hold;
-    let sums = *integrators;
-    let lines = *combs;
     Cic {
         order: *order,
         delay: *delay,
@@ -35,55 +32,50 @@ pub(crate) fn gathered(
         countdown: *countdown,
         unsettled: *unsettled,
         inputs: *inputs,
-        hold: held,
-        integrators: sums,
-        combs: lines,
+        hold: *hold,
+        integrators: *integrators,
+        combs: *combs,
     }
 }
 
 // The parts take what stands in the filter.
-pub(crate) fn spread(
-    next: Cic,
+pub fn spread<W: Word>(
+    next: Cic<W>,
     order: &mut usize,
     delay: &mut usize,
     rate: &mut u32,
     countdown: &mut u32,
     unsettled: &mut usize,
     inputs: &mut u64,
-    hold: &mut Word,
-    integrators: &mut [Word; 8],
-    combs: &mut [Word; 64],
+    hold: &mut W,
+    integrators: &mut [W; 8],
+    combs: &mut [W; 64],
 )
     ensures { lent order.new delay.new rate.new countdown.new unsettled.new
         inputs.new hold.new integrators.new combs.new ≡ next }
 {
-    let held = next.hold;
-    let sums = next.integrators;
-    let lines = next.combs;
     *order = next.order;
     *delay = next.delay;
     *rate = next.rate;
     *countdown = next.countdown;
     *unsettled = next.unsettled;
     *inputs = next.inputs;
-    *hold = held;
-    *integrators = sums;
-    *combs = lines;
+    *hold = next.hold;
+    *integrators = next.integrators;
+    *combs = next.combs;
 }
 
 // `Cic::resume` with what stands in the filter.
-pub(crate) fn resumed(s: Cic) -> Made
+pub fn resumed<W: Word>(s: Cic<W>) -> Result<Cic<W>, Refusal>
     ensures { result ≡ made_of (resume_number s.order s.delay s.rate s.countdown)
-        (resume_counted word_ops s.order s.delay s.rate s.integrators s.combs s.hold s.countdown s.inputs) }
+        (resume_counted W.ops s.order s.delay s.rate s.integrators s.combs s.hold s.countdown s.inputs) }
 {
-    let sums = s.integrators;
-    let lines = s.combs;
     Cic::resume(
         s.order,
         s.delay,
         s.rate,
-        sums,
-        lines,
+        s.integrators,
+        s.combs,
         s.hold,
         s.countdown,
         s.inputs,
@@ -91,18 +83,17 @@ pub(crate) fn resumed(s: Cic) -> Made
 }
 
 // The numbers that stand in these parts.
-pub(crate) fn numbers_in(
+pub fn numbers_in<W: Word>(
     order: &usize,
     delay: &usize,
     rate: &u32,
     countdown: &u32,
     unsettled: &usize,
     inputs: &u64,
-    hold: &Word,
-) -> LentCic
+    hold: &W,
+) -> LentCic<W>
     ensures { result ≡ numbers order.now delay.now rate.now countdown.now unsettled.now inputs.now hold.now }
 {
-    let held = *hold;
     LentCic {
         order: *order,
         delay: *delay,
@@ -110,46 +101,44 @@ pub(crate) fn numbers_in(
         countdown: *countdown,
         unsettled: *unsettled,
         inputs: *inputs,
-        hold: held,
+        hold: *hold,
     }
 }
 
 // The parts take these numbers.
-pub(crate) fn numbers_out(
-    next: LentCic,
+pub fn numbers_out<W: Word>(
+    next: LentCic<W>,
     order: &mut usize,
     delay: &mut usize,
     rate: &mut u32,
     countdown: &mut u32,
     unsettled: &mut usize,
     inputs: &mut u64,
-    hold: &mut Word,
+    hold: &mut W,
 )
     ensures { numbers order.new delay.new rate.new countdown.new unsettled.new inputs.new hold.new ≡ next }
 {
-    let held = next.hold;
     *order = next.order;
     *delay = next.delay;
     *rate = next.rate;
     *countdown = next.countdown;
     *unsettled = next.unsettled;
     *inputs = next.inputs;
-    *hold = held;
+    *hold = next.hold;
 }
 
 // The same with order, delay and rate given.
-pub(crate) fn numbers_with(
+pub fn numbers_with<W: Word>(
     order: usize,
     delay: usize,
     rate: u32,
     countdown: &u32,
     unsettled: &usize,
     inputs: &u64,
-    hold: &Word,
-) -> LentCic
+    hold: &W,
+) -> LentCic<W>
     ensures { result ≡ numbers order delay rate countdown.now unsettled.now inputs.now hold.now }
 {
-    let held = *hold;
     LentCic {
         order,
         delay,
@@ -157,23 +146,22 @@ pub(crate) fn numbers_with(
         countdown: *countdown,
         unsettled: *unsettled,
         inputs: *inputs,
-        hold: held,
+        hold: *hold,
     }
 }
 
 // The parts that a step with an output changes take these numbers.
-pub(crate) fn given_out(
-    next: LentCic,
+pub fn given_out<W: Word>(
+    next: LentCic<W>,
     countdown: &mut u32,
     unsettled: &mut usize,
     inputs: &mut u64,
-    hold: &mut Word,
+    hold: &mut W,
 )
     ensures { numbers next.order next.delay next.rate countdown.new unsettled.new inputs.new hold.new ≡ next }
 {
-    let held = next.hold;
     *countdown = next.countdown;
     *unsettled = next.unsettled;
     *inputs = next.inputs;
-    *hold = held;
+    *hold = next.hold;
 }

@@ -1,11 +1,11 @@
 -- A filter that its caller keeps and lends field by field.
-use Rattle.std.specs.Prelude.{List, ℕ, ℤ}
+use Rattle.std.specs.Prelude.{List, ℕ}
 use Rattle.shape.specs.declared.runs.Written.{Written}
 use Rattle.cic.specs.declared.state.Cic.{Cic}
-use Rattle.lent.specs.declared.steps.Output.{Output}
+use Rattle.lent.specs.declared.steps.Output as declared
 use Rattle.lent.specs.declared.state.LentCic.{LentCic}
 
-abbrev pub lent : ℕ → ℕ → ℕ → ℕ → ℕ → ℕ → ℤ → List ℤ → List ℤ → Cic
+abbrev pub lent : {A : Type 0} → ℕ → ℕ → ℕ → ℕ → ℕ → ℕ → A → List A → List A → Cic A
 lent order delay rate countdown unsettled inputs hold integrators combs = record {
   order = order;
   delay = delay;
@@ -19,7 +19,7 @@ lent order delay rate countdown unsettled inputs hold integrators combs = record
 }
 
 -- All of it but its arrays.
-abbrev pub numbers : ℕ → ℕ → ℕ → ℕ → ℕ → ℕ → ℤ → LentCic
+abbrev pub numbers : {A : Type 0} → ℕ → ℕ → ℕ → ℕ → ℕ → ℕ → A → LentCic A
 numbers order delay rate countdown unsettled inputs hold = record {
   order = order;
   delay = delay;
@@ -31,7 +31,7 @@ numbers order delay rate countdown unsettled inputs hold = record {
 }
 
 -- A step's output, and what is lent for a block's answer.
-abbrev pub output : ℤ → ℕ → ℕ → Output
+abbrev pub output : {A : Type 0} → A → ℕ → ℕ → declared.Output A
 output value told number = record { value = value; told = told; number = number }
 
 abbrev pub written : ℕ → ℕ → ℕ → Written
