@@ -4,102 +4,65 @@
 
 #![tactic(auto)]
 
-use blocks::Verdict;
-use cic::runs::{Wrote, settled_number, settled_part};
+use blocks::Refusal;
+use cic::runs::settled;
 use cic::state::Cic;
 use std::io;
-use words::unsigned::{add_u64, mul_u64};
 
-// What a block left: the filter to go on with, how many of its outputs may be believed, the number of the first such
-// output's sample, and the number of a refusal, or 0.
-#[derive(Drop)]
-struct Outcome {
-    filter: Cic,
-    believed: usize,
+// What may be believed of a block's outputs: how many, and the number of the first one's sample.
+#[derive(Clone, Copy)]
+struct Believed {
+    outputs: usize,
     sample: u64,
-    refusal: u32,
 }
 
 // The sample of the output that comes `told` outputs after that of sample `first`: R = rate + 1 samples each.
 fn believed_sample(first: u64, told: usize, rate: u32) -> u64 {
-    add_u64(first, mul_u64(told as u64, rate as u64 + 1))
+    first.wrapping_add((told as u64).wrapping_mul(u64::from(rate) + 1))
 }
 
 // Decimates a block. The outputs that may be believed stand in out behind those that may not.
-fn decimate(filter: Cic, input: &[i32], out: &mut [i32]) -> Outcome {
-    let r = filter.decimate_block(input, out);
-    let after = r.state;
-    let wrote = r.wrote;
-    match wrote {
-        Wrote::Refused(number) => Outcome {
-            filter: after,
-            believed: 0,
-            sample: 0,
-            refusal: number,
-        },
-        Wrote::Outputs(written) => {
-            let number = settled_number(out, written.count);
-            let part = settled_part(out, written.count, written.told);
-            Outcome {
-                filter: after,
-                believed: part.len(),
-                sample: believed_sample(written.number, written.told, after.rate()),
-                refusal: number,
-            }
-        }
-    }
+fn decimate(filter: &mut Cic<i32>, input: &[i32], out: &mut [i32]) -> Result<Believed, Refusal> {
+    let written = filter.decimate_block(input, out)?;
+    let part = settled(out, written.count, written.told)?;
+    Ok(Believed {
+        outputs: part.len(),
+        sample: believed_sample(written.number, written.told, filter.rate()),
+    })
 }
 
-fn number_of(verdict: Verdict) -> u32 {
-    match verdict {
-        Verdict::Done => 0,
-        Verdict::Refused(number) => number,
-    }
-}
-
-// Whether this is the number of a refusal, and then it is told.
-fn refused(rt: &impl Print, number: u32) -> io::Result<bool> {
-    if number == 0 {
-        return Ok(false);
-    }
-    println!(rt; "refused by number {number}")?;
-    Ok(true)
-}
-
-fn tell(rt: &impl Print, believed: usize, sample: u64) -> io::Result<()> {
-    println!(rt; "{believed} outputs may be believed, from sample {sample} on")
-}
-
-fn main(rt: HostRuntime) -> io::Result<()> {
-    let made = Cic::new(3, 1, 3);
-    let opened = made.verdict;
-    if refused(&rt, number_of(opened))? {
-        return Ok(());
-    }
-    let filter = made.state;
+// Two blocks after the plug is back in: what may be believed of each.
+fn run() -> Result<(Believed, Believed), Refusal> {
+    let mut filter: Cic<i32> = Cic::new(3, 1, 3)?;
     // What came before the plug was pulled.
-    let before = filter.decimate(1000);
-    let state = before.state;
+    filter.decimate(1000)?;
     // The plug is back in.
-    let again = state.set_rate(state.rate());
-    let reset = again.verdict;
-    if refused(&rt, number_of(reset))? {
-        return Ok(());
-    }
-    let ready = again.state;
+    let rate = filter.rate();
+    filter.set_rate(rate)?;
     // The samples since then: 28 of them give 7 outputs, of which the first N·M = 3 are not to be believed.
     let samples = [7i32; 28];
     let mut out = [0i32; 28];
-    let first = decimate(ready, &samples, &mut out);
-    if refused(&rt, first.refusal)? {
-        return Ok(());
-    }
-    tell(&rt, first.believed, first.sample)?;
+    let first = decimate(&mut filter, &samples, &mut out)?;
     // The next block goes on from the state that this one left.
-    let next = first.filter;
-    let second = decimate(next, &samples, &mut out);
-    if refused(&rt, second.refusal)? {
-        return Ok(());
+    let second = decimate(&mut filter, &samples, &mut out)?;
+    Ok((first, second))
+}
+
+fn tell(rt: &impl Print, block: Believed) -> io::Result<()> {
+    let outputs = block.outputs;
+    let sample = block.sample;
+    println!(rt; "{outputs} outputs may be believed, from sample {sample} on")
+}
+
+fn main(rt: HostRuntime) -> io::Result<()> {
+    match run() {
+        Ok(blocks) => {
+            tell(&rt, blocks.0)?;
+            tell(&rt, blocks.1)
+        }
+        Err(refusal) => {
+            let number = refusal.number();
+            println!(rt; "refused by number {number}")
+        }
     }
-    tell(&rt, second.believed, second.sample)
 }

@@ -1,24 +1,16 @@
 -- The three ways in which a one-to-one block call ends, and that its promise leaves no other.
-use mathlib.Core.Path.{◌≡◌, refl, sym, ◌∙◌}
+use mathlib.Core.Path.{◌≡◌, sym, ◌∙◌}
 use mathlib.Core.List.{List}
-use Prim.Native.Nat.{ℕ, zero, suc}
+use Prim.Native.Nat.{ℕ}
 use borrow.Author.Rules.{rules}
 use borrow.Author.Tests.{eq-eqb, ne_eqb}
 use lib.ListN.{length}
 use Rattle.std.specs.Prelude.{Result, Ok, Err}
-use Rattle.blocks.specs.declared.Verdict.TheVariants.{Refused}
-use Rattle.blocks.specs.Verdicts.{verdict_of}
 use Rattle.blocks.specs.declared.refusal.Refusal.{Refusal}
 use Rattle.blocks.specs.Refusals.{refusal_at, answer}
 use Rattle.blocks.proofs.Refusals.{refused_too}
 use Rattle.blocks.specs.Scan.{scan, ends}
 use Rattle.blocks.specs.Blocks.{unless, Blocked, BlockSettled}
-
--- a number that is none is a refusal
-pub refused : (k : ℕ) → (k ≡ 0 → ⊥) → Refused k ≡ verdict_of k
-unfolding verdict_of
-refused zero h = absurd (h refl)
-refused (suc k) h = refl
 
 pub kept : {A : Type 0} (k : ℕ) (a b : A) → (k ≡ 0 → ⊥) → a ≡ unless k a b
 kept k a b h = rw (ne_eqb k 0 h)

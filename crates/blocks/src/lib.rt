@@ -1,6 +1,7 @@
-// What a call answers besides its values, and what a one-to-one block of steps is.
-// Callers cite `verdict_of` of specs/Verdicts, `scan` and `ends` of specs/Scan and `Blocked` of specs/Blocks;
-// their loops lean on proofs/Turns (a step a turn), proofs/Chains (a cell a turn) and proofs/Ways (how a call ends).
+// Why a call is refused, and what a filter's one-to-one block of steps is.
+// Callers cite `answer` and `number_of` of specs/Refusals, `scan` and `ends` of specs/Scan and `Blocked` of specs/Blocks; their proofs lean
+// on proofs/Refusals (answers by number), proofs/Turns (a step a turn), proofs/Chains (a cell a turn), proofs/Carried (a state beside what
+// doesn't change) and proofs/Ways (how a call ends).
 
 #![tactic(auto)]
 
@@ -9,10 +10,3 @@ mod refusal;
 
 pub use filter::{Filter, block, run};
 pub use refusal::{Refusal, number};
-
-// Whether a call was done, or the number of its refusal.
-#[derive(Clone, Copy)]
-pub enum Verdict {
-    Done,
-    Refused(u32),
-}

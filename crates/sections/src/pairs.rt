@@ -76,6 +76,7 @@ fn kind(digit: u32) -> Tpa
 }
 
 // The two lowest nibbles as one number below 36.
+#[tactic(auto, using(crate::proofs::InPairs::digit_small), unfolding(crate::specs::Pairs::pair_code))]
 pub(crate) fn pair_code(nibbles: u32) -> u32
     ensures { result ≡ pair_code nibbles }
 {
@@ -85,11 +86,12 @@ pub(crate) fn pair_code(nibbles: u32) -> u32
 pub(crate) fn codes_of(architecture: u32) -> Codes
     ensures { result ≡ codes_of architecture }
 {
-    let k0 = pair_code(architecture);
-    let k1 = pair_code(architecture / 256);
-    let k2 = pair_code(architecture / 65536);
-    let k3 = pair_code(architecture / 16777216);
-    Codes { k0, k1, k2, k3 }
+    Codes {
+        k0: pair_code(architecture),
+        k1: pair_code(architecture / 256),
+        k2: pair_code(architecture / 65536),
+        k3: pair_code(architecture / 16777216),
+    }
 }
 
 // The sections of such a number. COPY makes a function of its own of each: what the last arm below calls shares no text with the others.

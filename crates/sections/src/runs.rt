@@ -13,14 +13,7 @@ use blocks::Refusal;
 fn eight_of(l: [i32; 8]) -> Eight
     ensures { list_of result ≡ l }
 {
-    let e0 = l[0];
-    let e1 = l[1];
-    let e2 = l[2];
-    let e3 = l[3];
-    let e4 = l[4];
-    let e5 = l[5];
-    let e6 = l[6];
-    let e7 = l[7];
+    let [e0, e1, e2, e3, e4, e5, e6, e7] = l;
     Eight {
         e0,
         e1,

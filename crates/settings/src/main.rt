@@ -12,7 +12,7 @@
 
 mod answers;
 
-ghost use Rattle.std.specs.Prelude.{◌≤◌, ◌<◌, length, IfOk};
+ghost use Rattle.std.specs.Prelude.{◌≤◌, length, IfOk};
 
 use answers::{put_back, put_checked, put_copied, put_forth};
 use std::env::FillError;
@@ -21,52 +21,19 @@ use std::io::Read;
 use std::rt::Env;
 use text::comparing::same_bytes;
 
-// How much of the text was taken, and whether to read on.
-#[derive(Drop)]
-struct Taken {
-    len: usize,
-    more: bool,
-}
-
-// One read behind the first `len` bytes.
-fn take_some(input: &mut impl Read, text: &mut [u8], len: usize) -> io::Result<Taken>
-    ensures { IfOk result (λ taken. taken.len ≤ length text.new) }
-{
-    if text.len() <= len {
-        return Ok(Taken {
-            len: text.len(),
-            more: false,
-        });
-    }
-    let n = input.read(&mut text[len..])?;
-    let next = len + n;
-    Ok(Taken {
-        len: next,
-        more: 0 < n,
-    })
-}
-
-// The turns that are left: none where there is no more to read.
-fn turns_left(turns: u64, more: bool) -> u64
-    requires { 0 < turns }
-    ensures { result < turns }
-{
-    if more { turns - 1 } else { 0 }
-}
-
-// The input, read by read. A proved loop ends, and nothing says that the input does: the turns count down from a number
-// that no input uses up.
-fn take_all(input: &mut impl Read, text: &mut [u8]) -> io::Result<Taken>
-    ensures { IfOk result (λ taken. taken.len ≤ length text.new) }
+// Reads until the buffer is full or the input ends: how many bytes came, put at the start of the buffer.
+fn take_all(input: &mut impl Read, text: &mut [u8]) -> io::Result<usize>
+    ensures { IfOk result (λ n. n ≤ length text.new) }
 {
     let mut len: usize = 0;
-    let mut turns = u64::MAX;
-    while 0 < turns {
-        let t = take_some(input, text, len)?;
-        len = t.len;
-        turns = turns_left(turns, t.more);
+    while len < text.len() {
+        let n = input.read(&mut text[len..])?;
+        if n == 0 {
+            break;
+        }
+        len += n;
     }
-    Ok(Taken { len, more: false })
+    Ok(len)
 }
 
 // What the first argument asks for.
@@ -135,7 +102,6 @@ fn main(rt: HostRuntime) -> io::Result<()> {
     let mut text = [0u8; 16384];
     let mut out = [0u8; 16384];
     let question = first_argument(&rt);
-    let t = take_all(&mut rt.stdin(), &mut text)?;
-    let len = t.len;
+    let len = take_all(&mut rt.stdin(), &mut text)?;
     answer(&rt, question, &text[..len], &mut out)
 }

@@ -21,6 +21,9 @@ use text::hex::hex_digit;
 use text::numbers::{Number, parsed};
 use words::casts::{i32_as_u32, u32_as_i32};
 
+// How many bytes a line has at most, before its newline.
+const LONGEST: usize = 160;
+
 // Numbers of some fields: how many, and the first eight as words.
 #[derive(Clone, Copy, Debug, PartialEq, Eq)]
 pub struct Numbers {
@@ -223,7 +226,7 @@ fn body_in(version: Version, word: &[u8], fields: Option<&[u8]>) -> Option<Body>
 pub(crate) fn record_in(version: Version, line: &[u8]) -> Option<Entry>
     ensures { result ≡ line_read (record_in version line.now) }
 {
-    if 160 < line.len() {
+    if LONGEST < line.len() {
         return None;
     }
     let (word, behind) = cut(line, b'\t');

@@ -1,9 +1,9 @@
--- After each turn the text that was taken lies within the buffer, and the turns go down.
-use Rattle.std.proofs.Common.{◌≡◌, ◌≤◌, length}
+-- What was read lies within the buffer, and each turn reads a byte more.
+use Rattle.std.proofs.Common.{length, ◌-◌, ◌≤◌}
 use Rattle.settings.proofs.take_all.Given as goal
 
-abbrev pub invariant-loop-turns : goal.invariant-loop-turns
-invariant-loop-turns g l = (l.len ≤ length l.text) × (length l.text ≡ length l.initial.text)
+abbrev pub invariant-loop-len : goal.invariant-loop-len
+invariant-loop-len g l = l.len ≤ length l.text
 
-abbrev pub decreases-loop-turns : goal.decreases-loop-turns
-decreases-loop-turns g l = l.turns
+abbrev pub decreases-loop-len : goal.decreases-loop-len
+decreases-loop-len g l = length l.initial.text - l.len
