@@ -9,17 +9,17 @@ use Rattle.capi_cic.proofs.decimator.mittenload_cic_decimate.Goals as goal
 
 pub returns-then-y-eq0 : goal.returns-then-y-eq0
 returns-then-y-eq0 c = decimate-given (signed_ops w32) _ c.numbers_with-s.result c.decimate.new.self c.decimate.new.integrators c.decimate.new.combs
-    c.numbers_with-s.ensures _ c.decimate.result (rw (to_z-of_z w32 c.args.x c.ranges.x) at c.decimate.ensures) _ _ _ _ _ _ c.in-Ok-Some.is
+    c.numbers_with-s.ensures _ c.decimate.result (rw (to_z-of_z w32 c.args.x c.ranges.x) at c.decimate.ensures) _ _ _ _ c.in-Ok-Some.y _ (rw c.in-Ok-Some.field-0-is at c.in-Ok-Some.is)
     c.given_out.ensures (sym (rw (eq-eqb _ _ c.if-y-eq0.true)))
 
 pub returns-else-y-eq0 : goal.returns-else-y-eq0
 returns-else-y-eq0 c = decimate-given (signed_ops w32) _ c.numbers_with-s.result c.decimate.new.self c.decimate.new.integrators c.decimate.new.combs
-    c.numbers_with-s.ensures _ c.decimate.result (rw (to_z-of_z w32 c.args.x c.ranges.x) at c.decimate.ensures) _ _ _ _ _ _ c.in-Ok-Some.is
+    c.numbers_with-s.ensures _ c.decimate.result (rw (to_z-of_z w32 c.args.x c.ranges.x) at c.decimate.ensures) _ _ _ _ c.in-Ok-Some.y _ (rw c.in-Ok-Some.field-0-is at c.in-Ok-Some.is)
     c.given_out.ensures (sym (rw (ne_eqb _ _ c.if-y-eq0.false)))
 
 pub returns-in-Ok-None : goal.returns-in-Ok-None
 returns-in-Ok-None c = decimate_nothing (signed_ops w32) _ c.numbers_with-s.result c.decimate.new.self c.decimate.new.integrators c.decimate.new.combs
-    c.numbers_with-s.ensures _ c.decimate.result (rw (to_z-of_z w32 c.args.x c.ranges.x) at c.decimate.ensures) c.in-Ok-None.is
+    c.numbers_with-s.ensures _ c.decimate.result (rw (to_z-of_z w32 c.args.x c.ranges.x) at c.decimate.ensures) (rw c.in-Ok-None.field-0-is at c.in-Ok-None.is)
 
 pub returns-in-Err : goal.returns-in-Err
 returns-in-Err c = decimate-refused (signed_ops w32) _ c.numbers_with-s.result c.decimate.new.self c.decimate.new.integrators c.decimate.new.combs
