@@ -82,8 +82,8 @@ pub extern "C" fn bench_interpolate64(
 pub extern "C" fn bench_fir(xs: &[i32], ys: &mut [i32])
     ensures { ys.new ≡ written_of fresh xs.now ys.old }
 {
-    let engine = Fir::new();
-    engine.decimate_block(xs, ys);
+    let mut engine = Fir::new();
+    let _wrote = engine.decimate_block(xs, ys);
 }
 
 // What a step gives, or 0.

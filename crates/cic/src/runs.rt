@@ -1,6 +1,6 @@
 // Blocks of steps, and the settled part of what a decimator's block wrote.
 ghost use Rattle.std.specs.Prelude.{◌≡◌, MatchResult};
-ghost use Rattle.blocks.specs.Refusals.{refusal_at};
+ghost use Rattle.blocks.specs.declared.refusal.Refusal.{Refusal};
 ghost use Rattle.sums.specs.Runs.{fill_out, settled_number, settled_part};
 ghost use Rattle.sums.specs.Counted.{block_state, block_out, fill_counted};
 ghost use Rattle.shape.specs.Answers.{block_wrote, block_read};
@@ -59,7 +59,7 @@ pub fn settled_part<W: Word>(out: &[W], written: usize, told: usize) -> &[W]
 pub fn settled<W: Word>(out: &[W], written: usize, told: usize) -> Result<&[W], Refusal>
     ensures { MatchResult result
         (λ part. (part.now ≡ settled_part out.now written told) × (settled_number out.now written ≡ 0))
-        (λ refusal. refusal ≡ refusal_at (settled_number out.now written)) }
+        (λ refusal. (refusal ≡ Refusal.ShortOutput) × (settled_number out.now written ≡ 20)) }
 {
     if out.len() < written {
         return Err(Refusal::ShortOutput);

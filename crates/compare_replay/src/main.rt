@@ -11,10 +11,9 @@ use rust_answers::lines::report;
 use std::io;
 use text::comparing::same_bytes;
 use text::parts::part_end;
-use words::unsigned::add_u64;
 
 // A place past the end of any slice.
-const NOWHERE: usize = 18446744073709551615;
+const NOWHERE: usize = usize::MAX;
 
 // The byte that a byte of the table stands for.
 fn decoded(b: u8) -> u8 {
@@ -31,15 +30,11 @@ fn decoded(b: u8) -> u8 {
 
 // The bytes that a line of the table stands for, to the front of to, as far as they fit: how many.
 fn decode(line: &[u8], to: &mut [u8]) -> usize {
-    let mut i: usize = 0;
-    while i < line.len() {
-        if to.len() <= i {
-            return i;
-        }
+    let n = line.len().min(to.len());
+    for i in 0..n {
         to[i] = decoded(line[i]);
-        i += 1;
     }
-    i
+    n
 }
 
 // The place behind the first n bytes of out in want, where they stand at the place; else nowhere.
@@ -54,7 +49,7 @@ fn behind(want: &[u8], at: usize, out: &[u8], n: usize) -> usize {
         return NOWHERE;
     }
     let end = at + n;
-    if same_bytes(&want[at..end], &out[0..n]) {
+    if same_bytes(&want[at..end], &out[..n]) {
         return end;
     }
     NOWHERE
@@ -74,7 +69,7 @@ fn cut(i: usize, size: usize, n: usize) -> usize
 }
 
 // A replay after some parts, where the next part starts, and the place in the wanted bytes behind what they gave.
-#[derive(Drop)]
+#[derive(Clone, Copy)]
 struct Parts {
     replay: Replay,
     next: usize,
@@ -82,21 +77,14 @@ struct Parts {
 }
 
 // The next part of a size; nothing at the end of the input.
-fn feed_part(p: Parts, input: &[u8], size: usize, want: &[u8], out: &mut [u8]) -> Parts {
+fn feed_part(p: &mut Parts, input: &[u8], size: usize, want: &[u8], out: &mut [u8]) {
     let n = input.len();
     let from = p.next;
-    if n <= from {
-        return p;
-    }
-    let end = cut(from, size, n);
-    let replay = p.replay;
-    let f = replay.feed(&input[from..end], out);
-    let next = f.replay;
-    let wrote = f.wrote;
-    Parts {
-        replay: next,
-        next: end,
-        at: behind(want, p.at, out, wrote.count),
+    if from < n {
+        let end = cut(from, size, n);
+        let wrote = p.replay.feed(&input[from..end], out);
+        p.next = end;
+        p.at = behind(want, p.at, out, wrote.unwrap_or(0));
     }
 }
 
@@ -107,29 +95,24 @@ fn parts_differ(input: &[u8], size: usize, want: &[u8], out: &mut [u8]) -> u64 {
         next: 0,
         at: 0,
     };
-    let mut turn: usize = 0;
-    while turn < input.len() {
-        p = feed_part(p, input, size, want, out);
-        turn += 1;
+    for _ in 0..input.len() {
+        feed_part(&mut p, input, size, want, out);
     }
-    let replay = p.replay;
-    let end = replay.finish(out);
-    differs(want, behind(want, p.at, out, end.count))
+    let wrote = p.replay.finish(out);
+    differs(want, behind(want, p.at, out, wrote.unwrap_or(0)))
 }
 
 // How many of the sizes up to 70 give something else.
 fn sizes_differ(input: &[u8], want: &[u8], out: &mut [u8]) -> u64 {
     let mut differ: u64 = 0;
-    let mut size: usize = 1;
-    while size <= 70 {
-        differ = add_u64(differ, parts_differ(input, size, want, out));
-        size += 1;
+    for size in 1..71 {
+        differ = differ.wrapping_add(parts_differ(input, size, want, out));
     }
     differ
 }
 
 // What was counted.
-#[derive(Drop)]
+#[derive(Clone, Copy)]
 struct Tally {
     cases: u64,
     differ: u64,
@@ -138,27 +121,21 @@ struct Tally {
 }
 
 // A case, whole and in parts.
-fn compare_case(input: &[u8], want: &[u8], out: &mut [u8], t: Tally) -> Tally {
-    let whole = replay_whole(input, out);
-    let differ = differs(want, behind(want, 0, out, whole.count));
+fn compare_case(input: &[u8], want: &[u8], out: &mut [u8], t: &mut Tally) {
+    let wrote = replay_whole(input, out);
+    let differ = differs(want, behind(want, 0, out, wrote.unwrap_or(0)));
     let cuts = sizes_differ(input, want, out);
-    Tally {
-        cases: add_u64(t.cases, 1),
-        differ: add_u64(t.differ, differ),
-        cuts: add_u64(t.cuts, 70),
-        cuts_differ: add_u64(t.cuts_differ, cuts),
-    }
+    t.cases = t.cases.wrapping_add(1);
+    t.differ = t.differ.wrapping_add(differ);
+    t.cuts = t.cuts.wrapping_add(70);
+    t.cuts_differ = t.cuts_differ.wrapping_add(cuts);
 }
 
 // The case whose input is the first n bytes of a slice, and whose output the first k of another.
-fn front_case(input: &[u8], n: usize, want: &[u8], k: usize, out: &mut [u8], t: Tally) -> Tally {
-    if input.len() < n {
-        return t;
+fn front_case(input: &[u8], n: usize, want: &[u8], k: usize, out: &mut [u8], t: &mut Tally) {
+    if n <= input.len() && k <= want.len() {
+        compare_case(&input[..n], &want[..k], out, t);
     }
-    if want.len() < k {
-        return t;
-    }
-    compare_case(&input[0..n], &want[0..k], out, t)
 }
 
 // Where the line that starts at from ends.
@@ -173,64 +150,48 @@ fn line_end(table: &[u8], from: usize) -> usize
     end
 }
 
-// Where the next line of the table starts, and what was counted.
-#[derive(Drop)]
-struct Walked {
-    next: usize,
-    tally: Tally,
-}
-
 // The line of the table at from: a comment, or a case's input with what it must give under it; nothing past the end.
+// Gives where the next line of the table starts.
 fn walk(
     table: &[u8],
     from: usize,
     input: &mut [u8],
     want: &mut [u8],
     out: &mut [u8],
-    t: Tally,
-) -> Walked {
+    t: &mut Tally,
+) -> usize {
     let n = table.len();
     if n <= from {
-        return Walked { next: n, tally: t };
+        return n;
     }
     let end = line_end(table, from);
     if n <= end {
-        return Walked { next: n, tally: t };
+        return n;
     }
     let below = end + 1;
     if table[from] == b'#' {
-        return Walked {
-            next: below,
-            tally: t,
-        };
+        return below;
     }
     let last = line_end(table, below);
     let a = decode(&table[from..end], input);
     let b = decode(&table[below..last], want);
-    Walked {
-        next: last + 1,
-        tally: front_case(input, a, want, b, out, t),
-    }
+    front_case(input, a, want, b, out, t);
+    last + 1
 }
 
 // The cases of the table: no more lines than bytes.
 fn compare_table(table: &[u8], input: &mut [u8], want: &mut [u8], out: &mut [u8]) -> Tally {
-    let mut w = Walked {
-        next: 0,
-        tally: Tally {
-            cases: 0,
-            differ: 0,
-            cuts: 0,
-            cuts_differ: 0,
-        },
+    let mut tally = Tally {
+        cases: 0,
+        differ: 0,
+        cuts: 0,
+        cuts_differ: 0,
     };
-    let mut turn: usize = 0;
-    while turn < table.len() {
-        let tally = w.tally;
-        w = walk(table, w.next, input, want, out, tally);
-        turn += 1;
+    let mut next: usize = 0;
+    for _ in 0..table.len() {
+        next = walk(table, next, input, want, out, &mut tally);
     }
-    w.tally
+    tally
 }
 
 fn main(rt: HostRuntime) -> io::Result<()> {

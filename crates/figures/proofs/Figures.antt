@@ -1,7 +1,6 @@
 -- The bench figures, by computation.
 use mathlib.Core.Path.{refl}
 use Rattle.words.specs.Words.{word, wrap}
-use Rattle.blocks.specs.Verdicts.{verdict_of}
 use Rattle.sums.specs.Machine.{
   pushed,
   integrated,
@@ -36,6 +35,6 @@ pub all_right : Figures
 unfolding computed table unwrapper_after outputs risings new_state resume_state zeroed refusal_of step_state step_given decimated
     decimated_at given given_at rise_number rise_state rise_given interpolated interpolated_at risen risen_at view put rows put_rows
     integrated summed less pushed combed differed wrap word replay replay_from output_line end_line bad_line line_of take_of record_of
-    name_of same parted number_of plain_of leading_of digits_from spelt verdict_of rate_state clear_state take_number_of take_state take_given accumulated carries combined
+    name_of same parted number_of plain_of leading_of digits_from spelt rate_state clear_state take_number_of take_state take_given accumulated carries combined
     retaining output keeping modulator_out next_of difference_of turns_of
 all_right = refl

@@ -18,7 +18,6 @@ use Rattle.blocks.specs.Blocks.{unless}
 use Rattle.sums.specs.Signed.{exact_ops}
 use Rattle.sums.specs.Moving.{moving}
 use Rattle.sums.specs.Counted.{Numbered, plain}
-use Rattle.sums.specs.State.{refusal_of}
 use Rattle.sums.specs.Runs.{needed, values, over}
 use Rattle.sums.specs.Demands.{input, modulo, Decimates}
 use Rattle.demands.proofs.Demands.{after-new}

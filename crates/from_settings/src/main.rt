@@ -5,39 +5,30 @@
 #![tactic(auto)]
 
 use cic::state::Cic;
-use cic::steps::Out;
 use entries::settings::{Entry, Kind};
 use std::io;
 use store_read::reading::read_form1;
 use wdf::filter::Wdf;
-use words::casts::i32_as_u32;
 
-fn print(rt: &impl Print, v: i32) -> io::Result<()> {
-    let bits = i32_as_u32(v) as u64;
-    if bits < 2147483648 {
-        rt.print(bits)?;
-    } else {
-        rt.write_all(b"-")?;
-        rt.print(4294967296 - bits)?;
-    }
-    rt.write_all(b"\n")
-}
-
+// The first output of a filter of such numbers, 0 where they are refused.
 fn first_decimated(order: u32, delay: u32, rate: u32) -> i32 {
-    let made = Cic::new(order as usize, delay as usize, rate);
-    let filter = made.state;
-    let stepped = filter.decimate(1000);
-    let out = stepped.out;
-    match out {
-        Out::Given(output) => output.value,
-        Out::Nothing => 0,
-        Out::Refused(_) => 0,
+    let Ok(made) = Cic::new(order as usize, delay as usize, rate) else {
+        return 0;
+    };
+    let mut filter: Cic<i32> = made;
+    match filter.decimate(1000) {
+        Ok(Some(output)) => output.value,
+        _ => 0,
     }
 }
 
 fn first_passed(sections: usize, architecture: u32, a: [i32; 8]) -> i32 {
     let mut filter = Wdf::from_form1(sections, architecture, a).unwrap_or(Wdf::EMPTY);
     filter.process(1000).unwrap_or(0)
+}
+
+fn print_line(rt: &impl Print, v: i32) -> io::Result<()> {
+    println!(rt; "{v}")
 }
 
 fn run(rt: &impl Print, entry: Entry) -> io::Result<()> {
@@ -51,8 +42,11 @@ fn run(rt: &impl Print, entry: Entry) -> io::Result<()> {
     let kind = entry.kind;
     let a = entry.a;
     match kind {
-        Kind::Cic(order, delay, rate) => print(rt, first_decimated(order, delay, rate))?,
-        Kind::Wdf(sections, architecture) => print(rt, first_passed(sections, architecture, a))?,
+        Kind::Cic(order, delay, rate) => print_line(rt, first_decimated(order, delay, rate))?,
+        Kind::Wdf(sections, architecture) => print_line(
+            rt,
+            first_passed(sections, architecture, a),
+        )?,
         // A store of form 1 holds none.
         Kind::Dither(_) => {}
     }

@@ -12,6 +12,7 @@ const ZERO: u64 = b'0' as u64;
 const A: u64 = b'a' as u64;
 
 // The letter of a number's last digit.
+#[tactic(auto, unfolding(crate::specs::Letters::letter_of))]
 pub fn last_letter(n: u64) -> u8
     ensures { result ≡ letter_of (n % 16) }
 {
@@ -22,30 +23,13 @@ pub fn last_letter(n: u64) -> u8
     (A + (d - 10)) as u8
 }
 
-// The letters of a number's last seven digits.
-pub fn seven_letters(n: u64) -> [u8; 7]
-    ensures { result ≡ letters_of 7 n }
+// The letters of a number's last N digits.
+pub fn letters<const N: usize>(n: u64) -> [u8; N]
+    ensures { result ≡ letters_of N n }
 {
-    let mut letters = [0u8; 7];
+    let mut letters = [0u8; N];
     let mut left = n;
-    let mut i: usize = 7;
-    while 0 < i {
-        i -= 1;
-        letters[i] = last_letter(left);
-        left = left / 16;
-    }
-    letters
-}
-
-// The letters of all sixteen.
-pub fn sixteen_letters(n: u64) -> [u8; 16]
-    ensures { result ≡ letters_of 16 n }
-{
-    let mut letters = [0u8; 16];
-    let mut left = n;
-    let mut i: usize = 16;
-    while 0 < i {
-        i -= 1;
+    for i in (0..N).rev() {
         letters[i] = last_letter(left);
         left = left / 16;
     }

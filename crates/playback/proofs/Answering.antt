@@ -16,9 +16,9 @@ use Rattle.text.proofs.Spelling.{spelt-short, spelt-most, decimal_most, signed_m
 use Rattle.playback.specs.Replays.{last_field, output_line, end_line, bad_line}
 use Rattle.playback.specs.Places as Places
 use Rattle.playback.specs.Places.{front_written, answer_number}
-use Rattle.playback.specs.declared.answers.BytesPut.{BytesPut}
-use Rattle.blocks.specs.Verdicts.{verdict_of}
-use Rattle.blocks.specs.declared.Verdict.TheVariants.{Done, Refused}
+use Rattle.std.specs.Prelude.{Result, Ok, Err}
+use Rattle.blocks.specs.declared.refusal.Refusal.{Refusal}
+use Rattle.blocks.specs.Refusals.{answer, refusal_at}
 
 pub short : (n : ℕ) → length (decimal_of n) ≤ 20
 short n = spelt-short 20 n
@@ -140,17 +140,17 @@ front o bs o' r w = (w.next ∙ omega arith, w.text ∙ rw (zero-add (length bs)
     zero-add n = omega arith
 
 module _ (number : ℕ) (bs o : List ℕ) where
-  pub refused_20 : number ≡ 20 → (◌≡◌ {A = BytesPut} (record { count = 0; verdict = Refused 20 }) (Places.written number bs))
+  pub refused_20 : number ≡ 20 → (◌≡◌ {A = Result ℕ Refusal} (Err Refusal.ShortOutput) (Places.written number bs))
       × (o ≡ front_written number bs o)
-  unfolding verdict_of
+  unfolding answer refusal_at
   refused_20 e = (sym (rw e), sym (rw e))
 
   pub done : (o' : List ℕ) (r : ℕ) → number ≡ 0 → Wrote o 0 bs r o'
-      → (◌≡◌ {A = BytesPut} (record { count = r; verdict = Done }) (Places.written number bs)) × (o' ≡ front_written number bs o)
-  unfolding verdict_of
+      → (◌≡◌ {A = Result ℕ Refusal} (Ok r) (Places.written number bs)) × (o' ≡ front_written number bs o)
+  unfolding answer
   done o' r e w =
       let f = front o bs o' r w in
-      (ap (λ (n : ℕ). record { count = n; verdict = Done }) f.0 ∙ sym (rw e), f.1 ∙ sym (rw e))
+      (ap Ok f.0 ∙ sym (rw e), f.1 ∙ sym (rw e))
 
 pub answer-short : (o : List ℕ) → length o < 44 → answer_number o ≡ 20
 answer-short o h = rw (lt-ltb _ _ h)

@@ -3,7 +3,7 @@ use native.Mathlib.Omega.{arith}
 use mathlib.Core.Path.{◌≡◌, sym, ap, ◌∙◌}
 use mathlib.Core.Bool.{Bool, true, false, cond}
 use mathlib.Core.List.{List, [], ◌++◌}
-use Prim.Native.Nat.{ℕ, ◌+◌, ◌*◌, ◌^◌, ◌≤◌, ◌<◌}
+use Prim.Native.Nat.{ℕ, zero, suc, ◌+◌, ◌*◌, ◌^◌, ◌≤◌, ◌<◌}
 use lib.Dec.{ltb, eqb}
 use lib.ListN.{length, drop, length-take, length-append}
 use lib.Seq.{drop-length}
@@ -23,12 +23,13 @@ use Rattle.playback.specs.Places.{
   front_written,
   written,
   fed,
+  PartFed,
 }
 use Rattle.playback.specs.Inner.Advances.{Room, Advances}
-use Rattle.playback.specs.declared.answers.BytesPut.{BytesPut}
 use Rattle.playback.specs.declared.driver.Replay.{Replay}
-use Rattle.playback.specs.declared.driver.Fed.{Fed}
-use Rattle.blocks.specs.declared.Verdict.TheVariants.{Done, Refused}
+use Rattle.std.specs.Prelude.{Result, Ok, Err}
+use Rattle.blocks.specs.declared.refusal.Refusal.{Refusal}
+use Rattle.blocks.specs.Refusals.{answer}
 use Rattle.playback.proofs.Answering.{refused_20, done}
 use Rattle.playback.proofs.Running.{runs_end}
 use Rattle.playback.proofs.Wholes.{wholly, whole}
@@ -47,16 +48,8 @@ module _ (input out : List ℕ) (short : Bool) (is : short ≡ ltb (length out) 
 
 -- a part that was refused or taken
 module _ (r : Replay) (input out : List ℕ) where
-  pub feed_refused : feed_number input out ≡ 20 → (◌≡◌ {A = Fed}
-      (record { replay = r; wrote = record { count = 0; verdict = Refused 20 } }) (fed r input out))
-      × (out ≡ front_written (feed_number input out) (bytes_of (place_of r) input) out)
-  feed_refused e =
-      let w = refused_20 (feed_number input out) (bytes_of (place_of r) input) out e in (
-        ap (λ (x : BytesPut). record { replay = r; wrote = x }) w.0
-            ∙ ap (λ (x : Replay). record { replay = x; wrote = written (feed_number input out) (bytes_of (place_of r) input) })
-            (sym (rw e)),
-        w.1,
-      )
+  pub feed_refused : feed_number input out ≡ 20 → PartFed r input out (Err Refusal.ShortOutput) r out
+  feed_refused e = let w = refused_20 (feed_number input out) (bytes_of (place_of r) input) out e in (sym (rw e), w.0, w.1)
 
   -- a run to the end of the part
   module _ (first last : Replay) (here : place_of first ≡ place_of r) (next w : ℕ) (o' : List ℕ)
@@ -67,17 +60,10 @@ module _ (r : Replay) (input out : List ℕ) where
         let q = runs_end (place_of first) input out 0 (place_of last) w o' (rw e at t.runs) in
         (ap (λ (p : Place). fed_of p input) (sym here) ∙ q.0, wrote-same (ap (λ (p : Place). bytes_of p input) here) q.1)
 
-    pub feed_done : feed_number input out ≡ 0 → (tidy : Replay) → tidy ≡ replay_of (place_of last)
-        → (◌≡◌ {A = Fed} (record { replay = tidy; wrote = record { count = w; verdict = Done } }) (fed r input out))
-        × (o' ≡ front_written (feed_number input out) (bytes_of (place_of r) input) out)
+    pub feed_done : feed_number input out ≡ 0 → (tidy : Replay) → tidy ≡ replay_of (place_of last) → PartFed r input out (Ok w) tidy o'
     feed_done e tidy q =
         let d = done (feed_number input out) (bytes_of (place_of r) input) out o' w e ran_all.1 in
-        let p : tidy ≡ replay_of (fed_of (place_of r) input) = q ∙ ap replay_of (sym ran_all.0) in (
-          ap (λ (x : BytesPut). record { replay = tidy; wrote = x }) d.0
-              ∙ ap (λ (x : Replay). record { replay = x; wrote = written (feed_number input out) (bytes_of (place_of r) input) })
-              (p ∙ sym (rw e)),
-          d.1,
-        )
+        let p : tidy ≡ replay_of (fed_of (place_of r) input) = q ∙ ap replay_of (sym ran_all.0) in (p ∙ sym (rw e), d.0, d.1)
 
     -- and then the end of the input
     pub ran_whole : place_of r ≡ start → length input < 2 ^ 64 → (n : ℕ) (o'' : List ℕ)
@@ -88,16 +74,15 @@ module _ (r : Replay) (input out : List ℕ) where
         wrote-same (a ∙ whole input h) (then (omega arith) ran_all.1 f)
 
 -- for callers: what was written is within the slice, and a part for which there is room is taken
-pub count_fits : (number : ℕ) (bs o o' : List ℕ) (w : BytesPut) → w ≡ written number bs → o' ≡ front_written number bs o
-    → w.count ≤ length o'
-count_fits number bs o o' w e q = by (eqb number 0) (ap (λ (x : BytesPut). x.count) e) q
-  where
-    by : (t : Bool) → w.count ≡ cond t (length bs) 0 → o' ≡ cond t (bs ++ drop (length bs) o) o → w.count ≤ length o'
-    by true p r = omega (arith, ap length r, length-append bs (drop (length bs) o))
-    by false p r = omega arith
+pub count_fits : (number : ℕ) (bs o o' : List ℕ) (n : ℕ) → Ok n ≡ written number bs → o' ≡ front_written number bs o → n ≤ length o'
+unfolding answer
+count_fits zero bs o o' n e q =
+    let p : n ≡ length bs = cc in omega (arith, p, ap length q, length-append bs (drop (length bs) o))
+count_fits (suc k) bs o o' n e q = absurd (let z : ◌≡◌ {A = ℕ} 0 1 = cc in omega arith)
 
-pub feed_takes : (r : Replay) (input out : List ℕ) (f : Fed) → 7 * length input + 492 ≤ length out → f ≡ fed r input out
-    → (f.replay ≡ replay_of (fed_of (place_of r) input)) × (f.wrote.count ≡ length (bytes_of (place_of r) input))
-feed_takes r input out f h e =
-    let n : feed_number input out ≡ 0 = rw (le-ltb (length out) (7 * length input + 492) h) in
-    (ap (λ (x : Fed). x.replay) e ∙ rw n, ap (λ (x : Fed). x.wrote.count) e ∙ rw n)
+pub feed_takes : (r : Replay) (input out : List ℕ) (w : Result ℕ Refusal) (after : Replay) (left : List ℕ)
+    → 7 * length input + 492 ≤ length out → PartFed r input out w after left
+    → (after ≡ replay_of (fed_of (place_of r) input)) × (w ≡ Ok (length (bytes_of (place_of r) input)))
+unfolding answer
+feed_takes r input out w after left h f =
+    let n : feed_number input out ≡ 0 = rw (le-ltb (length out) (7 * length input + 492) h) in (f.0 ∙ rw n, f.1 ∙ rw n)

@@ -7,7 +7,6 @@ use Rattle.text.specs.Letters.{byte, bytes}
 use Rattle.text.specs.Numbers.{digits_from, leading_of, plain_of, number_of, spelt}
 use Rattle.text.specs.Parts.{parted}
 use Rattle.words.specs.Words.{word, wrap}
-use Rattle.blocks.specs.Verdicts.{verdict_of}
 use Rattle.sums.specs.Machine.{pushed, integrated, summed, less, combed, differed, decimated_at, decimated, given_at, given}
 use Rattle.sums.specs.State.{rows, put_rows, view, put, refusal_of, zeroed}
 use Rattle.sums.specs.Calls.{new_state, rate_state, clear_state, step_state, step_given}
@@ -63,6 +62,6 @@ table =
 
 pub figures : map (λ (c : Case). replay c.input) table ≡ map (λ (c : Case). c.output) table
 unfolding table replay replay_from output_line end_line bad_line line_of take_of record_of name_of same parted number_of plain_of leading_of
-    digits_from spelt verdict_of new_state rate_state clear_state take_number_of take_state take_given step_state step_given zeroed refusal_of view
+    digits_from spelt new_state rate_state clear_state take_number_of take_state take_given step_state step_given zeroed refusal_of view
     put rows put_rows given given_at decimated decimated_at differed combed less summed integrated pushed wrap word
 figures = refl

@@ -1,6 +1,7 @@
 -- The replay byte by byte, as a part of the input leaves it: what the driver promises. specs/Replays is what it comes to.
-use Rattle.std.specs.Prelude.{◌≡◌, Bool, true, false, cond, List, [], ◌∷◌, ◌++◌, ℕ, ◌+◌, ◌-◌, ◌*◌, min, ltb, eqb, length, take, drop, replicate}
-use Rattle.blocks.specs.Verdicts.{verdict_of}
+use Rattle.std.specs.Prelude.{◌≡◌, Bool, true, false, cond, List, [], ◌∷◌, ◌++◌, ℕ, ◌+◌, ◌-◌, ◌*◌, min, ltb, eqb, length, take, drop, replicate, Result}
+use Rattle.blocks.specs.declared.refusal.Refusal.{Refusal}
+use Rattle.blocks.specs.Refusals.{answer}
 use Rattle.blocks.specs.Blocks.{unless}
 use Rattle.text.specs.Letters.{newline}
 use Rattle.records.specs.Sessions.{kept_words, refuse, line_of}
@@ -8,9 +9,7 @@ use Rattle.playback.specs.Replays.{output_line, end_line, bad_line, unopened}
 use Rattle.records.specs.declared.session.Session.{Session}
 use Rattle.records.specs.declared.session.Reply.{Reply}
 use Rattle.records.specs.declared.session.Taken.{Taken}
-use Rattle.playback.specs.declared.answers.BytesPut.{BytesPut}
 use Rattle.playback.specs.declared.driver.Replay.{Replay}
-use Rattle.playback.specs.declared.driver.Fed.{Fed}
 
 -- Where a replay stands: its filter, the lines and outputs so far, the next line so far, and whether it goes on.
 pub record Place : Type 0 where
@@ -111,23 +110,21 @@ feed_number input out = cond (ltb (length out) (7 * length input + 492)) 20 0
 abbrev pub front_written : ℕ → List ℕ → List ℕ → List ℕ
 front_written number bytes out = unless number out (bytes ++ drop (length bytes) out)
 
-abbrev pub written : ℕ → List ℕ → BytesPut
-written number bytes = record { count = unless number 0 (length bytes); verdict = verdict_of number }
+abbrev pub written : ℕ → List ℕ → Result ℕ Refusal
+written number bytes = answer number (length bytes)
 
--- what a call that writes to the front of a lent slice answers and leaves there
-abbrev pub Writes : ℕ → List ℕ → List ℕ → BytesPut → List ℕ → Type 0
+-- what a call that writes to the front of a lent slice answers, how many bytes or a refusal, and leaves there
+abbrev pub Writes : ℕ → List ℕ → List ℕ → Result ℕ Refusal → List ℕ → Type 0
 Writes number bytes out r left = (r ≡ written number bytes) × (left ≡ front_written number bytes out)
 
--- a part of the input: the replay after it, and what was written
-abbrev pub fed : Replay → List ℕ → List ℕ → Fed
-fed r input out = record {
-  replay = unless (feed_number input out) r (replay_of (fed_of (place_of r) input));
-  wrote = written (feed_number input out) (bytes_of (place_of r) input);
-}
+-- a part of the input: the replay after it, and what was written; a refused part changes nothing
+abbrev pub fed : Replay → List ℕ → List ℕ → Replay
+fed r input out = unless (feed_number input out) r (replay_of (fed_of (place_of r) input))
 
-abbrev pub PartFed : Replay → List ℕ → List ℕ → Fed → List ℕ → Type 0
-PartFed r input out f left =
-    (f ≡ fed r input out) × (left ≡ front_written (feed_number input out) (bytes_of (place_of r) input) out)
+abbrev pub PartFed : Replay → List ℕ → List ℕ → Result ℕ Refusal → Replay → List ℕ → Type 0
+PartFed r input out w after left =
+    (after ≡ fed r input out) × (w ≡ written (feed_number input out) (bytes_of (place_of r) input))
+    × (left ≡ front_written (feed_number input out) (bytes_of (place_of r) input) out)
 
 -- An input in parts: what they give out one after the other, and then the end.
 unfoldable pub concatenated : List (List ℕ) → List ℕ

@@ -6,16 +6,9 @@ ghost use Rattle.playback.specs.Replays.{last_field, output_line, end_line, bad_
 ghost use Rattle.playback.specs.Places.{reply_bytes, goes_on, answer_number, Writes};
 ghost use Rattle.playback.specs.Inner.Advances.{line_room};
 
-use blocks::Verdict;
+use blocks::Refusal;
 use records::session::Reply;
 use text::writing::{put_byte, put_bytes, put_decimal, put_signed64};
-
-// How many bytes were written to the front of a lent slice, and whether it was long enough.
-#[derive(Clone, Copy)]
-pub struct BytesPut {
-    pub count: usize,
-    pub verdict: Verdict,
-}
 
 // A line's last field: a tab, a number and the newline.
 fn put_last(out: &mut [u8], at: usize, n: u64) -> usize
@@ -86,20 +79,14 @@ pub(crate) fn put_reply(out: &mut [u8], at: usize, line: u64, reply: Reply) -> u
     }
 }
 
-// What line number `line` is answered, to the front of out; the rest stays. Refused with 20, nothing written, where out
+// What line number `line` is answered, to the front of out; the rest stays. Gives how many bytes that is. Refused with 20, nothing written, where out
 // is shorter than 44 bytes, the longest answer.
-pub fn write_reply(line: u64, reply: Reply, out: &mut [u8]) -> BytesPut
+pub fn write_reply(line: u64, reply: Reply, out: &mut [u8]) -> Result<usize, Refusal>
     ensures { Writes (answer_number out.old) (reply_bytes line reply) out.old result out.new }
 {
     if out.len() < 44 {
-        return BytesPut {
-            count: 0,
-            verdict: Verdict::Refused(20),
-        };
+        return Err(Refusal::ShortOutput);
     }
     let n = put_reply(out, 0, line, reply);
-    BytesPut {
-        count: n,
-        verdict: Verdict::Done,
-    }
+    Ok(n)
 }

@@ -4,9 +4,9 @@ ghost use Rattle.text.specs.Writing.{Wrote};
 ghost use Rattle.playback.specs.Replays.{replay};
 ghost use Rattle.playback.specs.Places.{start, place_of, replay_of, finish_bytes, answer_number, feed_number, Writes, PartFed};
 
-use crate::answers::{BytesPut, put_bad, put_end};
+use crate::answers::{put_bad, put_end};
 use crate::turns::{count_up, replay_part};
-use blocks::Verdict;
+use blocks::Refusal;
 use cic::state::Cic;
 use records::session::Session;
 
@@ -20,13 +20,6 @@ pub struct Replay {
     pub line: [u8; 64],
     pub len: usize,
     pub going: bool,
-}
-
-// A replay after a part of its input, and what was written.
-#[derive(Clone, Copy)]
-pub struct Fed {
-    pub replay: Replay,
-    pub wrote: BytesPut,
 }
 
 // The first len bytes of line, and then zeros.
@@ -90,52 +83,33 @@ impl Replay {
     }
 
     // A part of the input, of any length and cut anywhere: what it gives out goes to the front of out, and the rest of
-    // out stays. Refused with 20 where out is shorter than 7 bytes for each of the part's and 492 more; a refused part
+    // out stays. Gives how many bytes that is. Refused with 20 where out is shorter than 7 bytes for each of the part's and 492 more; a refused part
     // changes nothing.
-    pub fn feed(self, input: &[u8], out: &mut [u8]) -> Fed
-        ensures { PartFed self input.now out.old result out.new }
+    pub fn feed(&mut self, input: &[u8], out: &mut [u8]) -> Result<usize, Refusal>
+        ensures { PartFed self.old input.now out.old result self.new out.new }
     {
         if short_of(out.len(), input.len()) {
-            let none = BytesPut {
-                count: 0,
-                verdict: Verdict::Refused(20),
-            };
-            return Fed {
-                replay: self,
-                wrote: none,
-            };
+            return Err(Refusal::ShortOutput);
         }
         let first = self.clipped();
         let mut samples = [0i64; 512];
         let mut given = [0i64; 512];
         let t = replay_part(first, input, out, &mut samples, &mut given);
         let last = t.replay;
-        let wrote = BytesPut {
-            count: t.written,
-            verdict: Verdict::Done,
-        };
-        Fed {
-            replay: last.tidied(),
-            wrote,
-        }
+        *self = last.tidied();
+        Ok(t.written)
     }
 
     // The end of the input: `end` and the count of outputs, or a refusal, goes to the front of out, and the rest of out
     // stays. Refused with 20, nothing written, where out is shorter than 44 bytes.
-    pub fn finish(self, out: &mut [u8]) -> BytesPut
+    pub fn finish(self, out: &mut [u8]) -> Result<usize, Refusal>
         ensures { Writes (answer_number out.old) (finish_bytes (place_of self)) out.old result out.new }
     {
         if out.len() < 44 {
-            return BytesPut {
-                count: 0,
-                verdict: Verdict::Refused(20),
-            };
+            return Err(Refusal::ShortOutput);
         }
         let n = put_finish(self, out, 0);
-        BytesPut {
-            count: n,
-            verdict: Verdict::Done,
-        }
+        Ok(n)
     }
 
     // The same place, of whose line no more than 64 bytes are said to be there.
@@ -170,15 +144,12 @@ impl Replay {
 
 // The replay of an input that is there as a whole, to the front of out; the rest of out stays. Refused with 20, nothing
 // written, where out is shorter than 7 bytes for each of the input's and 492 more.
-pub fn replay_whole(input: &[u8], out: &mut [u8]) -> BytesPut
+pub fn replay_whole(input: &[u8], out: &mut [u8]) -> Result<usize, Refusal>
     ensures { Writes (feed_number input.now out.old) (replay input.now) out.old result
         out.new }
 {
     if short_of(out.len(), input.len()) {
-        return BytesPut {
-            count: 0,
-            verdict: Verdict::Refused(20),
-        };
+        return Err(Refusal::ShortOutput);
     }
     let first = Replay::start();
     let mut samples = [0i64; 512];
@@ -186,8 +157,5 @@ pub fn replay_whole(input: &[u8], out: &mut [u8]) -> BytesPut
     let t = replay_part(first, input, out, &mut samples, &mut given);
     let last = t.replay;
     let n = put_finish(last, out, t.written);
-    BytesPut {
-        count: n,
-        verdict: Verdict::Done,
-    }
+    Ok(n)
 }

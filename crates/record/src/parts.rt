@@ -1,10 +1,8 @@
 // A part of the input: its whole records taken one after the other, runs of words as blocks.
 ghost use Rattle.std.specs.Prelude.{◌≤◌};
 
-use cic64::runs::Wrote;
 use desk::desk::{Desk, Reply, take_record};
 use recorder::recorder::Recorder;
-use shape::numbers::lowered;
 use state_lines::put_state;
 use text::writing::{put_byte, put_bytes, put_decimal, put_signed64};
 use word_runs::runs::gather;
@@ -45,7 +43,7 @@ fn put_reply(out: &mut [u8], at: usize, r: Recorder, reply: Reply) -> usize {
         Reply::Silent => at,
         Reply::Output(y) => put_output(out, at, y.value, y.told, y.number),
         Reply::Saved => put_state(r, out, at),
-        Reply::Bad(number) => put_bad(out, at, f.inputs, number),
+        Reply::Bad(refusal) => put_bad(out, at, f.inputs, refusal.number()),
     }
 }
 
@@ -67,7 +65,7 @@ fn put_outputs(
     let end = at_most(count, given.len());
     while i < end {
         w = put_output(out, w, given[i], t, n);
-        t = lowered(t);
+        t = t.saturating_sub(1);
         n = add_u64(n, step);
         i += 1;
     }
@@ -132,8 +130,8 @@ fn take_words(
     if !d.opened {
         return same;
     }
-    let r = d.recorder;
-    let f = r.filter;
+    let mut recorder = d.recorder;
+    let f = recorder.filter;
     if input.len() < from {
         return same;
     }
@@ -142,13 +140,10 @@ fn take_words(
     if count == 0 {
         return same;
     }
-    let t = r.take(&words[..count], turns, given);
-    let wrote = t.wrote;
-    let Wrote::Outputs(w) = wrote else {
+    let Ok(w) = recorder.take(&words[..count], turns, given) else {
         return same;
     };
     let end = put_outputs(out, at, given, w.count, w.told, w.number, f.rate);
-    let recorder = t.recorder;
     let desk = Desk {
         opened: true,
         going: d.going,

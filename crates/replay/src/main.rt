@@ -4,70 +4,67 @@
 
 #![tactic(auto)]
 
-ghost use Rattle.std.specs.Prelude.{◌≡◌, ◌≤◌, ◌<◌, length};
+ghost use Rattle.std.specs.Prelude.{◌≡◌, ◌≤◌, length};
 ghost use Rattle.playback.specs.Places.{place_of, replay_of, fed_of, bytes_of};
 
-use playback::driver::{Fed, Replay};
+use playback::driver::Replay;
 use std::io;
 use std::io::Read;
 
-// A replay after a read: whether to read on, and whether the input is over.
-#[derive(Drop)]
-struct Pumped {
-    replay: Replay,
-    more: bool,
-    over: bool,
+// What a read brought: a part after which to read on, one after which a refusal has ended the replay, or the end of the input.
+#[derive(Clone, Copy, Debug, PartialEq, Eq)]
+enum Turn {
+    More,
+    Stopped,
+    Over,
 }
 
-// A part of at most 65,536 bytes, for which there is room.
-fn take(r: Replay, part: &[u8], out: &mut [u8]) -> Fed
+// A part of at most 65,536 bytes, for which there is room: how many bytes it gives out.
+#[tactic(auto, using(playback::proofs::Feeding::feed_takes, playback::proofs::Feeding::count_fits))]
+fn take(r: &mut Replay, part: &[u8], out: &mut [u8]) -> usize
     requires { (length part.now ≤ 65536) × (459244 ≤ length out.old) }
-    ensures { (result.replay ≡ replay_of (fed_of (place_of r) part.now))
-        × (result.wrote.count ≡ length (bytes_of (place_of r) part.now)) × (result.wrote.count ≤ length out.new) }
+    ensures { (r.new ≡ replay_of (fed_of (place_of r.old) part.now))
+        × (result ≡ length (bytes_of (place_of r.old) part.now)) × (result ≤ length out.new) }
 {
-    r.feed(part, out)
+    match r.feed(part, out) {
+        Ok(n) => n,
+        Err(_) => 0,
+    }
 }
 
 // One read, and what it gives out.
 fn pump(
     rt: &impl Print,
     input: &mut impl Read,
-    r: Replay,
+    r: &mut Replay,
     buffer: &mut [u8],
     out: &mut [u8],
-) -> io::Result<Pumped>
+) -> io::Result<Turn>
     requires { (length buffer.old ≤ 65536) × (459244 ≤ length out.old) }
 {
     let n = input.read(buffer)?;
     if n == 0 {
-        return Ok(Pumped {
-            replay: r,
-            more: false,
-            over: true,
-        });
+        return Ok(Turn::Over);
     }
-    let f = take(r, &buffer[..n], out);
-    let wrote = f.wrote;
-    let w = wrote.count;
+    let w = take(r, &buffer[..n], out);
     rt.write_all(&out[..w])?;
-    let next = f.replay;
-    let going = next.going;
-    Ok(Pumped {
-        replay: next,
-        more: going,
-        over: false,
-    })
+    if r.going {
+        Ok(Turn::More)
+    } else {
+        Ok(Turn::Stopped)
+    }
 }
 
-// The turns that are left: none where there is no more to read.
-fn turns_left(turns: u64, more: bool) -> u64
-    requires { 0 < turns }
-    ensures { result < turns }
-{
-    if more { turns - 1 } else { 0 }
+// What the end of the input gives out.
+#[tactic(auto, using(playback::proofs::Feeding::count_fits))]
+fn end(rt: &impl Print, r: Replay, out: &mut [u8]) -> io::Result<()> {
+    match r.finish(out) {
+        Ok(n) => rt.write_all(&out[..n]),
+        Err(_) => Ok(()),
+    }
 }
 
-// The whole input, read by read. A proved loop ends, and nothing says that the input does: the turns count down from a
+// The whole input, read by read. A proved loop ends, and nothing says that the input does: the turns are counted up to a
 // number that no input uses up.
 fn replay_input(
     rt: &impl Print,
@@ -78,21 +75,14 @@ fn replay_input(
     requires { (length buffer.old ≤ 65536) × (459244 ≤ length out.old) }
 {
     let mut r = Replay::start();
-    let mut over = false;
-    let mut turns = u64::MAX;
-    while 0 < turns {
-        let p = pump(rt, input, r, buffer, out)?;
-        let next = p.replay;
-        r = next;
-        over = p.over;
-        turns = turns_left(turns, p.more);
+    for _ in 0..u64::MAX {
+        match pump(rt, input, &mut r, buffer, out)? {
+            Turn::More => {}
+            Turn::Stopped => return Ok(()),
+            Turn::Over => return end(rt, r, out),
+        }
     }
-    if !over {
-        return Ok(());
-    }
-    let end = r.finish(out);
-    let n = end.count;
-    rt.write_all(&out[..n])
+    Ok(())
 }
 
 fn main(rt: HostRuntime) -> io::Result<()> {

@@ -1,5 +1,5 @@
 -- The next place of a ring is the one after, or the first after the last.
-use Rattle.std.proofs.Common.{◌≡◌, ℕ, suc, ◌-◌, ◌<◌, refl, inl, inr, ⊎_elim, eq-zero-or-pos, arith, le-ltb, lt-ltb}
+use Rattle.std.proofs.Common.{ℕ, suc, ◌-◌, ◌<◌, refl, inl, inr, ⊎_elim, eq-zero-or-pos, arith, le-ltb, lt-ltb}
 use Rattle.sums.proofs.Lent.{Follows}
 use Rattle.shape.specs.Answers.{next_place}
 

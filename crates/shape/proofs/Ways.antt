@@ -1,5 +1,5 @@
 -- How a call ends whose number is its first test's, or else the next one's.
-use Rattle.std.proofs.Common.{◌≡◌, ℕ, zero, suc, refl, rules, sym, ◌∙◌, eq-eqb, ne_eqb}
+use Rattle.std.proofs.Common.{◌≡◌, ℕ, zero, suc, rules, eq-eqb, ne_eqb}
 use Rattle.std.specs.Prelude.{Result, Ok, Err}
 use Rattle.blocks.specs.declared.refusal.Refusal.{Refusal}
 use Rattle.blocks.specs.Refusals.{answer}

@@ -13,9 +13,6 @@ use records::parse::{Record, parse};
 use std::io;
 use std::io::Read;
 use text::parts::part_end;
-use words::casts::{i32_as_u32, i64_as_i32};
-use words::signed::mul_i32;
-use words::unsigned::add_u64;
 
 // Where the line that starts at from ends.
 fn line_end(text: &[u8], from: usize) -> usize
@@ -38,7 +35,7 @@ fn take_line(line: &[u8], xs: &mut [i32], n: usize) -> usize {
     if xs.len() <= n {
         return n;
     }
-    xs[n] = i64_as_i32(x);
+    xs[n] = ((x.cast_unsigned() % 0x1_0000_0000) as u32).cast_signed();
     n + 1
 }
 
@@ -56,47 +53,27 @@ fn take_text(text: &[u8], xs: &mut [i32]) -> usize {
 
 // Each sample times 3,000,000, modulo 2^32.
 fn enlarge(xs: &mut [i32]) {
-    for i in 0..xs.len() {
-        let x = mul_i32(xs[i], 3000000);
-        xs[i] = x;
+    for x in xs {
+        *x = x.wrapping_mul(3000000);
     }
-}
-
-fn print(rt: &impl Print, v: i32) -> io::Result<()> {
-    let bits = i32_as_u32(v) as u64;
-    if bits < 2147483648 {
-        rt.print(bits)?;
-    } else {
-        rt.write_all(b"-")?;
-        rt.print(4294967296 - bits)?;
-    }
-    Ok(())
 }
 
 // Prints output number k of both.
 fn print_pair(rt: &impl Print, k: usize, y: i32, z: i32) -> io::Result<()> {
-    print!(rt; "output {k}: engine ")?;
-    print(rt, y)?;
-    rt.write_all(b", decimator ")?;
-    print(rt, z)?;
-    rt.write_all(b"\n")
+    println!(rt; "output {k}: engine {y}, decimator {z}")
 }
 
 // Prints the outputs that differ: how many do.
 fn print_unlike(rt: &impl Print, ys: &[i32], zs: &[i32]) -> io::Result<u64> {
     let mut differ: u64 = 0;
-    let mut k: usize = 0;
-    while k < ys.len() {
+    for (k, &y) in ys.iter().enumerate() {
         if zs.len() <= k {
             return Ok(differ);
         }
-        let y = ys[k];
-        let z = zs[k];
-        if y != z {
-            print_pair(rt, k, y, z)?;
-            differ = add_u64(differ, 1);
+        if y != zs[k] {
+            print_pair(rt, k, y, zs[k])?;
+            differ = differ.wrapping_add(1);
         }
-        k += 1;
     }
     Ok(differ)
 }
@@ -112,13 +89,7 @@ fn compare(
 ) -> io::Result<()> {
     let differ = print_unlike(rt, ys, zs)?;
     rt.write_all(name)?;
-    rt.write_all(b": engine ")?;
-    rt.print(n as u64)?;
-    rt.write_all(b" outputs, decimator ")?;
-    rt.print(m as u64)?;
-    rt.write_all(b", ")?;
-    rt.print(differ)?;
-    rt.write_all(b" differ\n")
+    println!(rt; ": engine {n} outputs, decimator {m}, {differ} differ")
 }
 
 // The three comparisons over the samples.

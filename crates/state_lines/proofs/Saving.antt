@@ -12,16 +12,15 @@ use borrow.Author.Tests.{eq-eqb}
 use Rattle.words.specs.Words.{word, wrap}
 use Rattle.words.proofs.Reading.{word_fits, wrap-word}
 use Rattle.text.specs.Letters.{newline}
-use Rattle.std.specs.Prelude as std
-use Rattle.std.specs.Prelude.{Some, None}
-use Rattle.blocks.specs.declared.Verdict.{Verdict}
+use Rattle.std.specs.Prelude.{Result, Ok, Some, None}
+use Rattle.blocks.specs.declared.refusal.Refusal.{Refusal}
+use Rattle.blocks.specs.Refusals.{answer}
+use Rattle.blocks.proofs.Refusals.{taken_number}
 use Rattle.sums.specs.Calls.{resume_number}
 use Rattle.sums.specs.Counted.{resume_counted}
-use Rattle.cic64.specs.Word.{word_ops}
-use Rattle.cic64.specs.Answers.{made_of}
-use Rattle.cic64.specs.declared.state.Cic.{Cic}
-use Rattle.cic64.specs.declared.state.Made.{Made}
-use Rattle.recorder.specs.Calls.{pushed_of, ready_by, made_ready}
+use Rattle.cic.specs.Answers.{made_of}
+use Rattle.cic.specs.declared.state.Cic.{Cic}
+use Rattle.recorder.specs.Calls.{word_ops, push_number, pushed_of}
 use Rattle.recorder.specs.declared.recorder.Recorder.{Recorder}
 use Rattle.desk.specs.Saved.{next_check, check_from, pattern_at, value_of, word_at, words_at, any_wrong, cells_at, resumed_by, state_loaded, load_of}
 use Rattle.desk.proofs.Words.{state_is}
@@ -113,7 +112,7 @@ accepted line l e w k =
 
 -- The line of a state that is held.
 module _ (s : Recorder) (h : Held s) where
-  abbrev f : Cic
+  abbrev f : Cic ℤ
   f = s.filter
 
   abbrev head : List ℕ
@@ -207,7 +206,7 @@ module _ (s : Recorder) (h : Held s) where
       rw w (cells-again f.combs h.combs)
 
   -- what the words tell
-  abbrev made : Made
+  abbrev made : Result (Cic ℤ) Refusal
   made = made_of (resume_number f.order f.delay f.rate f.countdown)
       (resume_counted word_ops f.order f.delay f.rate f.integrators f.combs f.hold f.countdown f.inputs)
 
@@ -232,15 +231,10 @@ module _ (s : Recorder) (h : Held s) where
       (resumed_by s.turns made) (sym q.0) (sym q.1) (sym q.2) (sym q.3) (sym q.4) (sym hold) (sym y) (sym ints_right)
       (sym cells_right) (omega arith) (omega arith) refl refl)
 
--- a call that is done has the same answer either way
-done_ready : (s : Recorder) (m : Made) → (made_ready s true s.turns m).verdict ≡ Verdict.Done → resumed_by s.turns m ≡ made_ready s true s.turns m
-done_ready s m d = by m.verdict refl d
-  where
-    by : (v : Verdict) → m.verdict ≡ v → (ready_by s true s.turns m.state v).verdict ≡ Verdict.Done
-        → record { recorder = record { plugged = true; turns = s.turns; filter = m.state }; verdict = v } ≡ ready_by s true s.turns m.state v
-    by Verdict.Done e d = refl
-    by (Verdict.Refused k) e d = absurd (let z : ◌≡◌ {A = ℕ} 0 1 = cc in omega arith)
+-- a push that is done has the same answer either way
+resumed_done : (s : Recorder) (h : Held s) → push_number s ≡ 0 → resumed_by s.turns (made s h) ≡ Ok (pushed_of s)
+unfolding pushed_of answer
+resumed_done s h z = rw z refl
 
 pub saved_resumes : SavedResumes
-unfolding pushed_of
-saved_resumes s h d = loaded s h ∙ done_ready s (made s h) d
+saved_resumes s h d = loaded s h ∙ resumed_done s h (taken_number (push_number s) tt tt (sym d))

@@ -1,10 +1,10 @@
 -- A saved state can be resumed, in a customer's words; proved in proofs/Saving.
-use Rattle.std.specs.Prelude.{◌≡◌, ◌<◌, ◌^◌, map}
+use Rattle.std.specs.Prelude.{◌≡◌, ◌<◌, ◌^◌, map, Ok}
 use Rattle.std.specs.Int.{w64}
 use Rattle.words.specs.Words.{wrap}
-use Rattle.blocks.specs.declared.Verdict.TheVariants as Verdict
+use Rattle.blocks.specs.Refusals.{answer}
 use Rattle.sums.specs.Demands.{Contents}
-use Rattle.recorder.specs.Calls.{pushed_of}
+use Rattle.recorder.specs.Calls.{push_number, pushed_of}
 use Rattle.recorder.specs.declared.recorder.Recorder.{Recorder}
 use Rattle.desk.specs.Saved.{load_of}
 use Rattle.state_lines.specs.States.{state_line}
@@ -25,4 +25,4 @@ pub record Held (s : Recorder) : Type 0 where
 -- A state that is saved and resumed goes on as the recorder does whose plug is pulled and pushed back: the same turns and the same cells, and
 -- its next N · M outputs are not to be believed (recorder, specs/Traces, `AfterPush`).
 abbrev pub SavedResumes : Type 0
-SavedResumes = (s : Recorder) → Held s → (pushed_of s).verdict ≡ Verdict.Done → load_of (state_line s) ≡ pushed_of s
+SavedResumes = (s : Recorder) → Held s → answer (push_number s) (tt {0}) ≡ Ok (tt {0}) → load_of (state_line s) ≡ Ok (pushed_of s)

@@ -12,7 +12,7 @@ ghost use Rattle.hex_letters.specs.Letters.{letters_of};
 ghost use Rattle.state_lines.specs.States.{head_words, state_line};
 ghost use Rattle.state_lines.specs.Inner.{CellsPut, in_turn};
 
-use hex_letters::sixteen_letters;
+use hex_letters::letters;
 use recorder::recorder::Recorder;
 use text::writing::{put_byte, put_bytes};
 use words::casts::{i64_as_u64, u64_as_i64};
@@ -29,8 +29,8 @@ pub struct WordsPut {
 fn put_word(out: &mut [u8], at: usize, word: u64) -> usize
     ensures { Puts out.old at (letters_of 16 word) result out.new }
 {
-    let letters = sixteen_letters(word);
-    put_bytes(out, at, &letters)
+    let digits = letters::<16>(word);
+    put_bytes(out, at, &digits)
 }
 
 // The check value one word on.

@@ -24,7 +24,7 @@ use Rattle.text.proofs.OneSpelling.{minus_one_law}
 use Rattle.settings_text.specs.Fields.{hex_in, hexes_in, nibbles_in}
 use Rattle.entries.specs.Entries.{eight, pad_to}
 use Rattle.store_read.specs.Reading.{arch_by, numbers_read, word_by}
-use Rattle.std.specs.Prelude.{Some, None}
+use Rattle.std.specs.Prelude.{Option, Some, None}
 
 -- a field's word
 module _ (field : List ℕ) (least most : ℕ) (low : least ≤ 2147483648) (high : most ≤ 4294967295) (n : Option Number)

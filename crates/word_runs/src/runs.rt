@@ -7,7 +7,7 @@ ghost use Rattle.hex_letters.specs.Letters.{letters_of};
 ghost use Rattle.word_runs.specs.Runs.{word_in, next_number, run_of};
 ghost use Rattle.word_runs.specs.Inner.{found_of, eight_of};
 
-use hex_letters::{last_letter, seven_letters};
+use hex_letters::{last_letter, letters};
 use text::comparing::same_bytes;
 use text::hex::hex_digit;
 use words::casts::u32_as_i32;
@@ -68,7 +68,7 @@ fn next_head(head: [u8; 7], n: u32) -> [u8; 7]
 {
     let next = add_u32(n, 1);
     if next % 16 == 0 {
-        return seven_letters((next / 16) as u64);
+        return letters::<7>((next / 16) as u64);
     }
     head
 }
@@ -79,7 +79,7 @@ pub fn gather(input: &[u8], number: u32, words: &mut [i32]) -> usize
     ensures { (result ≡ length (run_of (length words.old) number input.now))
         × (words.new ≡ run_of (length words.old) number input.now ++ drop result words.old) }
 {
-    let mut head = seven_letters((number / 16) as u64);
+    let mut head = letters::<7>((number / 16) as u64);
     let mut n = number;
     let mut at: usize = 0;
     let mut k: usize = 0;

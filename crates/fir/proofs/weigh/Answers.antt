@@ -1,5 +1,5 @@
 -- What is summed and what is left to weigh (Summing), over the inputs kept after the first `taken`; number n is at row · 10 + place.
-use Rattle.std.proofs.Common.{◌≡◌, ℕ, ◌+◌, ◌*◌, ◌%◌, ◌<◌, List, ℤ, pos, ◌+ℤ◌, ◌*ℤ◌, take, get_or, rules, arith, ap, sym, subst, ◌∙◌, w32, to_z, of_z}
+use Rattle.std.proofs.Common.{◌≡◌, ℕ, ◌+◌, ◌*◌, ◌%◌, ℤ, pos, ◌+ℤ◌, ◌*ℤ◌, take, get_or, rules, arith, ap, subst, ◌∙◌, w32, to_z, of_z}
 use Rattle.words.specs.Words.{wrap}
 use Rattle.words.proofs.Std.{add_both, mul_bits, rest_fits_32, casts}
 use Rattle.fir.specs.Ways.{ways}

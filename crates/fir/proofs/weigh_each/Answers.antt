@@ -1,5 +1,5 @@
 -- Output k is weighed where input number countdown + 64 k stands (Standing).
-use Rattle.std.proofs.Common.{◌+◌, ◌*◌, ◌<◌, rules, length, w32, ◌∙◌, ◌≡◌}
+use Rattle.std.proofs.Common.{◌+◌, ◌*◌, ◌<◌, rules, length, w32, ◌∙◌}
 use Rattle.words.proofs.Reading.{read}
 use Rattle.fir.proofs.Standing.{due, weighs_turn, weighs_end}
 use Rattle.fir.proofs.weigh_each.Goals as goal

@@ -2,8 +2,5 @@
 use Rattle.std.proofs.Common.{◌≡◌, length}
 use Rattle.replay.proofs.replay_input.Given as goal
 
-abbrev pub invariant-loop-turns : goal.invariant-loop-turns
-invariant-loop-turns g l = (length l.buffer ≡ length l.initial.buffer) × (length l.out ≡ length l.initial.out)
-
-abbrev pub decreases-loop-turns : goal.decreases-loop-turns
-decreases-loop-turns g l = l.turns
+abbrev pub invariant-loop : goal.invariant-loop
+invariant-loop g l = (length l.buffer ≡ length l.initial.buffer) × (length l.out ≡ length l.initial.out)

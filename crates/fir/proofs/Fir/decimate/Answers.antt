@@ -1,5 +1,5 @@
 -- The step takes a block of one input; whether it gives is the countdown's test (Turns).
-use Rattle.std.proofs.Common.{w32, rules, ap, sym, ◌∙◌}
+use Rattle.std.proofs.Common.{w32}
 use mir.ValLaws.{to_z-of_z}
 use Rattle.words.proofs.Reading.{read}
 use Rattle.fir.specs.Weights.{taken}

@@ -1,5 +1,5 @@
 -- The refusal is the test's; else the parts are what the functions called ensure (Turns).
-use Rattle.std.proofs.Common.{length, arith, rules, ◌+◌, ◌-◌, ◌*◌, ap, sym, ◌∙◌, refl, ℕ, ◌≡◌}
+use Rattle.std.proofs.Common.{length, rules, refl}
 use Rattle.fir.proofs.Standing.{due_small, due_in_law, reach, reaches}
 use Rattle.fir.proofs.Turns.{refuses, writes}
 use Rattle.fir.proofs.Fir.decimate_block.Goals as goal

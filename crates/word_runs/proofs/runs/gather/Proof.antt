@@ -19,7 +19,7 @@ decreases-loop input number words₀ head₀ n₀ at₀ k₀ words head n at k =
 loop-holds : tie.Need-loop-k-init invariant-loop decreases-loop
 loop-holds c =
     let b : tie.Start invariant-loop decreases-loop = search in
-    started b.args.input.now b.args.number b.args.words.now _ c.seven_letters-head.ensures
+    started b.args.input.now b.args.number b.args.words.now _ c.letters-head.ensures
 
 sub-if1 : tie.Need-overflow_sub-input invariant-loop decreases-loop
 sub-if1 c = let l : tie.At-loop-k invariant-loop decreases-loop = search in search (rules, l.loop-k.invariant.inside)

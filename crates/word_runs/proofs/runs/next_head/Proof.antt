@@ -10,9 +10,9 @@ use Rattle.word_runs.proofs.runs.next_head.Tie as tie
 
 returns : tie.Need-returns-then-next-eq0
 returns c =
-    let s : tie.After-seven_letters = search in
+    let s : tie.After-letters = search in
     let a : tie.After-add_u32-next = search in
-    s.seven_letters.ensures ∙ ap (λ (n : ℕ). letters_of 7 (n / 16)) a.add_u32-next.ensures
+    s.letters.ensures ∙ ap (λ (n : ℕ). letters_of 7 (n / 16)) a.add_u32-next.ensures
 
 returns-2 : tie.Need-returns
 returns-2 c =

@@ -6,7 +6,7 @@ use Rattle.playback.proofs.driver.Replay.feed.Goals as goal
 pub returns-then-short_of : goal.returns-then-short_of
 returns-then-short_of c =
     let a = c.args in
-    feed_refused a.self a.input.now a.out.now (too_short a.input.now a.out.now c.short_of.result
+    feed_refused a.self.now a.input.now a.out.now (too_short a.input.now a.out.now c.short_of.result
     c.short_of.ensures c.if-short_of.true)
 
 pub replay_part-t-requires : goal.replay_part-t-requires
@@ -29,7 +29,7 @@ returns c =
     let a = c.args in
     let k = c.clipped-first in
     let t = c.replay_part-t in
-    feed_done a.self a.input.now a.out.now k.result t.result.replay k.ensures.0 t.result.next
+    feed_done a.self.now a.input.now a.out.now k.result t.result.replay k.ensures.0 t.result.next
     t.result.written t.new.out t.ensures.0 t.ensures.1
     (long_enough a.input.now a.out.now c.short_of.result c.short_of.ensures c.if-short_of.false)
     c.tidied.result c.tidied.ensures

@@ -1,11 +1,10 @@
 -- 17 by the definition's tests in their order; then the capped power compares as the gain does.
-use Rattle.std.proofs.Common.{◌≡◌, ℕ, ◌-◌, ◌^◌, ◌<◌, ◌≤◌, sym, ◌∙◌, arith, rules, le-ltb, ne_eqb, pow_mono, refl}
+use Rattle.std.proofs.Common.{◌-◌, ◌^◌, ◌≤◌, sym, ◌∙◌, arith, le-ltb, ne_eqb, pow_mono, refl}
 use Rattle.sums.specs.Calls.{gain_of, fit_number_of, fits_of}
 use Rattle.sums.proofs.Numbers.{span_some, capped_leb, width-most}
-use Rattle.blocks.specs.Refusals.{answer, refusal_at}
 use Rattle.blocks.proofs.Refusals.{accepted, taken_number}
 use Rattle.shape.specs.Powers.{power_cap}
-use Rattle.shape.proofs.Ways.{first_taken, passing}
+use Rattle.shape.proofs.Ways.{passing}
 use Rattle.shape.proofs.numbers.Numbers.fit.Goals as goal
 
 pub overflow_cast-self : goal.overflow_cast-self

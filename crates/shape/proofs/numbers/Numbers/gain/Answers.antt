@@ -1,6 +1,6 @@
 -- The gain is the capped power wherever 14 is not given; the tests before and after it are the state's own.
-use Rattle.std.proofs.Common.{◌≡◌, ℕ, suc, ◌*◌, ◌-◌, ◌^◌, ◌<◌, ◌≤◌, min, sym, ◌∙◌, arith, rules, le-ltb, lt-ltb}
-use Rattle.std.specs.Prelude.{Result, Ok, Err}
+use Rattle.std.proofs.Common.{◌≡◌, ℕ, suc, ◌*◌, ◌-◌, ◌^◌, ◌<◌, ◌≤◌, min, arith, rules, le-ltb, lt-ltb}
+use Rattle.std.specs.Prelude.{Result, Err}
 use Rattle.blocks.specs.declared.refusal.Refusal.{Refusal}
 use Rattle.sums.specs.State.{refusal_of}
 use Rattle.sums.specs.Calls.{gain_of, gain_number_of}
@@ -10,7 +10,7 @@ use Rattle.blocks.proofs.Refusals.{accepted, refused_too, taken_number}
 use Rattle.shape.specs.Powers.{power_cap}
 use Rattle.shape.specs.declared.numbers.Numbers.{Numbers}
 use Rattle.shape.specs.Answers.{refusal_in}
-use Rattle.shape.proofs.Ways.{first_refused, first_taken, passing}
+use Rattle.shape.proofs.Ways.{first_refused, passing}
 use Rattle.shape.proofs.numbers.Numbers.gain.Goals as goal
 
 module _ (n : Numbers) (p : ℕ) (z : refusal_of n.order n.delay n.rate n.countdown 0 ≡ 0) (e : p ≡ min ((suc n.rate * n.delay) ^ n.order) power_cap) where
