@@ -21,7 +21,7 @@ sys.path.insert(0, os.path.dirname(HERE))
 import x86
 from x86 import ROOT
 
-LIBRARIES = ["playback", "records", "text", "words", "blocks", "sums", "shape", "cic64"]
+LIBRARIES = ["playback", "records", "text", "words", "blocks", "sums", "shape", "lent", "cic"]
 KIT_LIBRARIES = ["std", "check", "io", "libc"]
 WRAPPER = """#!/bin/sh
 case " $* " in *" -O3 "*) cp module.bc "%s/module.bc" ;; esac

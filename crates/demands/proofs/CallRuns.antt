@@ -12,7 +12,6 @@ use lib.Seq.{take-append_seam}
 use Rattle.std.specs.Prelude.{Result, Ok, Err, Some, None}
 use Rattle.std.specs.Prelude as std
 use Rattle.std.specs.Int.{Width}
-use Rattle.blocks.specs.declared.refusal.Refusal as reason
 use Rattle.blocks.specs.Refusals.{answer}
 use Rattle.blocks.specs.Blocks.{unless}
 use Rattle.sums.specs.Ops.{Ops}
@@ -21,8 +20,8 @@ use Rattle.sums.specs.Machine.{Output}
 use Rattle.sums.specs.State.{State}
 use Rattle.sums.specs.Calls.{rise_number, rise_state, rise_given}
 use Rattle.sums.specs.Runs.{needed, join, values, over, first_told, outputs, risings, fill_number, fill_state, fill_out}
-use Rattle.sums.specs.Counted.{Counted, Numbered, take_number, take_state, take_given, block_number, plain, first_number, taken_outputs}
-use Rattle.sums.specs.Counted.{block_state, block_out}
+use Rattle.sums.specs.Counted.{Counted, Numbered, take_number, take_given, block_number, plain, first_number, taken_outputs}
+use Rattle.sums.specs.Counted.{block_out}
 use Rattle.sums.specs.Demands as rules
 use Rattle.sums.specs.Demands.{along, after_calls, reads, leaves, gives, samples, lifts, yields}
 use Rattle.sums.proofs.Steps.{Fit}

@@ -4,7 +4,7 @@ use mathlib.Core.List.{List}
 use Prim.Native.Nat.{ℕ, suc, ◌*◌}
 use lib.IntN.{ℤ}
 use lib.ListN.{length, get_elem?, replicate}
-use Rattle.std.specs.Prelude.{Result, Ok}
+use Rattle.std.specs.Prelude.{Ok}
 use Rattle.std.specs.Int.{Width}
 use Rattle.blocks.proofs.Refusals.{taken_number, taken_value}
 use Rattle.sums.specs.Ops.{Ops}
@@ -12,7 +12,7 @@ use Rattle.sums.specs.Signed.{signed_ops}
 use Rattle.sums.specs.State.{refusal}
 use Rattle.sums.specs.Calls.{new_number, resume_number, rate_number}
 use Rattle.sums.specs.Runs.{needed, first_told, settled_number, settled_part}
-use Rattle.sums.specs.Counted.{Counted, Numbered, new_counted, resume_counted, rate_counted, clear_counted, settle_counted, block_number}
+use Rattle.sums.specs.Counted.{Counted, Numbered, new_counted, resume_counted, rate_counted, clear_counted, block_number}
 use Rattle.sums.specs.Counted.{plain, first_number, taken_outputs, block_out}
 use Rattle.sums.specs.Demands as rules
 use Rattle.sums.specs.Demands.{along, leaves, gives, lifts, yields, Decimates, Interpolates, believed}

@@ -1,6 +1,6 @@
 -- A call of any kind that answers a refusal leaves its state as it was.
 use Rattle.std.proofs.Common.{◌≡◌, ℕ, sym, ap, ◌∙◌, ne_eqb}
-use Rattle.std.specs.Prelude.{Result, Ok, Err, ℤ}
+use Rattle.std.specs.Prelude.{Result, Err, ℤ}
 use Rattle.std.specs.Int.{Width}
 use Rattle.blocks.specs.declared.refusal.Refusal as reason
 use Rattle.blocks.specs.Refusals.{answer}

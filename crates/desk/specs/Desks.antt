@@ -1,5 +1,5 @@
 -- What a record does at the recorder's desk, and what it is answered. A refusal stops the desk.
-use Rattle.std.specs.Prelude.{true, false, cond, List, [], ◌∷◌, ℕ, zero, suc, ◌/◌, ◌%◌, eqb, ℤ, pos, ◌+ℤ◌, length, get_or, Result, Ok, Err}
+use Rattle.std.specs.Prelude.{true, false, cond, List, [], ◌∷◌, ℕ, ◌/◌, ◌%◌, eqb, ℤ, pos, ◌+ℤ◌, length, get_or, Result, Ok, Err}
 use Rattle.std.specs.Int.{w32}
 use Rattle.words.specs.Words.{word, wrap}
 use Rattle.blocks.specs.declared.refusal.Refusal.{Refusal}

@@ -80,9 +80,20 @@ count_fits zero bs o o' n e q =
     let p : n ≡ length bs = cc in omega (arith, p, ap length q, length-append bs (drop (length bs) o))
 count_fits (suc k) bs o o' n e q = absurd (let z : ◌≡◌ {A = ℕ} 0 1 = cc in omega arith)
 
-pub feed_takes : (r : Replay) (input out : List ℕ) (w : Result ℕ Refusal) (after : Replay) (left : List ℕ)
-    → 7 * length input + 492 ≤ length out → PartFed r input out w after left
-    → (after ≡ replay_of (fed_of (place_of r) input)) × (w ≡ Ok (length (bytes_of (place_of r) input)))
+pub feed_takes : (r : Replay) (input out : List ℕ) (n : ℕ) (after : Replay) (left : List ℕ)
+    → 7 * length input + 492 ≤ length out → PartFed r input out (Ok n) after left
+    → (after ≡ replay_of (fed_of (place_of r) input)) × (n ≡ length (bytes_of (place_of r) input)) × (n ≤ length left)
 unfolding answer
-feed_takes r input out w after left h f =
-    let n : feed_number input out ≡ 0 = rw (le-ltb (length out) (7 * length input + 492) h) in (f.0 ∙ rw n, f.1 ∙ rw n)
+feed_takes r input out n after left h f =
+    let z : feed_number input out ≡ 0 = rw (le-ltb (length out) (7 * length input + 492) h) in
+    let e : ◌≡◌ {A = Result ℕ Refusal} (Ok n) (Ok (length (bytes_of (place_of r) input))) = f.1 ∙ rw z in
+    let m : n ≡ length (bytes_of (place_of r) input) = cc in
+    (f.0 ∙ rw z, m, count_fits (feed_number input out) (bytes_of (place_of r) input) out left n f.1 f.2)
+
+pub never_short : (r : Replay) (input out : List ℕ) (e : Refusal) (after : Replay) (left : List ℕ)
+    → 7 * length input + 492 ≤ length out → PartFed r input out (Err e) after left → ⊥
+unfolding answer
+never_short r input out e after left h f =
+    let z : feed_number input out ≡ 0 = rw (le-ltb (length out) (7 * length input + 492) h) in
+    let d : ◌≡◌ {A = Result ℕ Refusal} (Err e) (Ok (length (bytes_of (place_of r) input))) = f.1 ∙ rw z in
+    absurd (let o : ◌≡◌ {A = ℕ} 0 1 = cc in omega arith)

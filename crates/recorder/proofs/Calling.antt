@@ -1,14 +1,13 @@
 -- What `take` makes of a recorder: words are refused, or their turns go through the filter.
-use Rattle.std.proofs.Common.{◌≡◌, ℕ, suc, ◌≤◌, ◌<◌, Bool, true, false, ℤ, List, [], ◌∷◌, ◌++◌, length, take, drop, refl, sym, ap, ◌∙◌, lt-ltb, le-ltb, ne_eqb, eq-eqb}
+use Rattle.std.proofs.Common.{◌≡◌, ℕ, suc, ◌≤◌, ◌<◌, true, false, ℤ, List, [], ◌∷◌, ◌++◌, length, take, drop, refl, sym, ap, ◌∙◌, lt-ltb, le-ltb, ne_eqb, eq-eqb}
 use Rattle.std.specs.Prelude.{Result, Ok, Err}
 use lib.Seq.{take-append_seam}
 use Rattle.blocks.specs.declared.refusal.Refusal.{Refusal}
-use Rattle.blocks.specs.Refusals.{answer}
 use Rattle.blocks.proofs.Refusals.{taken_number}
 use Rattle.blocks.specs.Scan.{ends}
 use Rattle.unwrap.specs.declared.unwrapper.Unwrapper.{Unwrapper}
 use Rattle.unwrap.specs.Phases.{grown}
-use Rattle.sums.specs.Counted.{Counted, block_number, block_state, block_out}
+use Rattle.sums.specs.Counted.{block_number, block_state, block_out}
 use Rattle.shape.specs.declared.runs.Written.{Written}
 use Rattle.shape.specs.Answers.{block_wrote}
 use Rattle.shape.proofs.Ways.{never}

@@ -11,7 +11,7 @@ use mir.Syntax.{w64}
 use native.Mathlib.Nat.{mul-le-mul_right}
 use lib.ListN.{length}
 use borrow.Author.Tests.{ltb-true, ltb-false, lt-leb, le-leb, eq-eqb, ne_eqb}
-use Rattle.std.specs.Prelude.{Result, Ok, Err}
+use Rattle.std.specs.Prelude.{Result, Err}
 use Rattle.blocks.specs.declared.refusal.Refusal.{Refusal}
 use Rattle.blocks.specs.Refusals.{answer}
 use Rattle.blocks.proofs.Refusals.{accepted, taken_number, taken_value}
@@ -19,12 +19,12 @@ use Rattle.blocks.specs.Blocks.{unless}
 use Rattle.blocks.specs.Scan.{ends}
 use Rattle.unwrap.specs.Phases.{grown}
 use Rattle.unwrap.specs.declared.unwrapper.Unwrapper.{Unwrapper}
-use Rattle.sums.specs.Calls.{new_number, resume_number, rate_number}
+use Rattle.sums.specs.Calls.{new_number}
 use Rattle.sums.specs.Counted.{Numbered, new_counted, resume_counted, rate_counted, block_number, block_out}
 use Rattle.sums.specs.Demands.{Decimates}
 use Rattle.shape.specs.declared.runs.Written.{Written}
 use Rattle.shape.specs.Answers.{block_wrote}
-use Rattle.cic.specs.Reading.{state_of, counted_of, cic_of}
+use Rattle.cic.specs.Reading.{counted_of, cic_of}
 use Rattle.cic.specs.declared.state.Cic.{Cic}
 use Rattle.demands.specs.Demands.{took_block, gave_block, Decimating, Decimator}
 use Rattle.demands.proofs.Demands.{after-new, after_resume, after-set-rate}

@@ -1,5 +1,5 @@
 -- What a recorder's calls give: words go through `Unwrapper` (01, 'Phase words') and their turns through the decimator on i64 (02, A1).
-use Rattle.std.specs.Prelude.{Bool, true, false, cond, List, ◌++◌, ℕ, ltb, ℤ, pos, length, drop, Result, Ok, Err}
+use Rattle.std.specs.Prelude.{true, false, cond, List, ◌++◌, ℕ, ltb, ℤ, pos, length, drop, Result, Err}
 use Rattle.std.specs.Int.{w64}
 use Rattle.blocks.specs.declared.refusal.Refusal.{Refusal}
 use Rattle.blocks.specs.Refusals.{answer}
@@ -10,7 +10,7 @@ use Rattle.unwrap.specs.declared.unwrapper.Unwrapper.{Unwrapper}
 use Rattle.sums.specs.Ops.{Ops}
 use Rattle.sums.specs.Signed.{signed_ops}
 use Rattle.sums.specs.Calls.{new_number, resume_number}
-use Rattle.sums.specs.Counted.{Counted, new_counted, resume_counted, rate_counted, block_number, block_state, block_out}
+use Rattle.sums.specs.Counted.{new_counted, resume_counted, rate_counted, block_number, block_state, block_out}
 use Rattle.shape.specs.declared.runs.Written.{Written}
 use Rattle.shape.specs.Answers.{block_wrote}
 use Rattle.cic.specs.Reading.{counted_of, cic_of}

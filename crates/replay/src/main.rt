@@ -20,7 +20,6 @@ enum Turn {
 }
 
 // A part of at most 65,536 bytes, for which there is room: how many bytes it gives out.
-#[tactic(auto, using(playback::proofs::Feeding::feed_takes, playback::proofs::Feeding::count_fits))]
 fn take(r: &mut Replay, part: &[u8], out: &mut [u8]) -> usize
     requires { (length part.now ≤ 65536) × (459244 ≤ length out.old) }
     ensures { (r.new ≡ replay_of (fed_of (place_of r.old) part.now))
@@ -56,7 +55,6 @@ fn pump(
 }
 
 // What the end of the input gives out.
-#[tactic(auto, using(playback::proofs::Feeding::count_fits))]
 fn end(rt: &impl Print, r: Replay, out: &mut [u8]) -> io::Result<()> {
     match r.finish(out) {
         Ok(n) => rt.write_all(&out[..n]),

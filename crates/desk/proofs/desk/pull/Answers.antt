@@ -1,5 +1,5 @@
 -- Refused by its number, or done (Taking).
-use Rattle.std.proofs.Common.{ap, ap₂, ◌∙◌}
+use Rattle.std.proofs.Common.{ap, ◌∙◌}
 use Rattle.recorder.specs.declared.recorder.Recorder.{Recorder}
 use Rattle.desk.specs.declared.desk.Reply.TheVariants as Reply
 use Rattle.desk.specs.Desks.{keep, kind_taken}

@@ -1,5 +1,5 @@
 -- Refused by its number, or done (Taking).
-use Rattle.std.proofs.Common.{ap, ap₂, ◌∙◌}
+use Rattle.std.proofs.Common.{ap₂, ◌∙◌}
 use Rattle.desk.specs.Desks.{ready_taken, kind_taken}
 use Rattle.desk.proofs.Taking.{event-refused, event_done}
 use Rattle.desk.proofs.desk.push.Goals as goal

@@ -1,5 +1,5 @@
 -- Refused, or the words' turns go through the filter's block (Calling).
-use Rattle.std.proofs.Common.{rules, ◌≡◌, refl, sym}
+use Rattle.std.proofs.Common.{rules, ◌≡◌, refl}
 use Rattle.std.specs.Prelude.{Ok, Err}
 use Rattle.recorder.proofs.Calling.{take_short, take_out, take-through, take-refused}
 use Rattle.recorder.proofs.recorder.Recorder.take.Goals as goal
