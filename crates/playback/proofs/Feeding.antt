@@ -1,30 +1,17 @@
 -- A part of the input, and a whole input: how each call ends.
 use native.Mathlib.Omega.{arith}
 use mathlib.Core.Path.{◌≡◌, sym, ap, ◌∙◌}
-use mathlib.Core.Bool.{Bool, true, false, cond}
+use mathlib.Core.Bool.{Bool, true, false}
 use mathlib.Core.List.{List, [], ◌++◌}
 use Prim.Native.Nat.{ℕ, zero, suc, ◌+◌, ◌*◌, ◌^◌, ◌≤◌, ◌<◌}
-use lib.Dec.{ltb, eqb}
+use lib.Dec.{ltb}
 use lib.ListN.{length, drop, length-take, length-append}
 use lib.Seq.{drop-length}
 use borrow.Author.Tests.{ltb-false, le-ltb}
 use Rattle.text.specs.Writing.{Wrote}
 use Rattle.text.proofs.Putting.{then, wrote-same}
 use Rattle.playback.specs.Replays.{replay}
-use Rattle.playback.specs.Places.{
-  Place,
-  fed_of,
-  bytes_of,
-  finish_bytes,
-  start,
-  place_of,
-  replay_of,
-  feed_number,
-  front_written,
-  written,
-  fed,
-  PartFed,
-}
+use Rattle.playback.specs.Places.{Place, fed_of, bytes_of, finish_bytes, start, place_of, replay_of, feed_number, front_written, written, PartFed}
 use Rattle.playback.specs.Inner.Advances.{Room, Advances}
 use Rattle.playback.specs.declared.driver.Replay.{Replay}
 use Rattle.std.specs.Prelude.{Result, Ok, Err}

@@ -15,8 +15,7 @@ use Rattle.text.specs.Writing.{Wrote}
 use Rattle.text.proofs.Parting.{before-plain, parted-plain, end_at, end_part}
 use Rattle.text.proofs.Numerals.{number-count}
 use Rattle.text.proofs.Putting.{nothing, then, wrote-same as rewritten}
-use Rattle.std.specs.Prelude as std
-use Rattle.std.specs.Prelude.{Some, None}
+use Rattle.std.specs.Prelude.{None}
 use Rattle.text.specs.Same.{same}
 use Rattle.words.specs.Words.{wrap}
 use Rattle.records.specs.Lines.{name_of, word_range, number_number, value_of, record_of}
