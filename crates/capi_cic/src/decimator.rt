@@ -5,9 +5,11 @@ ghost use Rattle.sums.specs.Signed.{signed_ops};
 ghost use Rattle.cic_calls.specs.Lent.{lent, written};
 ghost use Rattle.cic_calls.specs.Calls.{New, Resume, SetRate, Clear, Decimate, DecimateBlock, Settles};
 
-use cic_calls::parts::{gathered, given_out, numbers_in, numbers_out, numbers_with, resumed, spread};
 use cic::runs::{Written, settled_part};
 use cic::state::Cic;
+use cic_calls::parts::{
+    gathered, given_out, numbers_in, numbers_out, numbers_with, resumed, spread,
+};
 
 // A filter of zeros, settled, of order n, delay m and rate r.
 #[unsafe(no_mangle)]

@@ -5,8 +5,8 @@ ghost use Rattle.sums.specs.Signed.{signed_ops};
 ghost use Rattle.cic_calls.specs.Lent.{lent};
 ghost use Rattle.cic_calls.specs.Calls.{SettleInterpolate, Interpolate, InterpolateBlock, GetInterpolate};
 
-use cic_calls::parts::{gathered, numbers_in, numbers_out, spread};
 use blocks::number;
+use cic_calls::parts::{gathered, numbers_in, numbers_out, spread};
 
 // As if x had been fed for ever.
 #[unsafe(no_mangle)]

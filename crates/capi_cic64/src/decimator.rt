@@ -1,15 +1,15 @@
 // The decimator's calls, and those that make a filter or put it in order. Each answers the number of its refusal, or 0; the step
 // answers 1 or 2 where it gives an output. A refused call leaves all that is lent as it was.
-ghost use Rattle.capi_cic64.specs.Lent.{lent, written};
-ghost use Rattle.capi_cic64.specs.Calls.{New, Resume, SetRate, Clear, Decimate, DecimateBlock, Settles};
+ghost use Rattle.std.specs.Int.{w64};
+ghost use Rattle.sums.specs.Signed.{signed_ops};
+ghost use Rattle.cic_calls.specs.Lent.{lent, written};
+ghost use Rattle.cic_calls.specs.Calls.{New, Resume, SetRate, Clear, Decimate, DecimateBlock, Settles};
 
-use crate::answers::{number, wrote_number, wrote_or};
-use crate::parts::{gathered, given_out, numbers_in, numbers_out, numbers_with, resumed, spread};
-use cic64::runs::settled_part;
-use cic64::state::Cic;
-use lent64::runs::Written;
-use lent64::steps::Out;
-use lent64::word::Word;
+use cic::runs::{Written, settled_part};
+use cic::state::Cic;
+use cic_calls::parts::{
+    gathered, given_out, numbers_in, numbers_out, numbers_with, resumed, spread,
+};
 
 // A filter of zeros, settled, of order n, delay m and rate r.
 #[unsafe(no_mangle)]
@@ -20,35 +20,33 @@ pub extern "C" fn mittenload_cic64_new(
     countdown: &mut u32,
     unsettled: &mut usize,
     inputs: &mut u64,
-    hold: &mut Word,
-    integrators: &mut [Word; 8],
-    combs: &mut [Word; 64],
+    hold: &mut i64,
+    integrators: &mut [i64; 8],
+    combs: &mut [i64; 64],
     n: usize,
     m: usize,
     r: u32,
 ) -> u32
-    ensures { New n m r (lent order.old delay.old rate.old countdown.old unsettled.old inputs.old hold.old integrators.old combs.old) (lent order.new delay.new rate.new countdown.new unsettled.new inputs.new hold.new integrators.new combs.new) result }
+    ensures { New (signed_ops w64) n m r (lent order.old delay.old rate.old countdown.old unsettled.old inputs.old hold.old integrators.old combs.old) (lent order.new delay.new rate.new countdown.new unsettled.new inputs.new hold.new integrators.new combs.new) result }
 {
-    let made = Cic::new(n, m, r);
-    let verdict = made.verdict;
-    let next = made.state;
-    let refused = number(verdict);
-    if refused != 0 {
-        return refused;
+    match Cic::new(n, m, r) {
+        Ok(made) => {
+            spread(
+                made,
+                order,
+                delay,
+                rate,
+                countdown,
+                unsettled,
+                inputs,
+                hold,
+                integrators,
+                combs,
+            );
+            0
+        }
+        Err(refusal) => refusal.number(),
     }
-    spread(
-        next,
-        order,
-        delay,
-        rate,
-        countdown,
-        unsettled,
-        inputs,
-        hold,
-        integrators,
-        combs,
-    );
-    0
 }
 
 // The filter as its fields say, its next N.M outputs unsettled.
@@ -60,11 +58,11 @@ pub extern "C" fn mittenload_cic64_resume(
     countdown: &mut u32,
     unsettled: &mut usize,
     inputs: &mut u64,
-    hold: &mut Word,
-    integrators: &mut [Word; 8],
-    combs: &mut [Word; 64],
+    hold: &mut i64,
+    integrators: &mut [i64; 8],
+    combs: &mut [i64; 64],
 ) -> u32
-    ensures { Resume (lent order.old delay.old rate.old countdown.old unsettled.old inputs.old hold.old integrators.old combs.old) (lent order.new delay.new rate.new countdown.new unsettled.new inputs.new hold.new integrators.new combs.new) result }
+    ensures { Resume (signed_ops w64) (lent order.old delay.old rate.old countdown.old unsettled.old inputs.old hold.old integrators.old combs.old) (lent order.new delay.new rate.new countdown.new unsettled.new inputs.new hold.new integrators.new combs.new) result }
 {
     let s = gathered(
         order,
@@ -77,26 +75,24 @@ pub extern "C" fn mittenload_cic64_resume(
         integrators,
         combs,
     );
-    let made = resumed(s);
-    let verdict = made.verdict;
-    let next = made.state;
-    let refused = number(verdict);
-    if refused != 0 {
-        return refused;
+    match resumed(s) {
+        Ok(made) => {
+            spread(
+                made,
+                order,
+                delay,
+                rate,
+                countdown,
+                unsettled,
+                inputs,
+                hold,
+                integrators,
+                combs,
+            );
+            0
+        }
+        Err(refusal) => refusal.number(),
     }
-    spread(
-        next,
-        order,
-        delay,
-        rate,
-        countdown,
-        unsettled,
-        inputs,
-        hold,
-        integrators,
-        combs,
-    );
-    0
 }
 
 // Another rate; the next N.M outputs are unsettled.
@@ -108,14 +104,14 @@ pub extern "C" fn mittenload_cic64_set_rate(
     countdown: &mut u32,
     unsettled: &mut usize,
     inputs: &mut u64,
-    hold: &mut Word,
-    integrators: &mut [Word; 8],
-    combs: &mut [Word; 64],
+    hold: &mut i64,
+    integrators: &mut [i64; 8],
+    combs: &mut [i64; 64],
     wanted: u32,
 ) -> u32
-    ensures { SetRate (lent order.old delay.old rate.old countdown.old unsettled.old inputs.old hold.old integrators.old combs.old) wanted (lent order.new delay.new rate.new countdown.new unsettled.new inputs.new hold.new integrators.new combs.new) result }
+    ensures { SetRate (signed_ops w64) (lent order.old delay.old rate.old countdown.old unsettled.old inputs.old hold.old integrators.old combs.old) wanted (lent order.new delay.new rate.new countdown.new unsettled.new inputs.new hold.new integrators.new combs.new) result }
 {
-    let s = gathered(
+    let mut s = gathered(
         order,
         delay,
         rate,
@@ -126,11 +122,9 @@ pub extern "C" fn mittenload_cic64_set_rate(
         integrators,
         combs,
     );
-    let made = s.set_rate(wanted);
-    let verdict = made.verdict;
-    let next = made.state;
+    let set = s.set_rate(wanted);
     spread(
-        next,
+        s,
         order,
         delay,
         rate,
@@ -141,7 +135,7 @@ pub extern "C" fn mittenload_cic64_set_rate(
         integrators,
         combs,
     );
-    number(verdict)
+    blocks::number(set)
 }
 
 // Zeros, settled, at the same order, delay and rate.
@@ -153,13 +147,13 @@ pub extern "C" fn mittenload_cic64_clear(
     countdown: &mut u32,
     unsettled: &mut usize,
     inputs: &mut u64,
-    hold: &mut Word,
-    integrators: &mut [Word; 8],
-    combs: &mut [Word; 64],
+    hold: &mut i64,
+    integrators: &mut [i64; 8],
+    combs: &mut [i64; 64],
 ) -> u32
-    ensures { Clear (lent order.old delay.old rate.old countdown.old unsettled.old inputs.old hold.old integrators.old combs.old) (lent order.new delay.new rate.new countdown.new unsettled.new inputs.new hold.new integrators.new combs.new) result }
+    ensures { Clear (signed_ops w64) (lent order.old delay.old rate.old countdown.old unsettled.old inputs.old hold.old integrators.old combs.old) (lent order.new delay.new rate.new countdown.new unsettled.new inputs.new hold.new integrators.new combs.new) result }
 {
-    let s = gathered(
+    let mut s = gathered(
         order,
         delay,
         rate,
@@ -170,11 +164,9 @@ pub extern "C" fn mittenload_cic64_clear(
         integrators,
         combs,
     );
-    let made = s.clear();
-    let verdict = made.verdict;
-    let next = made.state;
+    let cleared = s.clear();
     spread(
-        next,
+        s,
         order,
         delay,
         rate,
@@ -185,7 +177,7 @@ pub extern "C" fn mittenload_cic64_clear(
         integrators,
         combs,
     );
-    number(verdict)
+    blocks::number(cleared)
 }
 
 // One input in; an output, where there is one, stands in the filter's own fields: its value is the hold, its number the inputs. Answers 1 where it
@@ -198,31 +190,28 @@ pub extern "C" fn mittenload_cic64_decimate(
     countdown: &mut u32,
     unsettled: &mut usize,
     inputs: &mut u64,
-    hold: &mut Word,
-    integrators: &mut [Word; 8],
-    combs: &mut [Word; 64],
-    x: Word,
+    hold: &mut i64,
+    integrators: &mut [i64; 8],
+    combs: &mut [i64; 64],
+    x: i64,
 ) -> u32
-    ensures { Decimate (lent order delay rate countdown.old unsettled.old inputs.old hold.old integrators.old combs.old) x (lent order delay rate countdown.new unsettled.new inputs.new hold.new integrators.new combs.new) result }
+    ensures { Decimate (signed_ops w64) (lent order delay rate countdown.old unsettled.old inputs.old hold.old integrators.old combs.old) x (lent order delay rate countdown.new unsettled.new inputs.new hold.new integrators.new combs.new) result }
 {
-    let s = numbers_with(order, delay, rate, countdown, unsettled, inputs, hold);
-    let step = s.decimate(integrators, combs, x);
-    let out = step.out;
-    let next = step.numbers;
-    match out {
-        Out::Given(y) => {
-            given_out(next, countdown, unsettled, inputs, hold);
+    let mut s = numbers_with(order, delay, rate, countdown, unsettled, inputs, hold);
+    match s.decimate(integrators, combs, x) {
+        Ok(Some(y)) => {
+            given_out(s, countdown, unsettled, inputs, hold);
             if y.told == 0 {
                 return 1;
             }
             2
         }
-        Out::Nothing => {
-            *countdown = next.countdown;
-            *inputs = next.inputs;
+        Ok(None) => {
+            *countdown = s.countdown;
+            *inputs = s.inputs;
             0
         }
-        Out::Refused(k) => k,
+        Err(refusal) => refusal.number(),
     }
 }
 
@@ -236,40 +225,37 @@ pub extern "C" fn mittenload_cic64_decimate_block(
     countdown: &mut u32,
     unsettled: &mut usize,
     inputs: &mut u64,
-    hold: &mut Word,
-    integrators: &mut [Word; 8],
-    combs: &mut [Word; 64],
-    input: &[Word],
-    out: &mut [Word],
+    hold: &mut i64,
+    integrators: &mut [i64; 8],
+    combs: &mut [i64; 64],
+    input: &[i64],
+    out: &mut [i64],
     count: &mut usize,
     told: &mut usize,
     number: &mut u64,
 ) -> u32
-    ensures { DecimateBlock (lent order.old delay.old rate.old countdown.old unsettled.old inputs.old hold.old integrators.old combs.old) input.now out.old (written count.old told.old number.old) (lent order.new delay.new rate.new countdown.new unsettled.new inputs.new hold.new integrators.new combs.new) out.new (written count.new told.new number.new) result }
+    ensures { DecimateBlock (signed_ops w64) (lent order.old delay.old rate.old countdown.old unsettled.old inputs.old hold.old integrators.old combs.old) input.now out.old (written count.old told.old number.old) (lent order.new delay.new rate.new countdown.new unsettled.new inputs.new hold.new integrators.new combs.new) out.new (written count.new told.new number.new) result }
 {
-    let s = numbers_in(order, delay, rate, countdown, unsettled, inputs, hold);
+    let mut s = numbers_in(order, delay, rate, countdown, unsettled, inputs, hold);
     let mut sums = *integrators;
-    let block = s.decimate_block(&mut sums, combs, input, out);
-    let wrote = block.wrote;
-    let next = block.numbers;
+    let wrote = s.decimate_block(&mut sums, combs, input, out);
     *integrators = sums;
-    numbers_out(next, order, delay, rate, countdown, unsettled, inputs, hold);
-    let old = Written {
+    numbers_out(s, order, delay, rate, countdown, unsettled, inputs, hold);
+    let told_of = wrote.unwrap_or(Written {
         count: *count,
         told: *told,
         number: *number,
-    };
-    let w = wrote_or(wrote, old);
-    *count = w.count;
-    *told = w.told;
-    *number = w.number;
-    wrote_number(wrote)
+    });
+    *count = told_of.count;
+    *told = told_of.told;
+    *number = told_of.number;
+    blocks::number(wrote)
 }
 
 // Where the settled part of what a block wrote into out begins, to first, and how many outputs it has, to count.
 #[unsafe(no_mangle)]
 pub extern "C" fn mittenload_cic64_settled(
-    out: &[Word],
+    out: &[i64],
     written: usize,
     told: usize,
     first: &mut usize,

@@ -1,12 +1,12 @@
 // The interpolator's calls. Each answers the number of its refusal, or 0. A refused call leaves all that is lent as it was.
-ghost use Rattle.lent64.specs.declared.steps.Sample.TheVariants as Sample;
-ghost use Rattle.capi_cic64.specs.Lent.{lent};
-ghost use Rattle.capi_cic64.specs.Calls.{SettleInterpolate, Interpolate, InterpolateBlock, GetInterpolate};
+ghost use Rattle.std.specs.Prelude.{Some, None};
+ghost use Rattle.std.specs.Int.{w64};
+ghost use Rattle.sums.specs.Signed.{signed_ops};
+ghost use Rattle.cic_calls.specs.Lent.{lent};
+ghost use Rattle.cic_calls.specs.Calls.{SettleInterpolate, Interpolate, InterpolateBlock, GetInterpolate};
 
-use crate::answers::{interpolated_number, interpolated_or, number, read_number, read_or};
-use crate::parts::{gathered, numbers_in, numbers_out, spread};
-use lent64::steps::Sample;
-use lent64::word::Word;
+use blocks::number;
+use cic_calls::parts::{gathered, numbers_in, numbers_out, spread};
 
 // As if x had been fed for ever.
 #[unsafe(no_mangle)]
@@ -17,14 +17,14 @@ pub extern "C" fn mittenload_cic64_settle_interpolate(
     countdown: &mut u32,
     unsettled: &mut usize,
     inputs: &mut u64,
-    hold: &mut Word,
-    integrators: &mut [Word; 8],
-    combs: &mut [Word; 64],
-    x: Word,
+    hold: &mut i64,
+    integrators: &mut [i64; 8],
+    combs: &mut [i64; 64],
+    x: i64,
 ) -> u32
-    ensures { SettleInterpolate (lent order.old delay.old rate.old countdown.old unsettled.old inputs.old hold.old integrators.old combs.old) x (lent order.new delay.new rate.new countdown.new unsettled.new inputs.new hold.new integrators.new combs.new) result }
+    ensures { SettleInterpolate (signed_ops w64) (lent order.old delay.old rate.old countdown.old unsettled.old inputs.old hold.old integrators.old combs.old) x (lent order.new delay.new rate.new countdown.new unsettled.new inputs.new hold.new integrators.new combs.new) result }
 {
-    let s = gathered(
+    let mut s = gathered(
         order,
         delay,
         rate,
@@ -35,11 +35,9 @@ pub extern "C" fn mittenload_cic64_settle_interpolate(
         integrators,
         combs,
     );
-    let made = s.settle_interpolate(x);
-    let verdict = made.verdict;
-    let next = made.state;
+    let settled = s.settle_interpolate(x);
     spread(
-        next,
+        s,
         order,
         delay,
         rate,
@@ -50,7 +48,7 @@ pub extern "C" fn mittenload_cic64_settle_interpolate(
         integrators,
         combs,
     );
-    number(verdict)
+    number(settled)
 }
 
 // One output out, with a sample.
@@ -62,23 +60,19 @@ pub extern "C" fn mittenload_cic64_interpolate_sample(
     countdown: &mut u32,
     unsettled: &mut usize,
     inputs: &mut u64,
-    hold: &mut Word,
-    integrators: &mut [Word; 8],
-    combs: &mut [Word; 64],
-    x: Word,
-    value: &mut Word,
+    hold: &mut i64,
+    integrators: &mut [i64; 8],
+    combs: &mut [i64; 64],
+    x: i64,
+    value: &mut i64,
 ) -> u32
-    ensures { Interpolate (lent order.old delay.old rate.old countdown.old unsettled.old inputs.old hold.old integrators.old combs.old) (Sample.Given x) value.old (lent order.new delay.new rate.new countdown.new unsettled.new inputs.new hold.new integrators.new combs.new) value.new result }
+    ensures { Interpolate (signed_ops w64) (lent order.old delay.old rate.old countdown.old unsettled.old inputs.old hold.old integrators.old combs.old) (Some x) value.old (lent order.new delay.new rate.new countdown.new unsettled.new inputs.new hold.new integrators.new combs.new) value.new result }
 {
-    let s = numbers_in(order, delay, rate, countdown, unsettled, inputs, hold);
-    let step = s.interpolate(integrators, combs, Sample::Given(x));
-    let out = step.out;
-    let next = step.numbers;
-    numbers_out(next, order, delay, rate, countdown, unsettled, inputs, hold);
-    let stood = *value;
-    let after = interpolated_or(out, stood);
-    *value = after;
-    interpolated_number(out)
+    let mut s = numbers_in(order, delay, rate, countdown, unsettled, inputs, hold);
+    let out = s.interpolate(integrators, combs, Some(x));
+    numbers_out(s, order, delay, rate, countdown, unsettled, inputs, hold);
+    *value = out.unwrap_or(*value);
+    number(out)
 }
 
 // One output out, without one.
@@ -90,22 +84,18 @@ pub extern "C" fn mittenload_cic64_interpolate_held(
     countdown: &mut u32,
     unsettled: &mut usize,
     inputs: &mut u64,
-    hold: &mut Word,
-    integrators: &mut [Word; 8],
-    combs: &mut [Word; 64],
-    value: &mut Word,
+    hold: &mut i64,
+    integrators: &mut [i64; 8],
+    combs: &mut [i64; 64],
+    value: &mut i64,
 ) -> u32
-    ensures { Interpolate (lent order.old delay.old rate.old countdown.old unsettled.old inputs.old hold.old integrators.old combs.old) Sample.Missing value.old (lent order.new delay.new rate.new countdown.new unsettled.new inputs.new hold.new integrators.new combs.new) value.new result }
+    ensures { Interpolate (signed_ops w64) (lent order.old delay.old rate.old countdown.old unsettled.old inputs.old hold.old integrators.old combs.old) None value.old (lent order.new delay.new rate.new countdown.new unsettled.new inputs.new hold.new integrators.new combs.new) value.new result }
 {
-    let s = numbers_in(order, delay, rate, countdown, unsettled, inputs, hold);
-    let step = s.interpolate(integrators, combs, Sample::Missing);
-    let out = step.out;
-    let next = step.numbers;
-    numbers_out(next, order, delay, rate, countdown, unsettled, inputs, hold);
-    let stood = *value;
-    let after = interpolated_or(out, stood);
-    *value = after;
-    interpolated_number(out)
+    let mut s = numbers_in(order, delay, rate, countdown, unsettled, inputs, hold);
+    let out = s.interpolate(integrators, combs, None);
+    numbers_out(s, order, delay, rate, countdown, unsettled, inputs, hold);
+    *value = out.unwrap_or(*value);
+    number(out)
 }
 
 // All of out is written, from as many inputs as are due; how many, to count. The integrators run in a copy, as a decimator's block does.
@@ -117,25 +107,22 @@ pub extern "C" fn mittenload_cic64_interpolate_block(
     countdown: &mut u32,
     unsettled: &mut usize,
     inputs: &mut u64,
-    hold: &mut Word,
-    integrators: &mut [Word; 8],
-    combs: &mut [Word; 64],
-    input: &[Word],
-    out: &mut [Word],
+    hold: &mut i64,
+    integrators: &mut [i64; 8],
+    combs: &mut [i64; 64],
+    input: &[i64],
+    out: &mut [i64],
     count: &mut usize,
 ) -> u32
-    ensures { InterpolateBlock (lent order.old delay.old rate.old countdown.old unsettled.old inputs.old hold.old integrators.old combs.old) input.now out.old count.old (lent order.new delay.new rate.new countdown.new unsettled.new inputs.new hold.new integrators.new combs.new) out.new count.new result }
+    ensures { InterpolateBlock (signed_ops w64) (lent order.old delay.old rate.old countdown.old unsettled.old inputs.old hold.old integrators.old combs.old) input.now out.old count.old (lent order.new delay.new rate.new countdown.new unsettled.new inputs.new hold.new integrators.new combs.new) out.new count.new result }
 {
-    let s = numbers_in(order, delay, rate, countdown, unsettled, inputs, hold);
+    let mut s = numbers_in(order, delay, rate, countdown, unsettled, inputs, hold);
     let mut sums = *integrators;
-    let block = s.interpolate_block(&mut sums, combs, input, out);
-    let read = block.read;
-    let next = block.numbers;
+    let read = s.interpolate_block(&mut sums, combs, input, out);
     *integrators = sums;
-    numbers_out(next, order, delay, rate, countdown, unsettled, inputs, hold);
-    let n = read_or(read, *count);
-    *count = n;
-    read_number(read)
+    numbers_out(s, order, delay, rate, countdown, unsettled, inputs, hold);
+    *count = read.unwrap_or(*count);
+    number(read)
 }
 
 // The interpolator's last output.
@@ -147,12 +134,12 @@ pub extern "C" fn mittenload_cic64_get_interpolate(
     countdown: &u32,
     unsettled: &usize,
     inputs: &u64,
-    hold: &Word,
-    integrators: &[Word; 8],
-    combs: &[Word; 64],
-    value: &mut Word,
+    hold: &i64,
+    integrators: &[i64; 8],
+    combs: &[i64; 64],
+    value: &mut i64,
 ) -> u32
-    ensures { GetInterpolate (lent order.now delay.now rate.now countdown.now unsettled.now inputs.now hold.now integrators.now combs.now) value.old value.new result }
+    ensures { GetInterpolate (signed_ops w64) (lent order.now delay.now rate.now countdown.now unsettled.now inputs.now hold.now integrators.now combs.now) value.old value.new result }
 {
     let s = gathered(
         order,
@@ -166,8 +153,6 @@ pub extern "C" fn mittenload_cic64_get_interpolate(
         combs,
     );
     let out = s.get_interpolate();
-    let stood = *value;
-    let after = interpolated_or(out, stood);
-    *value = after;
-    interpolated_number(out)
+    *value = out.unwrap_or(*value);
+    number(out)
 }

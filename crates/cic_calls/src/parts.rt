@@ -7,8 +7,8 @@ ghost use Rattle.cic_calls.specs.Lent.{lent, numbers};
 
 use blocks::Refusal;
 use cic::state::Cic;
-use lent::state::LentCic;
 use cic::word::Word;
+use lent::state::LentCic;
 
 // The filter that stands in these parts.
 pub fn gathered<W: Word>(

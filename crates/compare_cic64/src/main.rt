@@ -1,6 +1,6 @@
 // Runs the proved decimator and interpolator over the Rust's stored answers (oracle/README.md, cic) and prints what differs: runs by steps
 // and by blocks of drawn lengths (`runs`), questions and calls on a state (`lines`), each refusal at its boundary (`refusals`).
-// Kept: compare_cic and compare_cic64 are twins but for `word`, which .ci/run holds alike. One crate generic over the word was tried: each call of `Cic<W>` from another crate owes that
+// Kept: compare_cic and compare_cic64 are twins but for `word`, which .ci/widen holds alike. One crate generic over the word was tried: each call of `Cic<W>` from another crate owes that
 // a state of W has fewer than 2^63 bytes, and the proof didn't close.
 
 #![tactic(auto)]

@@ -1,0 +1,11 @@
+-- What was made, or the caller's filter and the refusal's number.
+use Rattle.std.specs.Int.{w64}
+use Rattle.sums.specs.Signed.{signed_ops}
+use Rattle.cic_calls.proofs.Handed.{new_not, new_done}
+use Rattle.capi_cic64.proofs.decimator.mittenload_cic64_new.Goals as goal
+
+pub returns-in-Ok : goal.returns-in-Ok
+returns-in-Ok c = new_done (signed_ops w64) _ _ _ _ _ _ c.in-Ok.ensures c.spread.ensures
+
+pub returns-in-Err : goal.returns-in-Err
+returns-in-Err c = new_not (signed_ops w64) _ _ _ _ _ _ c.in-Err.ensures c.number.ensures
