@@ -1,6 +1,6 @@
 -- What private functions promise one another: no caller cites it.
 use Rattle.std.proofs.Math.Option.{Option, none, some}
-use Rattle.std.specs.Prelude.{ℤ, pos}
+use Rattle.std.specs.Prelude.{ℕ, ℤ, pos}
 use Rattle.std.specs.Int.{w32}
 use Rattle.words.specs.Words.{wrap}
 use Rattle.std.specs.Prelude as std

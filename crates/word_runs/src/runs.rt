@@ -10,7 +10,6 @@ ghost use Rattle.word_runs.specs.Inner.{found_of, eight_of};
 use hex_letters::{last_letter, letters};
 use text::comparing::same_bytes;
 use text::hex::hex_digit;
-use words::casts::u32_as_i32;
 use words::unsigned::add_u32;
 
 // The next word, or anything else.
@@ -21,21 +20,19 @@ pub enum Found {
 }
 
 // The word that eight digits give.
+#[tactic(auto, using(words::proofs::Std::casts))]
 fn eight_digits(digits: &[u8]) -> Found
     requires { length digits.now ≡ 8 }
     ensures { result ≡ eight_of (hex_from 0 digits.now) }
 {
     let mut v: u64 = 0;
-    let mut i: usize = 0;
-    while i < 8 {
-        let d = hex_digit(digits[i]);
-        if 15 < d {
+    for &byte in digits {
+        let Some(d) = hex_digit(byte) else {
             return Found::Other;
-        }
+        };
         v = v * 16 + d;
-        i += 1;
     }
-    Found::Word(u32_as_i32(v as u32))
+    Found::Word((v as u32).cast_signed())
 }
 
 // A line that is the word with this number, of which `head` is the letters of the first seven digits.

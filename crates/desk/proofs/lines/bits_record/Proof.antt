@@ -7,7 +7,7 @@ use Rattle.desk.proofs.lines.bits_record.Tie as tie
 
 returns-2 : tie.Need-returns
 returns-2 c =
-    let w : tie.In-Bits = search in
+    let w : tie.In-Some = search in
     sym (ap (bits_record _) w.in-Some.is)
 
 pub bits_record_spec : {M : Type 1} → statement M

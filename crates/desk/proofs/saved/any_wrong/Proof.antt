@@ -34,7 +34,7 @@ returns c =
 
 loop-again : tie.Need-loop-i-preserved invariant-loop decreases-loop
 loop-again c =
-    let w : tie.In-Bits invariant-loop decreases-loop = search in
+    let w : tie.In-Some invariant-loop decreases-loop = search in
     let q : tie.After-pattern_at-p invariant-loop decreases-loop = search in
     let h : tie.In-loop-i invariant-loop decreases-loop = search in
     let l : tie.At-loop-i invariant-loop decreases-loop = search in

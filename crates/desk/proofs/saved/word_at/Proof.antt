@@ -7,13 +7,13 @@ use Rattle.desk.proofs.saved.word_at.Tie as tie
 
 returns : tie.Need-returns-in-Some
 returns c =
-    let w : tie.In-Bits = search in
+    let w : tie.In-Some = search in
     let q : tie.After-pattern_at-p = search in
     ap value_of (sym w.in-Some.is ∙ q.pattern_at-p.ensures)
 
 returns-2 : tie.Need-returns-in-None
 returns-2 c =
-    let w : tie.In-Wrong = search in
+    let w : tie.In-None = search in
     let q : tie.After-pattern_at-p = search in
     ap value_of (sym w.in-None.is ∙ q.pattern_at-p.ensures)
 
