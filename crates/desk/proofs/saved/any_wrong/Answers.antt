@@ -1,4 +1,4 @@
-use Rattle.std.proofs.Common.{◌≡◌, ◌≤◌, sym, ◌∙◌, arith}
+use Rattle.std.proofs.Common.{sym, ◌∙◌, arith}
 use Rattle.desk.proofs.Words.{wrong_on, wrong_found, wrong_end}
 use Rattle.desk.proofs.saved.any_wrong.Goals as goal
 

@@ -1,4 +1,4 @@
-use Rattle.std.proofs.Common.{rules, refl, arith, ◌≡◌, ◌≤◌, ◌+◌, pos, replicate, ◌∙◌, w64}
+use Rattle.std.proofs.Common.{refl, arith, ◌≡◌, ◌+◌, pos, replicate, ◌∙◌, w64}
 use lib.ListN.{length-replicate}
 use Rattle.words.proofs.Reading.{read}
 use Rattle.blocks.proofs.Turns.{start}

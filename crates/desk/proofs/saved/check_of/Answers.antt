@@ -1,4 +1,4 @@
-use Rattle.std.proofs.Common.{◌≡◌, ◌≤◌, ◌+◌, ◌-◌, ℕ, sym, ap, ◌∙◌, arith}
+use Rattle.std.proofs.Common.{◌+◌, ◌-◌, ℕ, sym, ap, ◌∙◌, arith}
 use Rattle.desk.specs.Saved.{next_check, check_from, words_at}
 use Rattle.desk.proofs.Words.{check_on, check_end}
 use Rattle.desk.proofs.saved.check_of.Goals as goal
