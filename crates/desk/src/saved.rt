@@ -1,5 +1,5 @@
 // A recorder's state as a line of text: `c`, 79 words and their check value, each as 16 hex digits, then the newline.
-ghost use Rattle.std.specs.Prelude.{◌≡◌, ◌<◌, pos, length};
+ghost use Rattle.std.specs.Prelude.{◌≡◌, ◌<◌, ◌≤◌, ◌+◌, pos, length};
 ghost use Rattle.std.specs.Int.{w64};
 ghost use Rattle.words.specs.Words.{wrap};
 ghost use Rattle.desk.specs.Saved.{next_check, check_from, pattern_at, word_at, words_at, any_wrong, cells_at, state_loaded, load_of};
@@ -34,11 +34,7 @@ fn word_at(line: &[u8], i: usize) -> u64
     requires { (i < 80) × (length line.now ≡ 1282) }
     ensures { result ≡ word_at line.now i }
 {
-    let p = pattern_at(line, i);
-    match p {
-        Some(v) => v,
-        None => 0,
-    }
+    pattern_at(line, i).unwrap_or(0)
 }
 
 // The same read as signed.
@@ -54,13 +50,10 @@ fn any_wrong(line: &[u8]) -> bool
     requires { length line.now ≡ 1282 }
     ensures { result ≡ any_wrong line.now 0 80 }
 {
-    let mut i: usize = 0;
-    while i < 80 {
-        let p = pattern_at(line, i);
-        let Some(_v) = p else {
+    for i in 0..80 {
+        let Some(_) = pattern_at(line, i) else {
             return true;
         };
-        i += 1;
     }
     false
 }
@@ -71,38 +64,20 @@ fn check_of(line: &[u8]) -> u64
     ensures { result ≡ check_from 1 (words_at line.now 0 79) }
 {
     let mut c: u64 = 1;
-    let mut i: usize = 0;
-    while i < 79 {
+    for i in 0..79 {
         c = checked(c, word_at(line, i));
-        i += 1;
     }
     c
 }
 
-// Words 7 to 14.
-fn integrators_of(line: &[u8]) -> [i64; 8]
-    requires { length line.now ≡ 1282 }
-    ensures { result ≡ cells_at line.now 7 8 }
+// N words, the first at this place.
+fn cells_of<const N: usize>(line: &[u8], from: usize) -> [i64; N]
+    requires { (from + N ≤ 80) × (length line.now ≡ 1282) }
+    ensures { result ≡ cells_at line.now from N }
 {
-    let mut cells = [0i64; 8];
-    let mut i: usize = 0;
-    while i < 8 {
-        cells[i] = u64_as_i64(word_at(line, i + 7));
-        i += 1;
-    }
-    cells
-}
-
-// Words 15 to 78.
-fn combs_of(line: &[u8]) -> [i64; 64]
-    requires { length line.now ≡ 1282 }
-    ensures { result ≡ cells_at line.now 15 64 }
-{
-    let mut cells = [0i64; 64];
-    let mut i: usize = 0;
-    while i < 64 {
-        cells[i] = u64_as_i64(word_at(line, i + 15));
-        i += 1;
+    let mut cells = [0i64; N];
+    for i in 0..N {
+        cells[i] = signed_at(line, i + from);
     }
     cells
 }
@@ -125,8 +100,8 @@ fn load_state(line: &[u8]) -> Result<Recorder, Refusal>
     let inputs = word_at(line, 4);
     let hold = signed_at(line, 5);
     let y = signed_at(line, 6);
-    let integrators = integrators_of(line);
-    let combs = combs_of(line);
+    let integrators = cells_of::<8>(line, 7);
+    let combs = cells_of::<64>(line, 15);
     let filter = Cic::resume(
         order as usize,
         delay as usize,

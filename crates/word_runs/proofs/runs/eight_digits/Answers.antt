@@ -1,5 +1,5 @@
-use Rattle.std.proofs.Common.{rules, ◌≡◌, ◌<◌, ◌≤◌, ◌+◌, ◌*◌, ◌^◌, ℕ, sym, ap, ◌∙◌, arith, drop, length, slice_index, w32}
-use Rattle.text.specs.Hex.{hex_digit, hex_from}
+use Rattle.std.proofs.Common.{rules, ◌+◌, ◌*◌, ℕ, sym, ap, ◌∙◌, arith, drop, slice_index}
+use Rattle.text.specs.Hex.{hex_from}
 use Rattle.text.proofs.HexDigits.{digit_none, digit_some, no_digit, hex_on, hex_over, grown}
 use Rattle.words.proofs.Std.{casts}
 use Rattle.word_runs.specs.Inner.{eight_of}
