@@ -40,7 +40,7 @@ pub fn gathered<W: Word>(
 
 // The parts take what stands in the filter.
 pub fn spread<W: Word>(
-    next: Cic<W>,
+    filter: Cic<W>,
     order: &mut usize,
     delay: &mut usize,
     rate: &mut u32,
@@ -52,17 +52,17 @@ pub fn spread<W: Word>(
     combs: &mut [W; 64],
 )
     ensures { lent order.new delay.new rate.new countdown.new unsettled.new
-        inputs.new hold.new integrators.new combs.new ≡ next }
+        inputs.new hold.new integrators.new combs.new ≡ filter }
 {
-    *order = next.order;
-    *delay = next.delay;
-    *rate = next.rate;
-    *countdown = next.countdown;
-    *unsettled = next.unsettled;
-    *inputs = next.inputs;
-    *hold = next.hold;
-    *integrators = next.integrators;
-    *combs = next.combs;
+    *order = filter.order;
+    *delay = filter.delay;
+    *rate = filter.rate;
+    *countdown = filter.countdown;
+    *unsettled = filter.unsettled;
+    *inputs = filter.inputs;
+    *hold = filter.hold;
+    *integrators = filter.integrators;
+    *combs = filter.combs;
 }
 
 // `Cic::resume` with what stands in the filter.
@@ -94,15 +94,7 @@ pub fn numbers_in<W: Word>(
 ) -> LentCic<W>
     ensures { result ≡ numbers order.now delay.now rate.now countdown.now unsettled.now inputs.now hold.now }
 {
-    LentCic {
-        order: *order,
-        delay: *delay,
-        rate: *rate,
-        countdown: *countdown,
-        unsettled: *unsettled,
-        inputs: *inputs,
-        hold: *hold,
-    }
+    numbers_with(*order, *delay, *rate, countdown, unsettled, inputs, hold)
 }
 
 // The parts take these numbers.
@@ -121,13 +113,10 @@ pub fn numbers_out<W: Word>(
     *order = next.order;
     *delay = next.delay;
     *rate = next.rate;
-    *countdown = next.countdown;
-    *unsettled = next.unsettled;
-    *inputs = next.inputs;
-    *hold = next.hold;
+    given_out(next, countdown, unsettled, inputs, hold);
 }
 
-// The same with order, delay and rate given.
+// The same numbers, with order, delay and rate given.
 pub fn numbers_with<W: Word>(
     order: usize,
     delay: usize,

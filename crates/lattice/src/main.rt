@@ -16,7 +16,6 @@ const PAIR_SIZE: f64 = -0.5457233155094577;
 
 const PAIR_TURN: f64 = 0.8090169943749475;
 
-
 fn print_sums(rt: &impl Print, ys: &[i32], zs: &[i32]) -> io::Result<()> {
     for (y, z) in ys.iter().zip(zs) {
         println!(rt; "{}", y.wrapping_add(*z))?;
