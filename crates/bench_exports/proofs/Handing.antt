@@ -1,25 +1,15 @@
 -- A block that is handed on: what it leaves in the slice, told by the coefficients and the state that were asked for.
-use mathlib.Core.Path.{◌≡◌, refl, sym, ◌∙◌}
+use mathlib.Core.Path.{◌≡◌, sym}
 use mathlib.Core.List.{List}
-use Prim.Native.Nat.{ℕ, zero, suc}
-use borrow.Author.Rules.{rules}
-use borrow.Author.Tests.{ne_eqb}
+use Prim.Native.Nat.{ℕ}
 use lib.IntN.{ℤ}
 use mir.Syntax.{w32}
 use mir.Val.{to_z, of_z, SFits}
 use mir.ValLaws.{to_z-of_z}
 use Rattle.std.specs.Prelude.{Result}
-use Rattle.std.specs.Result.{result_unwrap_or}
 use Rattle.blocks.specs.declared.refusal.Refusal.{Refusal}
-use Rattle.blocks.specs.Refusals.{answer}
-use Rattle.blocks.specs.Blocks.{Blocked, unless}
-use Rattle.sums.specs.Ops.{Ops}
-use Rattle.sums.specs.State.{blank, zeroed}
-use Rattle.sums.specs.Calls.{new_number, new_state}
-use Rattle.sums.specs.Counted.{new_counted, blank_counted}
-use Rattle.cic.specs.Reading.{cic_of}
-use Rattle.cic.specs.Answers.{made_of}
-use Rattle.bench_exports.specs.Fresh.{block_left_by, word_biquad, word_clamp, fresh_cic}
+use Rattle.blocks.specs.Blocks.{Blocked}
+use Rattle.bench_exports.specs.Fresh.{block_left_by, word_biquad, word_clamp}
 
 module _ {C S A B : Type 0} (k : C → ℕ) (out : C → S → A → B) (next : C → S → A → S) (xs : List A) (ys : List B) where
   pub handed : (c d : C) (s : S) (t : S) (v : Result (Unit {0}) Refusal) (zs : List B) → c ≡ d → Blocked (k c) (out c) (next c) s xs ys t v zs
@@ -38,20 +28,3 @@ biquad_sent {b0} {b1} {b2} {a1} {a2} f p q r s t =
 pub clamp_sent : {u min max : ℤ} → SFits w32 u → SFits w32 min → SFits w32 max → (c : _)
     → word_clamp c (sent u) (sent min) (sent max) ≡ word_clamp c u min max
 clamp_sent {u} {min} {max} p q r c = rw (to_z-of_z w32 u p, to_z-of_z w32 min q, to_z-of_z w32 max r)
-
--- a refused maker's value is what stands in its place
-pub opened : {A : Type 0} (k : ℕ) (v stands : A) → result_unwrap_or (answer k v) stands ≡ unless k stands v
-unfolding answer
-opened zero v stands = refl
-opened (suc k) v stands = rw (ne_eqb (suc k) 0 (λ z. search rules))
-
--- a fresh filter, or the one that stands for it
-pub freshly : {A : Type 0} (o : Ops A) (order delay rate : ℕ)
-    → result_unwrap_or (made_of (new_number order delay rate) (new_counted o order delay rate)) (cic_of (blank_counted o)) ≡ fresh_cic o order delay rate
-unfolding new_state
-freshly o order delay rate = opened _ _ _ ∙ by (new_number order delay rate)
-  where
-    by : (k : ℕ) → unless k (cic_of (blank_counted o)) (cic_of (record { state = unless k (blank o) (zeroed o order delay rate); inputs = 0 }))
-        ≡ cic_of (record { state = unless k (blank o) (zeroed o order delay rate); inputs = 0 })
-    by zero = refl
-    by (suc k) = rw (ne_eqb (suc k) 0 (λ z. search rules)) refl

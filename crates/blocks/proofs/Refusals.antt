@@ -1,8 +1,10 @@
 -- Answers by number: a refusal and its number tell each other, and calls refused by one number give one refusal.
-use Rattle.std.proofs.Common.{◌≡◌, ℕ, zero, suc, refl, rules, ap, sym, ◌∙◌}
+use Rattle.std.proofs.Common.{◌≡◌, ℕ, zero, suc, refl, rules, ap, sym, ◌∙◌, ne_eqb}
 use Rattle.std.specs.Prelude.{Result, Ok, Err}
+use Rattle.std.specs.Result.{result_unwrap_or}
 use Rattle.blocks.specs.declared.refusal.Refusal.{Refusal}
 use Rattle.blocks.specs.Refusals.{number_of, refusal_at, answer}
+use Rattle.blocks.specs.Blocks.{unless}
 
 -- the table read either way
 pub at_number : (r : Refusal) → refusal_at (number_of r) ≡ r
@@ -77,3 +79,9 @@ pub taken_value : {A : Type 0} (k : ℕ) (v w : A) → ◌≡◌ {A = Result A R
 unfolding answer
 taken_value zero v w e = search rules
 taken_value (suc k) v w e = search rules
+
+-- a value that stands for a refused call's: it where the call is refused, else the call's own
+pub in_place : {A : Type 0} (k : ℕ) (v stands : A) → result_unwrap_or (answer k v) stands ≡ unless k stands v
+unfolding answer
+in_place zero v stands = refl
+in_place (suc k) v stands = rw (ne_eqb (suc k) 0 (λ z. search rules))

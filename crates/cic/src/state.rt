@@ -6,7 +6,7 @@ ghost use Rattle.sums.specs.Calls.{new_number, resume_number, rate_number};
 ghost use Rattle.sums.specs.Counted.{blank_counted, new_counted, resume_counted, rate_counted, clear_counted};
 ghost use Rattle.lent.specs.Reading.{counted};
 ghost use Rattle.cic.specs.Reading.{state_of, counted_of, cic_of, numbers_of, shape_of};
-ghost use Rattle.cic.specs.Answers.{made_of};
+ghost use Rattle.cic.specs.Answers.{Makes};
 
 use crate::word::Word;
 use blocks::Refusal;
@@ -45,9 +45,9 @@ impl<W: Word> Cic<W> {
     }
 
     // A state of zeros, settled, whose first step gives an output and is input number 1. Outputs up to input
-    // N·(R.M - 1) have zeros in them for what was before.
+    // N·(R.M - 1) have zeros in them for what was before. Where it is refused, what stands for the state is `blank`.
     pub fn new(order: usize, delay: usize, rate: u32) -> Result<Cic<W>, Refusal>
-        ensures { result ≡ made_of (new_number order delay rate) (new_counted W.ops order delay rate) }
+        ensures { Makes W.ops (new_number order delay rate) (new_counted W.ops order delay rate) result }
     {
         let shape = Numbers {
             order,
@@ -60,7 +60,8 @@ impl<W: Word> Cic<W> {
         Ok(Cic::zeros(order, delay, rate))
     }
 
-    // A state with these numbers and all these cells, after so many inputs; its first N.M outputs are unsettled.
+    // A state with these numbers and all these cells, after so many inputs; its first N.M outputs are unsettled. Where it is
+    // refused, what stands for the state is `blank`.
     pub fn resume(
         order: usize,
         delay: usize,
@@ -71,8 +72,8 @@ impl<W: Word> Cic<W> {
         countdown: u32,
         inputs: u64,
     ) -> Result<Cic<W>, Refusal>
-        ensures { result ≡ made_of (resume_number order delay rate countdown)
-            (resume_counted W.ops order delay rate integrators combs hold countdown inputs) }
+        ensures { Makes W.ops (resume_number order delay rate countdown)
+            (resume_counted W.ops order delay rate integrators combs hold countdown inputs) result }
     {
         let shape = Numbers {
             order,

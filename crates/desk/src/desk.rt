@@ -19,10 +19,8 @@ use crate::lines::{Kind, Record, read_record};
 use crate::saved::load;
 use blocks::Refusal;
 use cic::runs::Written;
-use cic::state::Cic;
 use cic::steps::Output;
 use recorder::recorder::Recorder;
-use unwrap::unwrapper::Unwrapper;
 use words::casts::{u32_as_i32, u64_as_u32};
 use words::unsigned::add_u32;
 
@@ -252,15 +250,10 @@ impl Desk {
     pub fn start() -> Desk
         ensures { result ≡ start_desk }
     {
-        let recorder = Recorder {
-            plugged: true,
-            turns: Unwrapper { y: 0 },
-            filter: Cic::blank(),
-        };
         Desk {
             opened: false,
             going: true,
-            recorder,
+            recorder: Recorder::blank(),
         }
     }
 }

@@ -1,6 +1,8 @@
 -- Every call on a modulator: by its number (0: accepted), its state and its answer.
--- A refused call leaves the given state; a refused maker or question gives its refusal alone.
+-- A refused call leaves the given state; a refused maker gives its refusal and, where a state is asked for, an all-zero one; a refused question
+-- gives its refusal alone.
 use Rattle.std.specs.Prelude.{◌≡◌, cond, List, ℕ, ◌-◌, ◌<◌, ltb, eqb, ℤ, pos, length, take, drop, get_or, replicate, Result, Ok}
+use Rattle.std.specs.Result.{result_unwrap_or}
 use Rattle.blocks.specs.declared.refusal.Refusal.{Refusal}
 use Rattle.blocks.specs.Refusals.{answer}
 use Rattle.blocks.specs.Scan.{scan, ends}
@@ -30,6 +32,10 @@ zeros_of order = record { order = order; accumulators = replicate 8 0; retained 
 
 abbrev pub modulator_of : ℕ → Result Dsm Refusal
 modulator_of order = answer (order_number order) (zeros_of order)
+
+-- What it answers, and what the answer gives where `Dsm::IDLE` stands for a refused one's state.
+abbrev pub Makes : ℕ → Result Dsm Refusal → Type 0
+Makes order r = (r ≡ modulator_of order) × (result_unwrap_or r (zeros_of 0) ≡ unless (order_number order) (zeros_of 0) (zeros_of order))
 
 -- The step: the state after it, and its answer.
 abbrev pub output_at : ℕ → ℤ → Result ℤ Refusal

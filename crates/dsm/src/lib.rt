@@ -9,7 +9,7 @@ ghost use Rattle.std.specs.Prelude.{◌≡◌, true, ◌+◌, ◌-◌, ◌/◌, 
 ghost use Rattle.std.specs.Int.Signed.{mag};
 ghost use Rattle.blocks.specs.Refusals.{answer};
 ghost use Rattle.dsm.specs.Modulator.{inside, inside_from};
-ghost use Rattle.dsm.specs.Calls.{order_number, cells_number, state_number, zeros_of, modulator_of, range_of, Steps, Runs};
+ghost use Rattle.dsm.specs.Calls.{order_number, cells_number, state_number, zeros_of, range_of, Makes, Steps, Runs};
 ghost use Rattle.dsm.specs.Cells.{Accumulates, Combines, Turns, Modulates};
 
 use blocks::Refusal;
@@ -125,9 +125,9 @@ impl Dsm {
         retained: [0; 8],
     };
 
-    // A modulator of zeros. 30 where the order is above 8.
+    // A modulator of zeros. 30 where the order is above 8; what stands for the state is then `IDLE`.
     pub fn new(order: usize) -> Result<Dsm, Refusal>
-        ensures { result ≡ modulator_of order }
+        ensures { Makes order result }
     {
         order_fits(order)?;
         Ok(Dsm {

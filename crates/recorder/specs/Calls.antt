@@ -1,5 +1,6 @@
 -- What a recorder's calls give: words go through `Unwrapper` (01, 'Phase words') and their turns through the decimator on i64 (02, A1).
-use Rattle.std.specs.Prelude.{true, false, cond, List, ◌++◌, ℕ, ltb, ℤ, pos, length, drop, Result, Err}
+use Rattle.std.specs.Prelude.{◌≡◌, true, false, cond, List, ◌++◌, ℕ, ltb, ℤ, pos, length, drop, Result, Err}
+use Rattle.std.specs.Result.{result_unwrap_or}
 use Rattle.std.specs.Int.{w64}
 use Rattle.blocks.specs.declared.refusal.Refusal.{Refusal}
 use Rattle.blocks.specs.Refusals.{answer}
@@ -10,7 +11,7 @@ use Rattle.unwrap.specs.declared.unwrapper.Unwrapper.{Unwrapper}
 use Rattle.sums.specs.Ops.{Ops}
 use Rattle.sums.specs.Signed.{signed_ops}
 use Rattle.sums.specs.Calls.{new_number, resume_number}
-use Rattle.sums.specs.Counted.{new_counted, resume_counted, rate_counted, block_number, block_state, block_out}
+use Rattle.sums.specs.Counted.{blank_counted, new_counted, resume_counted, rate_counted, block_number, block_state, block_out}
 use Rattle.shape.specs.declared.runs.Written.{Written}
 use Rattle.shape.specs.Answers.{block_wrote}
 use Rattle.cic.specs.Reading.{counted_of, cic_of}
@@ -34,6 +35,13 @@ opened f = record { plugged = true; turns = record { y = pos 0 }; filter = f }
 
 unfoldable pub opened_of : ℕ → ℕ → ℕ → Result Recorder Refusal
 opened_of N M rate = answer (new_number N M rate) (opened (cic_of (new_counted word_ops N M rate)))
+
+-- What opening answers, and what the answer gives where `Recorder::blank`, whose filter is the blank one, stands for a refused one's recorder.
+abbrev pub blank : Recorder
+blank = opened (cic_of (blank_counted word_ops))
+
+abbrev pub Opens : ℕ → ℕ → ℕ → Result Recorder Refusal → Type 0
+Opens N M rate r = (r ≡ opened_of N M rate) × (result_unwrap_or r blank ≡ opened (cic_of (new_counted word_ops N M rate)))
 
 -- The plug is pulled: no word is taken until it is pushed back.
 abbrev pub pulled_of : Recorder → Recorder

@@ -5,7 +5,7 @@ ghost use Rattle.blocks.specs.Blocks.{Ran};
 ghost use Rattle.unwrap.specs.Phases.{grown};
 ghost use Rattle.sums.specs.Calls.{rate_number};
 ghost use Rattle.cic.specs.Reading.{state_of};
-ghost use Rattle.recorder.specs.Calls.{opened_of, pulled_of, push_number, pushed_of, rated_of, turn_out, took_of, took_answer, turns_left, out_left};
+ghost use Rattle.recorder.specs.Calls.{blank, Opens, pulled_of, push_number, pushed_of, rated_of, turn_out, took_of, took_answer, turns_left, out_left};
 
 use blocks::{Filter, Refusal};
 use cic::runs::Written;
@@ -32,9 +32,21 @@ fn unwrap_words(unwrapper: &mut Unwrapper, words: &[i32], turns: &mut [i64])
 }
 
 impl Recorder {
-    // A recorder at turn 0 with the plug in, its decimator new. Refused as `Cic::new` is.
+    // What stands where none was opened: a recorder at turn 0 with the plug in, its decimator `Cic::blank`.
+    pub fn blank() -> Recorder
+        ensures { result ≡ blank }
+    {
+        Recorder {
+            plugged: true,
+            turns: Unwrapper { y: 0 },
+            filter: Cic::blank(),
+        }
+    }
+
+    // A recorder at turn 0 with the plug in, its decimator new. Refused as `Cic::new` is; what stands for the recorder is then
+    // `blank`.
     pub fn open(order: usize, delay: usize, rate: u32) -> Result<Recorder, Refusal>
-        ensures { result ≡ opened_of order delay rate }
+        ensures { Opens order delay rate result }
     {
         let filter = Cic::new(order, delay, rate)?;
         Ok(Recorder {
@@ -97,7 +109,8 @@ impl Recorder {
         if turns.len() < n {
             return Err(Refusal::ShortOutput);
         }
-        if !self.plugged {
+        let plugged = self.plugged;
+        if !plugged {
             return Err(Refusal::PlugOut);
         }
         let mut after = self.turns;

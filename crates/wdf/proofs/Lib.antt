@@ -4,3 +4,4 @@ pub mod Steps
 pub mod Filters
 pub mod Retired
 pub mod Chains
+pub mod Making

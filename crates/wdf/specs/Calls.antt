@@ -1,5 +1,6 @@
 -- The calls on a filter: what each refuses, answers and leaves.
 use Rattle.std.specs.Prelude.{◌≡◌, Result, Bool, false, cond, ◌||◌, List, ◌++◌, ℕ, zero, suc, ◌/◌, ◌%◌, ◌^◌, eqb, ltb, drop, replicate, ℤ, pos}
+use Rattle.std.specs.Result.{result_unwrap_or}
 use Rattle.blocks.specs.Blocks.{unless}
 use Rattle.blocks.specs.declared.refusal.Refusal.{Refusal}
 use Rattle.blocks.specs.Refusals as refusals
@@ -27,7 +28,7 @@ number s = sections_number s.sections s.architecture
 abbrev pub filter : ℕ → ℕ → List ℤ → List ℤ → Wdf
 filter sections architecture a z = record { sections = sections; architecture = architecture; a = a; z = z }
 
--- the filter of no sections and of zeros, `Wdf::EMPTY`, which callers put in a refused maker's place
+-- 01: a refused maker gives its number and an all-zero state: `Wdf::EMPTY`, where its answer is asked for one
 abbrev pub none : Wdf
 none = filter 0 0 (replicate 8 (pos 0)) (replicate 8 (pos 0))
 
@@ -38,6 +39,11 @@ told k = refusals.answer k tt
 -- a filter whose cells are zero, unless the number k refuses it
 unfoldable pub made_unless : ℕ → ℕ → ℕ → List ℤ → Result Wdf Refusal
 made_unless k sections architecture a = refusals.answer k (filter sections architecture a (replicate 8 (pos 0)))
+
+-- what a maker answers, and what the answer gives where `none` stands for a refused one's filter
+abbrev pub Makes : ℕ → ℕ → ℕ → List ℤ → Result Wdf Refusal → Type 0
+Makes k sections architecture a r =
+    (r ≡ made_unless k sections architecture a) × (result_unwrap_or r none ≡ unless k none (filter sections architecture a (replicate 8 (pos 0))))
 
 -- a new filter
 abbrev pub made : ℕ → ℕ → List ℤ → Result Wdf Refusal

@@ -2,8 +2,8 @@
 ghost use Rattle.std.specs.Prelude.{◌≡◌, ◌%◌, ◌≤◌};
 ghost use Rattle.blocks.specs.Blocks.{Blocked};
 ghost use Rattle.adapters.specs.Adapters.{adapted, code_of};
-ghost use Rattle.wdf.specs.Calls.{sections_number, holds_retired, new_number, number, filter, told};
-ghost use Rattle.wdf.specs.Calls.{made, made_form1, answer, next, Steps};
+ghost use Rattle.wdf.specs.Calls.{sections_number, holds_retired, new_number, number, filter, none, told};
+ghost use Rattle.wdf.specs.Calls.{answer, next, Makes, Steps};
 ghost use Rattle.wdf.specs.Retired.{current, moved};
 ghost use Rattle.wdf.specs.Lent.{Passes};
 
@@ -136,9 +136,9 @@ impl Wdf {
 
     // A filter of these sections, with all eight coefficients as given and cells of zero.
     // `Sections` where there are more than 8, `Adapters` where a nibble beyond the last is not zero, `RetiredAdapter` where a section's
-    // adapter is B1 or C1.
+    // adapter is B1 or C1; what stands for the filter is then `EMPTY`.
     pub fn new(sections: usize, architecture: u32, a: [i32; 8]) -> Result<Self, Refusal>
-        ensures { result ≡ made sections architecture a }
+        ensures { Makes (new_number sections architecture) sections architecture a result }
     {
         new_refusal(sections, architecture)?;
         Ok(Wdf {
@@ -151,7 +151,7 @@ impl Wdf {
 
     // The same of the settings of form 1, which may hold B1 and C1: `Sections` and `Adapters` alone.
     pub fn from_form1(sections: usize, architecture: u32, a: [i32; 8]) -> Result<Self, Refusal>
-        ensures { result ≡ made_form1 sections architecture a }
+        ensures { Makes (sections_number sections architecture) sections architecture a result }
     {
         refusal(sections, architecture)?;
         Ok(Wdf {
@@ -188,4 +188,11 @@ impl Wdf {
             run_eight(self.architecture, &self.a, &mut self.z, xs, ys)
         }
     }
+}
+
+// Nothing calls it: its promise says what the constant `EMPTY` is.
+fn empty() -> Wdf
+    ensures { result ≡ none }
+{
+    Wdf::EMPTY
 }

@@ -5,7 +5,7 @@ use Rattle.cic_calls.proofs.Handed.{new_not, new_done}
 use Rattle.capi_cic64.proofs.decimator.mittenload_cic64_new.Goals as goal
 
 pub returns-in-Ok : goal.returns-in-Ok
-returns-in-Ok c = new_done (signed_ops w64) _ _ _ _ _ _ c.in-Ok.ensures c.spread.ensures
+returns-in-Ok c = new_done (signed_ops w64) _ _ _ _ _ _ c.in-Ok.ensures.0 c.spread.ensures
 
 pub returns-in-Err : goal.returns-in-Err
-returns-in-Err c = new_not (signed_ops w64) _ _ _ _ _ _ c.in-Err.ensures c.number.ensures
+returns-in-Err c = new_not (signed_ops w64) _ _ _ _ _ _ c.in-Err.ensures.0 c.number.ensures

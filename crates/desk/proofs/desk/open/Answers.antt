@@ -13,4 +13,4 @@ returns-then-number-ne0 c = c.refused-then-number-ne0.ensures ∙ sym (rw (c.if-
 
 pub returns : goal.returns
 unfolding open_taken
-returns c = c.readied.ensures ∙ ap (readied c.args.d) c.open-r.ensures ∙ sym (rw (c.if-d.false, eq-eqb _ _ c.if-number-ne0.false))
+returns c = c.readied.ensures ∙ ap (readied c.args.d) c.open-r.ensures.0 ∙ sym (rw (c.if-d.false, eq-eqb _ _ c.if-number-ne0.false))

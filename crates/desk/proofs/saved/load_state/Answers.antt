@@ -27,7 +27,7 @@ returns-in_err-filter c =
     c.word_at-rate.ensures c.word_at-countdown.ensures c.word_at-inputs.ensures
     (read w64 c.signed_at-hold.result c.signed_at-hold.type_inv ∙ c.signed_at-hold.ensures)
     (read w64 c.signed_at-y.result c.signed_at-y.type_inv ∙ c.signed_at-y.ensures)
-    c.cells_of-integrators.ensures c.cells_of-combs.ensures c.if-rate-gt4294967295.false c.if-countdown-gt4294967295.false r.ensures e
+    c.cells_of-integrators.ensures c.cells_of-combs.ensures c.if-rate-gt4294967295.false c.if-countdown-gt4294967295.false r.ensures.0 e
 
 pub returns : goal.returns
 returns c =
@@ -36,4 +36,4 @@ returns c =
     c.word_at-rate.ensures c.word_at-countdown.ensures c.word_at-inputs.ensures
     (read w64 c.signed_at-hold.result c.signed_at-hold.type_inv ∙ c.signed_at-hold.ensures)
     (read w64 c.signed_at-y.result c.signed_at-y.type_inv ∙ c.signed_at-y.ensures)
-    c.cells_of-integrators.ensures c.cells_of-combs.ensures c.if-rate-gt4294967295.false c.if-countdown-gt4294967295.false r.ensures refl
+    c.cells_of-integrators.ensures c.cells_of-combs.ensures c.if-rate-gt4294967295.false c.if-countdown-gt4294967295.false r.ensures.0 refl
