@@ -15,11 +15,16 @@ use borrow.Author.Tests.{ltb-true, ltb-false, lt-ltb, le-ltb, ne_eqb}
 use Rattle.words.specs.Words.{wrap}
 use Rattle.blocks.specs.Refusals.{answer}
 use Rattle.blocks.specs.Blocks.{unless}
-use Rattle.sums.specs.Signed.{exact_ops}
+use Rattle.std.specs.Prelude.{Ok}
+use Rattle.sums.specs.Signed.{exact_ops, signed_ops}
+use Rattle.sums.specs.State.{refusal_of}
+use Rattle.sums.specs.Calls.{new_number, new_state}
 use Rattle.sums.specs.Moving.{moving}
-use Rattle.sums.specs.Counted.{Numbered, plain}
+use Rattle.sums.specs.Counted.{Numbered, plain, new_counted}
 use Rattle.sums.specs.Runs.{needed, values, over}
 use Rattle.sums.specs.Demands.{input, modulo, Decimates}
+use Rattle.cic.specs.Reading.{cic_of}
+use Rattle.cic.specs.Answers.{made_of}
 use Rattle.demands.proofs.Demands.{after-new}
 use Rattle.fir.specs.Ways.{up_to, rest, ways}
 use Rattle.fir.specs.Weights.{taken, weights, weighed}
@@ -243,10 +248,16 @@ follows : (xs : List ℤ) → Follows (input xs) 0 xs
 unfolding Follows
 follows xs i l = ap (input xs) (sym (zero-add i))
 
+-- Cic::new(3, 1, 63) is accepted
+accepted : made_of (new_number 3 1 63) (new_counted (signed_ops w32) 3 1 63) ≡ Ok (cic_of (new_counted (signed_ops w32) 3 1 63))
+unfolding refusal_of answer
+accepted = refl
+
 pub same-outputs : SameOutputs
 unfolding cells_at
 same-outputs made m xs ys t c zs u run =
-    let d = ((after-new w32 3 1 63 made m).0 xs zs u run).1 in
+    let s = cic_of (new_counted (signed_ops w32) 3 1 63) in
+    let d = ((after-new w32 3 1 63 s accepted).0 xs zs u (rw m.1 at run)).1 in
     (one c).0
     ∙ outputs_from_law (replicate 190 (pos 0)) 0 xs
     ∙ same (outputs_from (replicate 190 (pos 0)) 0 xs) (values (plain zs))

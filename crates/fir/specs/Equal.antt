@@ -1,14 +1,16 @@
 -- 02, A6: the engine equals the decimator of order 3, M 1, rate 63, said of the answers that a caller of either holds: a few
 -- definitions, then the statements, nothing else. Each is proved in proofs/Equal.antt.
 use Rattle.std.specs.Prelude.{◌≡◌, List, [], ◌∷◌, ◌++◌, ℕ, ℤ, take, Result, Ok, Err}
+use Rattle.std.specs.Result.{result_unwrap_or}
 use Rattle.blocks.specs.declared.refusal.Refusal.{Refusal}
 use Rattle.sums.specs.Calls.{new_number}
 use Rattle.sums.specs.Runs.{values}
-use Rattle.sums.specs.Counted.{Numbered, plain, new_counted}
+use Rattle.sums.specs.Counted.{Numbered, plain, blank_counted, new_counted}
 use Rattle.cic.specs.declared.state.Cic.{Cic}
+use Rattle.cic.specs.Reading.{cic_of}
 use Rattle.sums.specs.Signed.{signed_ops}
 use Rattle.std.specs.Int.{w32}
-use Rattle.cic.specs.Answers.{made_of}
+use Rattle.cic.specs.Answers.{Makes}
 use Rattle.demands.specs.Demands.{Decimating}
 use Rattle.fir.specs.declared.Fir.{Fir}
 use Rattle.fir.specs.Calls.{Stepped, Decimated, fresh, stepped_of, output_of, outputs, after, decimated_of, written_of}
@@ -37,10 +39,11 @@ pub data Called : Fir → List ℤ → List ℤ → Fir → Type 0 where
 abbrev pub OneList : Type 0
 OneList = (s : Fir) (xs ys : List ℤ) (t : Fir) → Called s xs ys t → (ys ≡ outputs s xs) × (t ≡ after s xs)
 
--- From `Fir::new` and `Cic::new(3, 1, 63)`, by whatever calls both took in xs: their outputs are the same, wrapping included.
+-- From `Fir::new` and what `Cic::new(3, 1, 63)` answers, `Cic::blank` where that were refused, by whatever calls both took in xs: their
+-- outputs are the same, wrapping included.
 abbrev pub SameOutputs : Type 0
 SameOutputs =
-    (made : Cic ℤ) → made_of (new_number 3 1 63) (new_counted (signed_ops w32) 3 1 63) ≡ Ok made
+    (made : Result (Cic ℤ) Refusal) → Makes (signed_ops w32) (new_number 3 1 63) (new_counted (signed_ops w32) 3 1 63) made
     → (xs ys : List ℤ) (t : Fir) → Called fresh xs ys t
-    → (zs : List (Numbered ℤ)) (u : Cic ℤ) → Decimating w32 made xs zs u
+    → (zs : List (Numbered ℤ)) (u : Cic ℤ) → Decimating w32 (result_unwrap_or made (cic_of (blank_counted (signed_ops w32)))) xs zs u
     → ys ≡ values (plain zs)
