@@ -4,5 +4,5 @@
 #![tactic(auto)]
 
 mod cutting;
-mod line;
+pub mod line;
 pub mod reading;

@@ -17,7 +17,7 @@ use entries::names::is_name;
 use entries::settings::{Entry, Kind, Name};
 use settings_text::version::Version;
 use text::comparing::same_bytes;
-use text::hex::hex_digit;
+use text::hex::digit_of;
 use text::numbers::{Number, parsed};
 use words::casts::{i32_as_u32, u32_as_i32};
 
@@ -102,7 +102,7 @@ fn numbers_left(fields: Option<&[u8]>, least: u64, most: u64) -> Option<Numbers>
 fn nibble_of(b: u8) -> u32
     ensures { result ≡ hex_digit b }
 {
-    match hex_digit(b) {
+    match digit_of(b) {
         Some(d) => d as u32,
         None => 16,
     }

@@ -9,7 +9,7 @@ ghost use Rattle.word_runs.specs.Inner.{found_of, eight_of};
 
 use hex_letters::{last_letter, letters};
 use text::comparing::same_bytes;
-use text::hex::hex_digit;
+use text::hex::digit_of;
 use words::unsigned::add_u32;
 
 // The next word, or anything else.
@@ -27,7 +27,7 @@ fn eight_digits(digits: &[u8]) -> Found
 {
     let mut v: u64 = 0;
     for &byte in digits {
-        let Some(d) = hex_digit(byte) else {
+        let Some(d) = digit_of(byte) else {
             return Found::Other;
         };
         v = v * 16 + d;

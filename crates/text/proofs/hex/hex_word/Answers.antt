@@ -10,7 +10,7 @@ module _ (c : goal.In_ok-v) where
   byte-at = slice_index c.args.field.now c.loop-byte.byte-index
 
   found : (hex_digit byte-at < 16) × (c.in_ok-v.field-0 ≡ hex_digit byte-at)
-  found = let d = digit_some byte-at c.in_ok-v.field-0 (sym c.hex_digit.ensures ∙ c.in_ok-v.was) in (omega (arith, d.0), d.1)
+  found = let d = digit_some byte-at c.in_ok-v.field-0 (sym c.digit_of.ensures ∙ c.in_ok-v.was) in (omega (arith, d.0), d.1)
 
   below : c.loop-byte.v * 16 + c.in_ok-v.field-0 < 2 ^ 64
   below =
@@ -29,7 +29,7 @@ overflow_mul-v c =
 pub returns-in_err-v : goal.returns-in_err-v
 returns-in_err-v c =
     let l = c.loop-byte in let s = c.args.field.now in
-    let h = digit_none (slice_index s l.byte-index) (sym c.hex_digit.ensures ∙ c.in_err-v.was) in
+    let h = digit_none (slice_index s l.byte-index) (sym c.digit_of.ensures ∙ c.in_err-v.was) in
     c.from_residual.ensures
     ∙ sym (rw (eq-eqb (length s) 16 l.invariant.1) (l.invariant.3 ∙ no_digit s l.byte-index l.v c.loop-byte-test.true h))
 

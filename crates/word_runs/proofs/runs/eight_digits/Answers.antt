@@ -9,14 +9,14 @@ use Rattle.word_runs.proofs.runs.eight_digits.Goals as goal
 pub returns-in_default : goal.returns-in_default
 returns-in_default c =
     let l = c.loop-byte in let s = c.args.digits.now in
-    let h = digit_none (slice_index s l.byte-index) (sym c.hex_digit.ensures ∙ c.in_default.is) in
+    let h = digit_none (slice_index s l.byte-index) (sym c.digit_of.ensures ∙ c.in_default.is) in
     sym (ap eight_of (l.invariant.3 ∙ no_digit s l.byte-index l.v c.loop-byte-test.true h))
 
 pub loop-byte-preserved : goal.loop-byte-preserved
 loop-byte-preserved c =
     let l = c.loop-byte in let s = c.args.digits.now in
     let d = c.in-Some.d in
-    let f = digit_some (slice_index s l.byte-index) d (sym c.hex_digit.ensures ∙ c.in-Some.is) in (
+    let f = digit_some (slice_index s l.byte-index) d (sym c.digit_of.ensures ∙ c.in-Some.is) in (
       omega (arith, c.loop-byte-test.true),
       l.invariant.1,
       grown l.v d l.byte-index l.invariant.2 (omega (arith, f.0, f.1)),
