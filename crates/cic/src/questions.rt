@@ -36,7 +36,9 @@ impl<W: Word> Cic<W> {
         if self.order == 0 {
             return Ok(self.hold);
         }
-        Ok(last(&self.integrators, self.order))
+        // The integrators alone are copied: an index into the state would hold it whole in memory.
+        let integrators = self.integrators;
+        Ok(last(&integrators, self.order))
     }
 
     // The gain (R.M)^N, exactly. Refused with 14 above 2^63 - 1.

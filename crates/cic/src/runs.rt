@@ -21,7 +21,10 @@ impl<W: Word> Cic<W> {
             × (out.new ≡ block_out W.ops (counted_of self.old) input.now out.old) }
     {
         let mut numbers = self.numbers();
-        let wrote = numbers.decimate_block(&mut self.integrators, &mut self.combs, input, out);
+        // The integrators run in a copy, which the compiler keeps in registers.
+        let mut sums = self.integrators;
+        let wrote = numbers.decimate_block(&mut sums, &mut self.combs, input, out);
+        self.integrators = sums;
         self.set_numbers(numbers);
         wrote
     }
@@ -34,7 +37,9 @@ impl<W: Word> Cic<W> {
             × (out.new ≡ fill_out W.ops (state_of self.old) input.now out.old) }
     {
         let mut numbers = self.numbers();
-        let read = numbers.interpolate_block(&mut self.integrators, &mut self.combs, input, out);
+        let mut sums = self.integrators;
+        let read = numbers.interpolate_block(&mut sums, &mut self.combs, input, out);
+        self.integrators = sums;
         self.set_numbers(numbers);
         read
     }

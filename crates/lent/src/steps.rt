@@ -1,5 +1,5 @@
 // The decimator's and the interpolator's step.
-ghost use Rattle.std.specs.Prelude.{◌≡◌, ◌∷◌, []};
+ghost use Rattle.std.specs.Prelude.{◌≡◌, ◌<◌, ◌∷◌, []};
 ghost use Rattle.sums.specs.Calls.{rise_given};
 ghost use Rattle.sums.specs.Runs.{due_sample};
 ghost use Rattle.sums.specs.Counted.{take_state, rise_counted};
@@ -75,26 +75,35 @@ impl<W: Word> LentCic<W> {
             if self.countdown == 0 {
                 return Err(Refusal::SampleDue);
             }
-            return Ok(self.rise(integrators, combs, W::zero()));
+            return Ok(self.held(integrators, combs));
         };
         if 0 < self.countdown {
             return Err(Refusal::SampleNotDue);
         }
-        Ok(self.rise(integrators, combs, x))
+        Ok(self.taken(integrators, combs, x))
     }
 
-    // The interpolator's step of an accepted state. Above countdown 0, x isn't looked at.
-    fn rise(&mut self, integrators: &mut [W; 8], combs: &mut [W; 64], x: W) -> W
-        requires { Ready (counted self.old integrators.old combs.old).state }
+    // The interpolator's step of an accepted state, above countdown 0. It and the one below are each called from one place alone, so that the
+    // compiler puts them in there.
+    fn held(&mut self, integrators: &mut [W; 8], combs: &mut [W; 64]) -> W
+        requires { Ready (counted self.old integrators.old combs.old).state × (0 < self.old.countdown) }
+        ensures { (counted self.new integrators.new combs.new ≡ rise_counted W.ops (counted self.old integrators.old combs.old)
+            (due_sample W.ops self.old.countdown (W.ops.nil ∷ [])))
+            × (result ≡ rise_given W.ops (counted self.old integrators.old combs.old).state
+            (due_sample W.ops self.old.countdown (W.ops.nil ∷ []))) }
+    {
+        self.countdown -= 1;
+        integrate(integrators, self.order, self.hold)
+    }
+
+    // The same at countdown 0, with the sample that is due.
+    fn taken(&mut self, integrators: &mut [W; 8], combs: &mut [W; 64], x: W) -> W
+        requires { Ready (counted self.old integrators.old combs.old).state × (self.old.countdown ≡ 0) }
         ensures { (counted self.new integrators.new combs.new ≡ rise_counted W.ops (counted self.old integrators.old combs.old)
             (due_sample W.ops self.old.countdown (x ∷ [])))
             × (result ≡ rise_given W.ops (counted self.old integrators.old combs.old).state
             (due_sample W.ops self.old.countdown (x ∷ []))) }
     {
-        if 0 < self.countdown {
-            self.countdown -= 1;
-            return integrate(integrators, self.order, self.hold);
-        }
         self.hold = difference(combs, self.order, self.delay, x);
         self.countdown = self.rate;
         integrate(integrators, self.order, self.hold)

@@ -28,16 +28,19 @@ returns-then-self-eq0 g c =
     rise_refuses g.W.Word.ops s (sample_of a.sample) {V = ℕ} 0 Refusal.SampleDue
     (rw (none_given, missing_number s.state (taken_number _ _ _ c.in_ok-check.ensures) c.if-self-eq0.true) refl)
 
-pub rise-requires : goal.rise-requires
-rise-requires g c = (
+pub held-requires : goal.held-requires
+held-requires g c = (
   search rules,
   (
     search rules,
-    record {
-      accepted = taken_number _ _ _ c.in_ok-check.ensures;
-      long8 = c.told-integrators;
-      long64 = c.told-combs;
-    },
+    (
+      record {
+        accepted = taken_number _ _ _ c.in_ok-check.ensures;
+        long8 = c.told-integrators;
+        long64 = c.told-combs;
+      },
+      omega (arith, c.if-self-eq0.false),
+    ),
   ),
 )
 
@@ -47,7 +50,7 @@ returns-in_default g c =
     let none_given : a.sample ≡ None = c.in_default.is in
     rise_takes o s (sample_of a.sample)
     (rw none_given (held_number s.state (taken_number _ _ _ c.in_ok-check.ensures) (omega (arith, c.if-self-eq0.false)))) _
-    (rw none_given (not_due o s.state.countdown _ (omega (arith, c.if-self-eq0.false)))) _ _ c.rise.ensures
+    (rw none_given (not_due o s.state.countdown _ (omega (arith, c.if-self-eq0.false)))) _ _ c.held.ensures
 
 pub returns-then-self-gt0 : goal.returns-then-self-gt0
 unfolding answer refusal_at
@@ -57,16 +60,19 @@ returns-then-self-gt0 g c =
     rise_refuses g.W.Word.ops s (sample_of a.sample) {V = ℕ} 0 Refusal.SampleNotDue
     (rw (some_given, early_number s.state (taken_number _ _ _ c.in_ok-check.ensures) x c.if-self-gt0.true) refl)
 
-pub rise-requires-2 : goal.rise-requires-2
-rise-requires-2 g c = (
+pub taken-requires : goal.taken-requires
+taken-requires g c = (
   search rules,
   (
     search rules,
-    record {
-      accepted = taken_number _ _ _ c.in_ok-check.ensures;
-      long8 = c.told-integrators;
-      long64 = c.told-combs;
-    },
+    (
+      record {
+        accepted = taken_number _ _ _ c.in_ok-check.ensures;
+        long8 = c.told-integrators;
+        long64 = c.told-combs;
+      },
+      omega (arith, c.if-self-gt0.false),
+    ),
   ),
 )
 
@@ -76,4 +82,4 @@ returns g c =
     let some_given : a.sample ≡ Some x = c.in-Some.is in
     rise_takes o s (sample_of a.sample)
     (rw some_given (due_number s.state (taken_number _ _ _ c.in_ok-check.ensures) x (omega (arith, c.if-self-gt0.false)))) _
-    (rw some_given (is_due o s.state.countdown x c.if-self-gt0.false)) _ _ c.rise-2.ensures
+    (rw some_given (is_due o s.state.countdown x c.if-self-gt0.false)) _ _ c.taken.ensures
