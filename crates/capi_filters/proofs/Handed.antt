@@ -7,6 +7,7 @@ use Rattle.blocks.specs.Refusals.{answer, number_in, number_of, refusal_at}
 use Rattle.blocks.proofs.Refusals.{taken_number, taken_value}
 use Rattle.blocks.proofs.Ways.{kept, came, never}
 use Rattle.blocks.specs.Blocks.{Blocked, lengths_number, unless}
+use Rattle.blocks.specs.Scan.{ends}
 use Rattle.dsm.specs.declared.Dsm.{Dsm}
 use Rattle.dsm.specs.Calls.{Runs, order_number, cells_number, state_number, run_number}
 use Rattle.wdf.specs.Calls.{sections_number, new_number}
@@ -131,6 +132,15 @@ pub handed_by : {Q S A B : Type 0} (k : Q → ℕ) (out : Q → S → A → B) (
     → Leaves (k c) (out c) (next c) s xs ys t r zs
 handed_by k out next c d s p t u xs ys zs v r h ec es b e f =
     handed (k c) (out c) (next c) s t u xs ys zs v r (h c) (rw (ec, es) at b) e f
+
+-- a refused call, which leaves the lent fields unwritten
+pub held : {S A B : Type 0} (k : ℕ) (out : S → A → B) (next : S → A → S) (s u : S) (xs : List A) (ys zs : List B) (q : Refusal) (r : ℕ)
+    → Told k → Blocked k out next s xs ys u (Err q) zs → r ≡ number_of q → Leaves k out next s xs ys s r zs
+held k out next s u xs ys zs q r h b f = record {
+  answer = f ∙ ap number_in b.verdict ∙ lengths-told k xs ys h;
+  state = kept (lengths_number k xs ys) s (ends out next s xs) (never (lengths_number k xs ys) tt q b.verdict);
+  written = b.written;
+}
 
 pub modulated : (s t u : Dsm) (xs : List ℕ) (ys zs : List ℤ) (v : Result (Unit {0}) Refusal) (r : ℕ) → Runs s xs ys u v zs → t ≡ u
     → r ≡ number_in v → Modulates s xs ys t zs r

@@ -40,9 +40,15 @@ pub extern "C" fn mittenload_wdf(
     ensures { Leaves (number (wdf_at sections.old architecture.old a.old z.old)) answer next (wdf_at sections.old architecture.old a.old z.old) input.now out.old (wdf_at sections.new architecture.new a.new z.new) result out.new }
 {
     let mut state = wdf_in(sections, architecture, a, z);
-    let done = state.block(input, out);
-    wdf_out(state, sections, architecture, a, z);
-    number(done)
+    // A refused block is told apart before the fields are spread: with `number` after `wdf_out` three sections cost 70
+    // instructions an input and not 55.
+    match state.block(input, out) {
+        Ok(()) => {
+            wdf_out(state, sections, architecture, a, z);
+            0
+        }
+        Err(refusal) => refusal.number(),
+    }
 }
 
 #[unsafe(no_mangle)]
