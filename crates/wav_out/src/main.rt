@@ -214,15 +214,14 @@ fn refuse(file: &mut File, bad: Bad) -> io::Result<()> {
 
 // To a file, empty so far, that standard output is, too. That stands at the front unless it only appends, which shows where it, too, writes
 // zeros: then it gets no header.
-fn into_file(rt: &HostRuntime, file: &mut File) -> io::Result<()> {
+fn into_file(rt: &HostRuntime, file: &mut File, taking: &mut Taking) -> io::Result<()> {
     let zeros = [0u8; 44];
     file.write_all(&zeros)?;
     rt.write_all(&zeros)?;
     let about = file.metadata()?;
     let appends = about.len() == 88;
     file.set_len(44)?;
-    let mut taking = Taking::new();
-    match run(&mut rt.stdin(), file, &mut taking)? {
+    match run(&mut rt.stdin(), file, taking)? {
         Err(bad) => refuse(file, bad),
         Ok(_) if appends => refuse(file, taking.bad(Refusal::FileForm)),
         Ok(head) => {
@@ -233,10 +232,9 @@ fn into_file(rt: &HostRuntime, file: &mut File) -> io::Result<()> {
 }
 
 // To an output that can't be sought, as a pipe: the data are held until the input is over, and then follow their header.
-fn into_pipe(rt: &HostRuntime) -> io::Result<()> {
+fn into_pipe(rt: &HostRuntime, taking: &mut Taking) -> io::Result<()> {
     let mut held = Vec::new(rt.alloc());
-    let mut taking = Taking::new();
-    match run(&mut rt.stdin(), &mut held, &mut taking)? {
+    match run(&mut rt.stdin(), &mut held, taking)? {
         Err(bad) => put_refusal(&mut rt.stdout(), bad),
         Ok(head) => {
             rt.write_all(&head)?;
@@ -263,26 +261,28 @@ fn no_output() -> Bad {
 }
 
 // An output that can't be sought is refused, but where the first argument asks for a pipe.
-fn no_file(rt: &HostRuntime) -> io::Result<()> {
+fn no_file(rt: &HostRuntime, taking: &mut Taking) -> io::Result<()> {
     if pipe_asked(rt) {
-        return into_pipe(rt);
+        return into_pipe(rt, taking);
     }
     put_refusal(&mut rt.stdout(), no_output())
 }
 
 fn main(rt: HostRuntime) -> io::Result<()> {
+    // One for either way out: two would both stand on the stack.
+    let mut taking = Taking::new();
     let Ok(about) = fs::metadata(&rt, "/dev/stdout") else {
-        return no_file(&rt);
+        return no_file(&rt, &mut taking);
     };
     if !about.is_file() {
-        return no_file(&rt);
+        return no_file(&rt, &mut taking);
     }
     if about.len() != 0 {
         let mut file = File::options().append(true).open(&rt, "/dev/stdout")?;
         return put_refusal(&mut file, no_output());
     }
     let Ok(mut file) = File::options().write(true).open(&rt, "/dev/stdout") else {
-        return no_file(&rt);
+        return no_file(&rt, &mut taking);
     };
-    into_file(&rt, &mut file)
+    into_file(&rt, &mut file, &mut taking)
 }
