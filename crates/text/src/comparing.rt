@@ -12,6 +12,7 @@ pub fn same_bytes(a: &[u8], b: &[u8]) -> bool
 
 // Whether the bytes a come before the bytes b in ascending order: the first byte that differs decides, and a beginning
 // comes before the whole.
+#[tactic(auto, using(crate::proofs::Order::ascending))]
 pub fn comes_before(a: &[u8], b: &[u8]) -> bool
     ensures { result ≡ precedes a.now b.now }
 {

@@ -2,13 +2,14 @@
 -- whole, which fits 64 bits.
 use mathlib.Core.Path.{◌≡◌, refl, sym, ap, ◌∙◌}
 use mathlib.Core.Bool.{Bool, true, false, cond}
+use Rattle.std.specs.Prelude.{T}
 use lib.Dec.{ltb}
 use Prim.Native.Nat.{ℕ, zero, suc, ◌+◌, ◌-◌, ◌*◌, ◌/◌, ◌^◌, ◌<◌, ◌≤◌}
 use native.Mathlib.Nat.{mul_assoc, div-lt_iff_lt-mul, mul-le-mul_left, zero-mul}
 use native.Mathlib.Omega.{arith}
 use lib.Pow.{pow_pos, pow-add, pow_mono}
 use lib.IntN.{ℤ, pos, negsuc, neg_ℤ, ◌+ℤ◌, ◌*ℤ◌}
-use lib.Signed.{mag}
+use lib.Signed.{mag, ◌<ℤ◌}
 use borrow.Author.Tests.{ltb-false}
 use mir.Syntax.{w32, w64}
 use mir.Val.{SFits}
@@ -80,6 +81,16 @@ held (pos n) = pick (ltb 2147483647 n)
     pick true = refl
     pick false = refl
 held (negsuc n) = refl
+
+-- a value over the greatest word
+pub clipped : (v : ℤ) → pos 2147483647 <ℤ v → clamped v ≡ pos 2147483647
+unfolding clamped
+clipped (pos n) h = pick (ltb 2147483647 n) h.lt
+  where
+    pick : (b : Bool) → T b → cond b (pos 2147483647) (pos n) ≡ pos 2147483647
+    pick true t = refl
+    pick false t = absurd t
+clipped (negsuc n) h = absurd h.lt
 
 pub clamped_fits : (v : ℤ) → SFits w32 (clamped v)
 unfolding clamped

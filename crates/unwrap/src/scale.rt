@@ -16,7 +16,7 @@ fn divided(lo: i32, hi: i32, shift: u32) -> i64
 }
 
 // The word nearest to v.
-#[tactic(auto, using(crate::proofs::Scaling::held, crate::proofs::Scaling::clamped_fits))]
+#[tactic(auto, using(crate::proofs::Scaling::held, crate::proofs::Scaling::clipped, crate::proofs::Scaling::clamped_fits))]
 fn clamp(v: i64) -> i32
     ensures { result ≡ clamped v }
 {

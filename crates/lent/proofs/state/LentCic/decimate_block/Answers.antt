@@ -1,9 +1,9 @@
 -- Refused by its number, or the run on lent arrays.
-use Rattle.std.proofs.Common.{rules, ◌≡◌}
+use Rattle.std.proofs.Common.{rules, ◌≡◌, arith}
 use Rattle.std.specs.Prelude.{Err}
 use Rattle.blocks.proofs.Refusals.{taken_number, taken_value}
 use Rattle.sums.proofs.Lent.{Ready}
-use Rattle.sums.proofs.Numbering.{block_accepts, block_enough}
+use Rattle.sums.proofs.Numbering.{block_accepts, block_enough, block_room}
 use Rattle.shape.proofs.Blocks.{block_refuses, block_runs}
 use Rattle.lent.specs.Reading.{counted}
 use Rattle.lent.specs.Inner.Apart.{apart}
@@ -31,4 +31,5 @@ returns g c =
     let ready : Ready s.state =
     record { accepted = block_accepts s a.input.now a.out.now z; long8 = c.told-integrators; long64 = c.told-combs } in
     block_runs g.W.Word.ops s a.input.now a.out.now z ready (apart r.result.numbers r.new.integrators r.new.combs) r.result.count r.new.out
-    r.ensures c.written-written.result _ (rw c.numbers-found.ensures at c.written-written.ensures) (taken_value _ _ _ t)
+    r.ensures c.written-written.result _ (rw c.numbers-found.ensures at c.written-written.ensures)
+    (omega (arith, taken_value _ _ _ t, block_room s a.input.now a.out.now z))

@@ -24,7 +24,7 @@ returns c =
     let room : c.args.width - c.args.b ≤ 63 = omega (arith, width-most _ (sym c.is_width.ensures ∙ c.if-not-is_width.false)) in
     rw (
       z,
-      ne_eqb c.args.b 0 c.if-b-eq0.false,
+      ne_eqb c.args.b 0 (λ z. omega arith),
       le-ltb _ _ c.if-width-b.false,
       ← c.is_width.ensures,
       c.if-not-is_width.false,
