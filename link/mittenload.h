@@ -12,7 +12,7 @@
  *   52 a pole out of range · 53 a retired adapter · 60 to 62 loop shifts · 65 shift
  *   80 a store's first line · 81 a bad record · 82 names out of order · 83 more than 64 records · 84 form 1 has no such record · 90, 91 WAV
  *
- * PROVED, of the functions mittenload_* on x86-64: each does what specs/ of crates/capi_* says, on every state and slice.
+ * PROVED, of the functions mittenload_* on x86-64: each does what specs/ of crates/capi_* and crates/cic_calls says, on every state and slice.
  * NOT PROVED: the ml_* functions below, which only hand a struct over field by field (ml_cic_decimate reads an
  * output off the state as the promise says, ml_cic_of makes a rate of R, ml_wdf_of copies coefficients); and
  * what is assumed of you, which nothing tests:
