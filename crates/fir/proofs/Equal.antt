@@ -25,6 +25,7 @@ use Rattle.sums.specs.Runs.{needed, values, over}
 use Rattle.sums.specs.Demands.{input, modulo, Decimates}
 use Rattle.cic.specs.Reading.{cic_of}
 use Rattle.cic.specs.Answers.{made_of}
+use Rattle.cic.proofs.Making.{new_made}
 use Rattle.demands.proofs.Demands.{after-new}
 use Rattle.fir.specs.Ways.{up_to, rest, ways}
 use Rattle.fir.specs.Weights.{taken, weights, weighed}
@@ -257,7 +258,7 @@ pub same-outputs : SameOutputs
 unfolding cells_at
 same-outputs made m xs ys t c zs u run =
     let s = cic_of (new_counted (signed_ops w32) 3 1 63) in
-    let d = ((after-new w32 3 1 63 s accepted).0 xs zs u (rw m.1 at run)).1 in
+    let d = ((after-new w32 3 1 63 s accepted).0 xs zs u (rw (new_made (signed_ops w32) 3 1 63 made m).1 at run)).1 in
     (one c).0
     ∙ outputs_from_law (replicate 190 (pos 0)) 0 xs
     ∙ same (outputs_from (replicate 190 (pos 0)) 0 xs) (values (plain zs))

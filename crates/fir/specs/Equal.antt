@@ -10,7 +10,7 @@ use Rattle.cic.specs.declared.state.Cic.{Cic}
 use Rattle.cic.specs.Reading.{cic_of}
 use Rattle.sums.specs.Signed.{signed_ops}
 use Rattle.std.specs.Int.{w32}
-use Rattle.cic.specs.Answers.{Makes}
+use Rattle.cic.specs.Answers.{made_of}
 use Rattle.demands.specs.Demands.{Decimating}
 use Rattle.fir.specs.declared.Fir.{Fir}
 use Rattle.fir.specs.Calls.{Stepped, Decimated, fresh, stepped_of, output_of, outputs, after, decimated_of, written_of}
@@ -43,7 +43,7 @@ OneList = (s : Fir) (xs ys : List ℤ) (t : Fir) → Called s xs ys t → (ys �
 -- outputs are the same, wrapping included.
 abbrev pub SameOutputs : Type 0
 SameOutputs =
-    (made : Result (Cic ℤ) Refusal) → Makes (signed_ops w32) (new_number 3 1 63) (new_counted (signed_ops w32) 3 1 63) made
+    (made : Result (Cic ℤ) Refusal) → made ≡ made_of (new_number 3 1 63) (new_counted (signed_ops w32) 3 1 63)
     → (xs ys : List ℤ) (t : Fir) → Called fresh xs ys t
     → (zs : List (Numbered ℤ)) (u : Cic ℤ) → Decimating w32 (result_unwrap_or made (cic_of (blank_counted (signed_ops w32)))) xs zs u
     → ys ≡ values (plain zs)
